@@ -1,16 +1,5 @@
 -- One value at most enters along a run.
-use Rattle.std.proofs.Common.{◌≡◌, ℕ, ◌+◌, ◌≤◌, if◌then◌else◌, Bool, true, false, List, [], ◌∷◌, refl, arith, ap, sym, ◌∙◌}
-use Rattle.world_base.specs.declared.moves.Answer.{Answer}
-use Rattle.world_base.specs.declared.moves.Move.{Move}
-use Rattle.world_base.specs.Steps.{Deed, nothing, changes, does}
-use Rattle.sync_program.specs.declared.once_cell.ListName.{ListName}
-use Rattle.world_once_cell.specs.declared.program.words.Content.{Content}
-use Rattle.world_once_cell.specs.declared.program.words.Content.TheVariants.{Empty, BeingMade, Full}
-use Rattle.world_once_cell.specs.program.Deeds.{Change, begins, fills, empties, content_after}
-use Rattle.world_once_cell.specs.State.{World, is_full}
-use Rattle.world_once_cell.specs.Legal.{IsAllowed, Legal}
-use Rattle.world_once_cell.specs.Steps.{Steps}
-use Rattle.world_once_cell.specs.Runs.{Known, Runs, learn, enters, entered}
+use Rattle.world_once_cell.proofs.Prelude.{◌≡◌, ℕ, ◌+◌, ◌≤◌, if◌then◌else◌, Bool, true, false, List, [], ◌∷◌, refl, arith, ap, sym, ◌∙◌, Answer, Move, Deed, nothing, changes, does, ListName, Content, Empty, BeingMade, Full, Change, begins, fills, empties, content_after, World, is_full, IsAllowed, Legal, Steps, Known, Runs, learn, enters, entered}
 
 stays_by : (w : World) (m : Move) (d : Deed Change ListName) (c : Content) → IsAllowed w m d → c ≡ content_after m.party d w.cell → (v : ℕ) → w.cell ≡ Full v → c ≡ Full v
 stays_by w m nothing c ok e v full = e ∙ full

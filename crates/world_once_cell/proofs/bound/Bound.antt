@@ -1,19 +1,12 @@
 -- An empty cell is taken by the first solo poll.
-use Rattle.std.proofs.Common.{ℕ, refl}
-use Rattle.world_base.specs.declared.moves.Answer.{Answer}
-use Rattle.world_base.specs.declared.moves.Call.TheVariants as call
-use Rattle.world_base.specs.declared.moves.Inputs.{Inputs}
-use Rattle.sync_program.specs.declared.once_cell.ListName.TheVariants.{Active}
-use Rattle.world_once_cell.specs.State.{World}
-use Rattle.world_once_cell.specs.Laws.{IsSound, IsAwake, IsFreeAndWanted}
+use Rattle.world_once_cell.proofs.Prelude.{ℕ, refl, Answer, Call, Inputs, Active, World, IsSound, IsAwake, IsFreeAndWanted, known_of}
 use Rattle.world_base.proofs.of_table.Bounds.{first_takes, first_marked}
-use Rattle.world_once_cell.specs.Runs.{known_of}
 use Rattle.world_once_cell.specs.Bound.{PassesOver, IsBounded}
 use Rattle.world_once_cell.proofs.whole.Promises.{keeps_promises}
 
 never_passed : (w : World) (p : ℕ) (i : Inputs) (a : Answer) (v : World) → PassesOver w p i a v → ⊥
 never_passed w p i a v o =
-    let kept = keeps_promises (known_of w) w p call.Poll i o.whole.more a v o.whole.runs o.whole.ended in
+    let kept = keeps_promises (known_of w) w p Call.Poll i o.whole.more a v o.whole.runs o.whole.ended in
     o.not_taken (kept.solo refl o.solo.pending o.solo.marked o.free)
 
 pub bounded : (w : World) → IsSound w → IsAwake w → IsFreeAndWanted w → IsBounded w

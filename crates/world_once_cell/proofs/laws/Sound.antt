@@ -1,43 +1,8 @@
 -- What always holds of a once-cell's World, as callers see it.
-use Rattle.std.proofs.Common.{◌≡◌, ◌≢◌, ℕ, zero, suc, ◌+◌, ◌<◌, ◌≤◌, ◌⊎◌, inl, inr, true, false, List, [], ◌∷◌, length, Option, Some, refl, arith, ap, sym, ◌∙◌, subst}
-use Rattle.std.specs.List.{list_all, sum_by}
-use Rattle.std.proofs.lemmas.List.Sums.{get_or-le-sum_by}
-use Rattle.lock_event.specs.Lists.{is_marked_at, marked_count}
-use Rattle.world_base.specs.queue.Parties.{is_party, entries_of}
-use Rattle.world_base.proofs.of_queue.Marks.{else_marked}
-use Rattle.world_base.specs.declared.moves.Answer.{Answer}
-use Rattle.world_base.specs.declared.standing.Kind.{Kind}
-use Rattle.world_base.specs.declared.standing.Kind.TheVariants as kind
-use Rattle.world_base.specs.declared.standing.Rest.{Rest}
-use Rattle.world_base.specs.declared.standing.Rest.TheVariants as rest
-use Rattle.world_base.specs.declared.standing.Stage.{Stage}
-use Rattle.world_base.specs.declared.standing.Stage.TheVariants.{Outside, Inside, Forgotten}
-use Rattle.world_base.specs.declared.standing.Within.{Within}
-use Rattle.world_base.specs.Standings.{inside, is_outside, is_outside_stage}
-use Rattle.world_base.proofs.Equations.{both}
-use Rattle.world_base.specs.table.Stages.{stage_at, stands_as}
-use Rattle.world_base.specs.table.Tables.{Table}
-use Rattle.world_base.proofs.of_table.Mapped.{past_last}
-use Rattle.world_base.proofs.of_table.Past.{by_stage_or_past, by_stage_or_past_at}
-use Rattle.world_base.proofs.of_table.Views.{rest_seen, outside_at, length-standings}
-use Rattle.sync_program.specs.declared.once_cell.ListName.{ListName}
-use Rattle.sync_program.specs.declared.once_cell.ListName.TheVariants.{Active, Passive}
-use Rattle.sync_program.specs.declared.once_cell.Maker.TheVariants.{Closure, Given}
-use Rattle.world_once_cell.specs.program.Program.{Place}
-use Rattle.sync_program.specs.declared.once_cell.Place.TheVariants.{Claim, ClaimListed, AskActive, LeaveToMake, NotifyActive, NotifyPassive, TryNotifyActive, TryNotifyPassive, FailNotify, CancelNotify, LeaveFull, LookListed, AskPassive, LeavePassive, CancelLeave, Abandon}
-use Rattle.world_once_cell.specs.program.Program.{Position}
-use Rattle.sync_program.specs.declared.once_cell.Position.TheVariants.{Out, ToMake, WaitingToMake, Making, ToWait, Waiting, At}
-use Rattle.world_once_cell.specs.declared.program.words.Content.{Content}
-use Rattle.world_once_cell.specs.declared.program.words.Content.TheVariants.{Empty, Full}
-use Rattle.world_once_cell.specs.machine.Seats.{fills_with, task_at, makes_at, in_active, in_passive_at, waits, owes, value_known, is_late, will_tell, verdict, is_resting}
-use Rattle.world_once_cell.specs.machine.Machine.{OnceCell, IsCell, IsAtRest, goes_with, runs, is_begun, is_abandoning, is_maker, position_at, AllTold}
+use Rattle.world_once_cell.proofs.Prelude.{◌≡◌, ◌≢◌, ℕ, zero, suc, ◌+◌, ◌<◌, ◌≤◌, ◌⊎◌, inl, inr, true, false, List, [], ◌∷◌, length, Option, Some, refl, arith, ap, sym, ◌∙◌, subst, list_all, sum_by, get_or-le-sum_by, is_marked_at, marked_count, is_party, entries_of, else_marked, Answer, Kind, Rest, Stage, Outside, Inside, Forgotten, Within, inside, is_outside, is_outside_stage, both, stage_at, stands_as, Table, past_last, by_stage_or_past, by_stage_or_past_at, rest_seen, outside_at, length-standings, ListName, Active, Passive, Closure, Given, Place, Claim, ClaimListed, AskActive, LeaveToMake, NotifyActive, NotifyPassive, TryNotifyActive, TryNotifyPassive, FailNotify, CancelNotify, LeaveFull, LookListed, AskPassive, LeavePassive, CancelLeave, Abandon, Position, Out, ToMake, WaitingToMake, Making, ToWait, Waiting, At, Content, Empty, Full, fills_with, task_at, makes_at, in_active, in_passive_at, waits, owes, value_known, is_late, will_tell, verdict, is_resting, OnceCell, IsCell, IsAtRest, goes_with, runs, is_begun, is_abandoning, is_maker, position_at, AllTold, list_in, standing_of, task_of, HasOneTeller, view_of, IsDue, is_due, IsSound, IsAwake, IsStillThere, is_at_rest, is_long_call, may_be_maker, IsCellTable}
 use Rattle.world_once_cell.proofs.of_machine.laws.Contents as contents
 use Rattle.world_once_cell.proofs.of_machine.laws.Told.{in_list}
 use Rattle.world_once_cell.proofs.of_machine.laws.Taken.{some_term}
-use Rattle.world_once_cell.specs.State.{list_in, standing_of, task_of, HasOneTeller}
-use Rattle.world_once_cell.specs.View.{view_of}
-use Rattle.world_once_cell.specs.Laws.{IsDue, is_due, IsSound, IsAwake, IsStillThere, is_at_rest, is_long_call, may_be_maker}
-use Rattle.world_once_cell.specs.Steps.{IsCellTable}
 use Rattle.world_once_cell.proofs.table.Seen as seen
 use Rattle.world_once_cell.proofs.step.Owns.{each_has}
 
@@ -47,13 +12,13 @@ abandon_unbegun Abandon h b = cc b
 abandon_unbegun _ h b = cc h
 
 long_by : (k : Kind) (r : Rest) (x : Place) → is_begun x ≡ true → runs k r x ≡ true → is_long_call k r ≡ true
-long_by kind.FirstPoll rest.Idle x b h = refl
-long_by kind.FirstPoll rest.Finished x b h = refl
-long_by kind.LaterPoll rest.Pending x b h = refl
-long_by kind.Try rest.Idle x b h = refl
-long_by kind.Try rest.Finished x b h = refl
-long_by kind.Drop rest.Pending x b h = refl
-long_by kind.Drop rest.Finished x b h = absurd (abandon_unbegun x h b)
+long_by Kind.FirstPoll Rest.Idle x b h = refl
+long_by Kind.FirstPoll Rest.Finished x b h = refl
+long_by Kind.LaterPoll Rest.Pending x b h = refl
+long_by Kind.Try Rest.Idle x b h = refl
+long_by Kind.Try Rest.Finished x b h = refl
+long_by Kind.Drop Rest.Pending x b h = refl
+long_by Kind.Drop Rest.Finished x b h = absurd (abandon_unbegun x h b)
 long_by _ _ x b h = absurd (cc h)
 
 long_at : (s : Stage) (x : Position) (d : Option Answer) (u : Within) (e : Option Answer) → goes_with s x ≡ true → stands_as d s ≡ inside u e → is_long_call u.kind u.was ≡ true
@@ -83,14 +48,14 @@ one_listed _ = omega arith
 
 -- who makes is pending, inside a call, or forgotten
 makes_so : (s : Stage) (x : Position) (d : Option Answer) → goes_with s x ≡ true → makes_at x ≡ true → may_be_maker (stands_as d s) ≡ true
-makes_so (Outside rest.Pending) x d g h = refl
+makes_so (Outside Rest.Pending) x d g h = refl
 makes_so (Inside w) x d g h = refl
 makes_so Forgotten x d g h = refl
-makes_so (Outside rest.Idle) Out d g h = absurd (cc h)
-makes_so (Outside rest.Idle) _ d g h = absurd (cc g)
-makes_so (Outside rest.Finished) Out d g h = absurd (cc h)
-makes_so (Outside rest.Finished) _ d g h = absurd (cc g)
-makes_so (Outside rest.Holding) x d g h = absurd (cc g)
+makes_so (Outside Rest.Idle) Out d g h = absurd (cc h)
+makes_so (Outside Rest.Idle) _ d g h = absurd (cc g)
+makes_so (Outside Rest.Finished) Out d g h = absurd (cc h)
+makes_so (Outside Rest.Finished) _ d g h = absurd (cc g)
+makes_so (Outside Rest.Holding) x d g h = absurd (cc g)
 
 -- outside every call a party rests
 resting : (s : Stage) (x : Position) → goes_with s x ≡ true → is_outside_stage s ≡ true → is_resting x ≡ true
@@ -100,10 +65,10 @@ resting (Outside r) (WaitingToMake k) g o = refl
 resting (Outside r) (Making k) g o = refl
 resting (Outside r) ToWait g o = refl
 resting (Outside r) Waiting g o = refl
-resting (Outside rest.Idle) (At y) g o = absurd (cc g)
-resting (Outside rest.Pending) (At y) g o = absurd (cc g)
-resting (Outside rest.Holding) (At y) g o = absurd (cc g)
-resting (Outside rest.Finished) (At y) g o = absurd (cc g)
+resting (Outside Rest.Idle) (At y) g o = absurd (cc g)
+resting (Outside Rest.Pending) (At y) g o = absurd (cc g)
+resting (Outside Rest.Holding) (At y) g o = absurd (cc g)
+resting (Outside Rest.Finished) (At y) g o = absurd (cc g)
 resting (Inside w) x g o = absurd (cc o)
 resting Forgotten x g o = g
 
@@ -113,13 +78,13 @@ all_rest (x ∷ xs) h = (h 0 (omega arith), all_rest xs (λ q j. h (suc q) (omeg
 
 -- who stands in a list or makes outside every call is pending, or was when it was forgotten
 still_there : (s : Stage) (x : Position) (d : Option Answer) → goes_with s x ≡ true → is_outside_stage s ≡ true → (x ≡ Out → ⊥) → IsStillThere (stands_as d s)
-still_there (Outside rest.Pending) x d g o h = inl refl
+still_there (Outside Rest.Pending) x d g o h = inl refl
 still_there Forgotten x d g o h = inr refl
-still_there (Outside rest.Idle) Out d g o h = absurd (h refl)
-still_there (Outside rest.Idle) _ d g o h = absurd (cc g)
-still_there (Outside rest.Finished) Out d g o h = absurd (h refl)
-still_there (Outside rest.Finished) _ d g o h = absurd (cc g)
-still_there (Outside rest.Holding) x d g o h = absurd (cc g)
+still_there (Outside Rest.Idle) Out d g o h = absurd (h refl)
+still_there (Outside Rest.Idle) _ d g o h = absurd (cc g)
+still_there (Outside Rest.Finished) Out d g o h = absurd (h refl)
+still_there (Outside Rest.Finished) _ d g o h = absurd (cc g)
+still_there (Outside Rest.Holding) x d g o h = absurd (cc g)
 still_there (Inside w) x d g o h = absurd (cc o)
 
 -- outside every call a party has looked, and is about to tell nobody; and who is about to tell has filled the cell

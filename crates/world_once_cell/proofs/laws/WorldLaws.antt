@@ -1,25 +1,6 @@
 -- The laws of a once-cell's World: what follows from one step that its table did.
-use Rattle.std.proofs.Common.{◌≡◌, ◌≢◌, ℕ, ◌+◌, ◌<◌, ◌≤◌, true, Some, refl, ap, sym, subst}
-use Rattle.world_base.specs.declared.moves.Answer.{Answer}
-use Rattle.world_base.specs.declared.moves.Answer.TheVariants as answer
-use Rattle.world_base.specs.declared.moves.Call.{Call}
-use Rattle.world_base.specs.declared.moves.Inputs.{Inputs}
-use Rattle.world_base.specs.declared.moves.Move.{Move}
-use Rattle.world_base.specs.declared.standing.Rest.TheVariants as rest
-use Rattle.world_base.specs.Standings.{is_outside, is_possible}
-use Rattle.world_base.proofs.Equations.{some_eq, none_some}
-use Rattle.world_once_cell.specs.declared.program.words.Content.{Content}
-use Rattle.world_once_cell.specs.declared.program.words.Content.TheVariants.{Empty, BeingMade, Full}
-use Rattle.world_once_cell.specs.machine.Machine.{knows}
-use Rattle.world_once_cell.specs.State.{World, standing_of, HasOneTeller}
-use Rattle.world_once_cell.specs.program.Words.{value_in}
-use Rattle.world_once_cell.specs.View.{view_of}
-use Rattle.world_once_cell.specs.Legal.{Legal}
-use Rattle.world_once_cell.specs.Steps.{Steps}
-use Rattle.world_base.specs.Whole.{going_on}
-use Rattle.world_base.specs.any_world.Steps.{StepsWell, left_by, beginning}
+use Rattle.world_once_cell.proofs.Prelude.{◌≡◌, ◌≢◌, ℕ, ◌+◌, ◌<◌, ◌≤◌, true, Some, refl, ap, sym, subst, Answer, Call, Inputs, Move, Rest, is_outside, is_possible, some_eq, none_some, Content, Empty, BeingMade, Full, knows, World, standing_of, HasOneTeller, value_in, view_of, Legal, Steps, going_on, StepsWell, left_by, beginning, Known, Tells, HoldsWell, known_of, learn}
 use Rattle.world_base.proofs.of_any_world.Endings.{ends_outside as outside_at_end}
-use Rattle.world_once_cell.specs.Runs.{Known, Tells, HoldsWell, known_of, learn}
 use Rattle.world_once_cell.specs.Whole.{most_steps_of, steps_left_of}
 use Rattle.world_once_cell.proofs.laws.Sound.{sound, awake}
 use Rattle.world_once_cell.proofs.rights.Rights.{quiet, holds_well}
@@ -49,5 +30,5 @@ begins_few w p c i a v s = whole.begins_few w.behind v.behind s.did.stood.cell s
 pub falls : (w : World) (p : ℕ) (i : Inputs) (a : Answer) (v : World) → Steps w (going_on p i) a v → left_by a (steps_left_of v p) < steps_left_of w p
 falls w p i a v s = whole.falls w.behind v.behind s.did.stood.cell s.did.stood.fits s.did.stands.cell s.did.stands.fits p i a s.did.step
 
-pub ends_outside : (w : World) (m : Move) (a : Answer) (v : World) → Steps w m a v → a ≢ answer.Stepped → is_possible a ≡ true → is_outside (standing_of v m.party) ≡ true
-ends_outside w m a v s = outside_at_end standing_of (λ x p. knows) rest.Finished w m a v s.legal.possible s.legal.ends_properly
+pub ends_outside : (w : World) (m : Move) (a : Answer) (v : World) → Steps w m a v → a ≢ Answer.Stepped → is_possible a ≡ true → is_outside (standing_of v m.party) ≡ true
+ends_outside w m a v s = outside_at_end standing_of (λ x p. knows) Rest.Finished w m a v s.legal.possible s.legal.ends_properly

@@ -1,34 +1,8 @@
 -- After each step what is known by the answers goes on to be so.
-use Rattle.std.proofs.Common.{◌≡◌, ℕ, ◌==◌, if◌then◌else◌, Bool, true, false, Option, Some, None, refl, ap, sym, ◌∙◌, subst}
-use Rattle.world_base.specs.declared.moves.Answer.{Answer}
-use Rattle.world_base.specs.declared.moves.Answer.TheVariants as answer
-use Rattle.world_base.specs.declared.moves.Call.TheVariants as call
-use Rattle.world_base.specs.declared.moves.Got.TheVariants as got
-use Rattle.world_base.specs.declared.moves.Inputs.{Inputs}
-use Rattle.world_base.specs.declared.moves.Move.{Move}
-use Rattle.world_base.specs.declared.moves.What.{What}
-use Rattle.world_base.specs.declared.moves.What.TheVariants.{Begin, Go}
-use Rattle.world_base.specs.declared.standing.Stage.{Stage}
-use Rattle.world_base.specs.declared.standing.Within.{Within}
-use Rattle.world_base.specs.Standings.{Standing, outside, inside, forgotten, is_decided, decision}
-use Rattle.world_base.proofs.Equations.{some_eq}
-use Rattle.world_base.specs.table.Stages.{stage_at, call_at, polls_again}
-use Rattle.world_base.specs.table.Tables.{Table}
+use Rattle.world_once_cell.proofs.Prelude.{◌≡◌, ℕ, ◌==◌, if◌then◌else◌, Bool, true, false, Option, Some, None, refl, ap, sym, ◌∙◌, subst, Answer, Call, Got, Inputs, Move, What, Begin, Go, Stage, Within, Standing, outside, inside, forgotten, is_decided, decision, some_eq, stage_at, call_at, polls_again, Table, Place, Position, Content, Full, OnceCell, IsCell, knows, goes_with, position_at, World, standing_of, view_of, call_of, HasItsOwn, Legal, IsSound, IsAwake, is_at_rest, IsCellTable, TableSteps, StepsWell, Known, Tells, HoldsWell, no_account, learn, value_after}
 use Rattle.world_base.proofs.of_table.Rights.{idle_account, again_account}
-use Rattle.world_once_cell.specs.program.Program.{Place}
-use Rattle.world_once_cell.specs.program.Program.{Position}
-use Rattle.world_once_cell.specs.declared.program.words.Content.{Content}
-use Rattle.world_once_cell.specs.declared.program.words.Content.TheVariants.{Full}
-use Rattle.world_once_cell.specs.machine.Machine.{OnceCell, IsCell, knows, goes_with, position_at}
 use Rattle.world_once_cell.proofs.of_machine.stages.Turns.{Turn, turn, fits}
-use Rattle.world_once_cell.specs.State.{World, standing_of}
-use Rattle.world_once_cell.specs.View.{view_of}
-use Rattle.world_once_cell.specs.Legal.{call_of, HasItsOwn, Legal}
-use Rattle.world_once_cell.specs.Laws.{IsSound, IsAwake, is_at_rest}
-use Rattle.world_once_cell.specs.Steps.{IsCellTable, TableSteps}
 use Rattle.world_base.specs.Accounts.{Account, account_after, accounts_after}
-use Rattle.world_base.specs.any_world.Steps.{StepsWell}
-use Rattle.world_once_cell.specs.Runs.{Known, Tells, HoldsWell, no_account, learn, value_after}
 use Rattle.world_once_cell.proofs.step.Owns.{each_has}
 use Rattle.world_once_cell.proofs.Values.{stays_full}
 use Rattle.world_once_cell.proofs.step.Stepping.{by_step}
@@ -39,31 +13,31 @@ abbrev Quiet : What → Answer → Type 0
 Quiet what a = account_after no_account what a ≡ no_account
 
 quiet_go : (i : Inputs) (a : Answer) → Quiet (Go i) a
-quiet_go i answer.None = refl
+quiet_go i Answer.None = refl
 quiet_go i _ = refl
 
-quiet_initialize : (i : Inputs) (a : Answer) → Quiet (Begin call.Initialize i) a
-quiet_initialize i answer.None = refl
+quiet_initialize : (i : Inputs) (a : Answer) → Quiet (Begin Call.Initialize i) a
+quiet_initialize i Answer.None = refl
 quiet_initialize i _ = refl
 
-quiet_set : (v : ℕ) (i : Inputs) (a : Answer) → Quiet (Begin (call.Set v) i) a
-quiet_set v i answer.None = refl
+quiet_set : (v : ℕ) (i : Inputs) (a : Answer) → Quiet (Begin (Call.Set v) i) a
+quiet_set v i Answer.None = refl
 quiet_set v i _ = refl
 
-quiet_wait : (i : Inputs) (a : Answer) → Quiet (Begin call.Wait i) a
-quiet_wait i answer.None = refl
+quiet_wait : (i : Inputs) (a : Answer) → Quiet (Begin Call.Wait i) a
+quiet_wait i Answer.None = refl
 quiet_wait i _ = refl
 
-quiet_try : (v : ℕ) (i : Inputs) (a : Answer) → Quiet (Begin (call.TrySet v) i) a
-quiet_try v i answer.None = refl
+quiet_try : (v : ℕ) (i : Inputs) (a : Answer) → Quiet (Begin (Call.TrySet v) i) a
+quiet_try v i Answer.None = refl
 quiet_try v i _ = refl
 
-quiet_poll : (i : Inputs) (a : Answer) → Quiet (Begin call.Poll i) a
-quiet_poll i answer.None = refl
+quiet_poll : (i : Inputs) (a : Answer) → Quiet (Begin Call.Poll i) a
+quiet_poll i Answer.None = refl
 quiet_poll i _ = refl
 
-quiet_drop : (i : Inputs) (a : Answer) → Quiet (Begin call.Drop i) a
-quiet_drop i answer.None = refl
+quiet_drop : (i : Inputs) (a : Answer) → Quiet (Begin Call.Drop i) a
+quiet_drop i Answer.None = refl
 quiet_drop i _ = refl
 
 abbrev Quietly : Stage → What → Within → Position → Place → Type 0
@@ -95,37 +69,37 @@ quiet t u m a tl tf ul uf step = by_step t u m a tl tf ul uf (λ b x. Quiet m.wh
 
 -- ---- the value that an answer tells is in the cell
 
-by_standing : (w : World) (m : Move) (u : World) (v : ℕ) (within : Within) (s : Standing) → Legal w m (answer.Ready (got.Value v)) u → standing_of w m.party ≡ s → HasItsOwn w m.party s
+by_standing : (w : World) (m : Move) (u : World) (v : ℕ) (within : Within) (s : Standing) → Legal w m (Answer.Ready (Got.Value v)) u → standing_of w m.party ≡ s → HasItsOwn w m.party s
     → call_of w m ≡ Some within → u.cell ≡ Full v
 by_standing w m u v within s l e own called = (
-    let a : Answer = answer.Ready (got.Value v) in
+    let a : Answer = Answer.Ready (Got.Value v) in
     let decided : decision a (standing_of u m.party) ≡ Some a = ap (decision a) (l.ends_properly.stands within called).1 in
     by_decided s decided e own
     ) where
-      fresh : decision (answer.Ready (got.Value v)) (standing_of u m.party) ≡ Some (answer.Ready (got.Value v)) → is_decided (standing_of w m.party) ≡ false → u.cell ≡ Full v
-      fresh decided h = (l.carries.ready (got.Value v) (h, decided)).0
+      fresh : decision (Answer.Ready (Got.Value v)) (standing_of u m.party) ≡ Some (Answer.Ready (Got.Value v)) → is_decided (standing_of w m.party) ≡ false → u.cell ≡ Full v
+      fresh decided h = (l.carries.ready (Got.Value v) (h, decided)).0
 
-      by_decided : (s : Standing) → decision (answer.Ready (got.Value v)) (standing_of u m.party) ≡ Some (answer.Ready (got.Value v)) → standing_of w m.party ≡ s → HasItsOwn w m.party s → u.cell ≡ Full v
+      by_decided : (s : Standing) → decision (Answer.Ready (Got.Value v)) (standing_of u m.party) ≡ Some (Answer.Ready (Got.Value v)) → standing_of w m.party ≡ s → HasItsOwn w m.party s → u.cell ≡ Full v
       by_decided (outside r) decided e own = fresh decided (ap is_decided e)
       by_decided (inside z None) decided e own = fresh decided (ap is_decided e)
       by_decided forgotten decided e own = fresh decided (ap is_decided e)
       by_decided (inside z (Some b)) decided e own =
-          let same : b ≡ answer.Ready (got.Value v) = some_eq (sym (l.ends_properly.as_decided z b e refl) ∙ decided) in
+          let same : b ≡ Answer.Ready (Got.Value v) = some_eq (sym (l.ends_properly.as_decided z b e refl) ∙ decided) in
           let P : Answer → Type 0 = λ b. HasItsOwn w m.party (inside z (Some b)) in
-          stays_full w m (answer.Ready (got.Value v)) u l v (subst P same own)
+          stays_full w m (Answer.Ready (Got.Value v)) u l v (subst P same own)
 
-told_value : (w : World) (m : Move) (a : Answer) (u : World) → Legal w m a u → HasItsOwn w m.party (standing_of w m.party) → (v : ℕ) → a ≡ answer.Ready (got.Value v) → u.cell ≡ Full v
+told_value : (w : World) (m : Move) (a : Answer) (u : World) → Legal w m a u → HasItsOwn w m.party (standing_of w m.party) → (v : ℕ) → a ≡ Answer.Ready (Got.Value v) → u.cell ≡ Full v
 told_value w m a u l own v e = by_call (call_of w m) refl where
-  so : Legal w m (answer.Ready (got.Value v)) u
+  so : Legal w m (Answer.Ready (Got.Value v)) u
   so = let P : Answer → Type 0 = λ b. Legal w m b u in subst P e l
 
   by_call : (o : Option Within) → call_of w m ≡ o → u.cell ≡ Full v
-  by_call None none = let never : answer.Ready (got.Value v) ≡ answer.NotPossible = so.possible.exactly.1 none in absurd (cc never)
+  by_call None none = let never : Answer.Ready (Got.Value v) ≡ Answer.NotPossible = so.possible.exactly.1 none in absurd (cc never)
   by_call (Some within) called = by_standing w m u v within (standing_of w m.party) so refl own called
 
-value_on : (told : Option ℕ) (a : Answer) (c : Content) (v : ℕ) → value_after told a ≡ Some v → ((z : ℕ) → a ≡ answer.Ready (got.Value z) → c ≡ Full z) → ((z : ℕ) → told ≡ Some z → c ≡ Full z) → c ≡ Full v
-value_on told (answer.Ready (got.Value z)) c v e now before = now z refl ∙ ap Full (some_eq e)
-value_on told (answer.Ready _) c v e now before = before v e
+value_on : (told : Option ℕ) (a : Answer) (c : Content) (v : ℕ) → value_after told a ≡ Some v → ((z : ℕ) → a ≡ Answer.Ready (Got.Value z) → c ≡ Full z) → ((z : ℕ) → told ≡ Some z → c ≡ Full z) → c ≡ Full v
+value_on told (Answer.Ready (Got.Value z)) c v e now before = now z refl ∙ ap Full (some_eq e)
+value_on told (Answer.Ready _) c v e now before = before v e
 value_on told _ c v e now before = before v e
 
 -- ---- what is known, and that all is well

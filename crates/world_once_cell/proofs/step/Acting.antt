@@ -1,70 +1,16 @@
 -- An action of a party is a legal step, as callers see it.
-use Rattle.std.proofs.Common.{◌≡◌, ◌≢◌, ℕ, ◌<◌, ◌||◌, ◌⊎◌, inl, inr, true, false, List, length, Option, Some, None, is_some, refl, arith, ap, sym, ◌∙◌, subst, get_or-set_same, get_or-set_other}
-use Rattle.std.proofs.Math.ListN.{set}
-use Rattle.lock_event.specs.declared.event.Entry.{Entry}
-use Rattle.lock_event.specs.declared.event.Mark.TheVariants.{Waiting as Waits_unmarked}
-use Rattle.lock_event.specs.Lists.{is_marked_at, mark_at}
-use Rattle.world_base.specs.queue.Parties.{is_party, entries_of}
+use Rattle.world_once_cell.proofs.Prelude.{◌≡◌, ◌≢◌, ℕ, ◌<◌, ◌||◌, ◌⊎◌, inl, inr, true, false, List, length, Option, Some, None, is_some, refl, arith, ap, sym, ◌∙◌, subst, get_or-set_same, get_or-set_other, set, Entry, Waits_unmarked, is_marked_at, mark_at, is_party, entries_of, Answer, Call, Got, Inputs, Made, Move, What, Begin, Go, Refusal, Kind, Rest, Stage, Outside, Inside, Forgotten, Within, Standing, inside, inputs_of, call_in, is_possible, is_stepped, is_decided, may_end, decision, refused, IsUndecided, is_drop, is_giving_back, is_poll_after_ready, is_refusal, Deed, nothing, changes, does, joins, asks, leaves, notifies, notifies_additionally, list_after, some_eq, none_some, finished_number, both, notified_marked, stage_at, stands_as, call_at, polls_again, stage_after, Table, call_seen, again_seen, stands_seen, decided_after, decision_seen, later_ends, Action, Found, ListName, Active, Passive, Maker, Closure, Given, Next, Place, Claim, ClaimListed, JoinActive, AskActive, LeaveToMake, Make, Fill, NotifyActive, NotifyPassive, Fail, FailNotify, LeaveFull, RefuseActive, Look, JoinPassive, LookListed, AskPassive, LeavePassive, RefusePassive, Try, TryFill, TryNotifyActive, TryNotifyPassive, CancelMake, CancelNotify, CancelLeave, Abandon, Position, Out, ToMake, WaitingToMake, Making, ToWait, Waiting, At, Content, Empty, BeingMade, place_for, action_of, next_of, position_after, Task, failed, task_at, place_task, Seat, makes_at, in_active, in_passive_at, verdict, verdict_of, Change, begins, fills, empties, deed_of, content_after, active_after, passive_after, Finds, IsDone, OnceCell, IsCell, Acts, knows, goes_with, runs, is_begun, is_polling, is_trying, is_cancelling, is_abandoning, is_maker, position_at, answer_by, World, list_in, standing_of, task_of, view_of, task_in, or_before, task_then, makes, list_for, given, is_open, call_of, DecidesOn, gives_something_back, IsItsList, MayTell, IsAllowed, ChangesOneThing, KnowsTask, Carried, IsGranted, Carries, IsPendingMaker, WaitsInList, Waits, IsCause, IsRefusedForCause, LeavesClear, IsTold, TellsOthers, EndsProperly, Legal, IsCellTable}
 use Rattle.world_base.proofs.of_queue.Told.{waits_at}
-use Rattle.world_base.specs.declared.moves.Answer.{Answer}
-use Rattle.world_base.specs.declared.moves.Answer.TheVariants as answer
-use Rattle.world_base.specs.declared.moves.Call.TheVariants as call
-use Rattle.world_base.specs.declared.moves.Got.{Got}
-use Rattle.world_base.specs.declared.moves.Got.TheVariants as got
-use Rattle.world_base.specs.declared.moves.Inputs.{Inputs}
-use Rattle.world_base.specs.declared.moves.Made.TheVariants as made
-use Rattle.world_base.specs.declared.moves.Move.{Move}
-use Rattle.world_base.specs.declared.moves.What.{What}
-use Rattle.world_base.specs.declared.moves.What.TheVariants.{Begin, Go}
-use Rattle.lock_program.specs.declared.refusal.Refusal.{Refusal}
-use Rattle.lock_program.specs.declared.refusal.Refusal.TheVariants as refusal
-use Rattle.world_base.specs.declared.standing.Kind.{Kind}
-use Rattle.world_base.specs.declared.standing.Kind.TheVariants as kind
-use Rattle.world_base.specs.declared.standing.Rest.{Rest}
-use Rattle.world_base.specs.declared.standing.Rest.TheVariants as rest
-use Rattle.world_base.specs.declared.standing.Stage.{Stage}
-use Rattle.world_base.specs.declared.standing.Stage.TheVariants.{Outside, Inside, Forgotten}
-use Rattle.world_base.specs.declared.standing.Within.{Within}
-use Rattle.world_base.specs.Standings.{Standing, inside, inputs_of, call_in, is_possible, is_stepped, is_decided, may_end, decision, refused, IsUndecided}
-use Rattle.world_base.specs.Frame.{is_drop, is_giving_back, is_poll_after_ready, is_refusal}
 use Rattle.lock_program.specs.Refusals.{number_of}
-use Rattle.world_base.specs.Steps.{Deed, nothing, changes, does, joins, asks, leaves, notifies, notifies_additionally, list_after}
-use Rattle.world_base.proofs.Equations.{some_eq, none_some, finished_number, both}
-use Rattle.world_base.proofs.Lists.{notified_marked}
-use Rattle.world_base.specs.table.Stages.{stage_at, stands_as, call_at, polls_again, stage_after}
-use Rattle.world_base.specs.table.Tables.{Table}
-use Rattle.lock_program.specs.declared.end.End.TheVariants as «end»
+use Rattle.lock_program.specs.declared.end.End.{End}
 use Rattle.world_base.proofs.of_table.Acting as acting
-use Rattle.world_base.proofs.of_table.Calls.{call_seen, again_seen, stands_seen, decided_after, decision_seen, later_ends}
-use Rattle.world_once_cell.specs.program.Program.{Action}
 use Rattle.sync_program.specs.declared.once_cell.Action.TheVariants as act
-use Rattle.world_once_cell.specs.program.Program.{Found}
 use Rattle.sync_program.specs.declared.once_cell.Found.TheVariants as found
-use Rattle.sync_program.specs.declared.once_cell.ListName.{ListName}
-use Rattle.sync_program.specs.declared.once_cell.ListName.TheVariants.{Active, Passive}
-use Rattle.world_once_cell.specs.program.Program.{Maker}
-use Rattle.sync_program.specs.declared.once_cell.Maker.TheVariants.{Closure, Given}
-use Rattle.world_once_cell.specs.program.Program.{Next}
 use Rattle.lock_program.specs.declared.end.Next.TheVariants as next
-use Rattle.world_once_cell.specs.program.Program.{Place}
-use Rattle.sync_program.specs.declared.once_cell.Place.TheVariants.{Claim, ClaimListed, JoinActive, AskActive, LeaveToMake, Make, Fill, NotifyActive, NotifyPassive, Fail, FailNotify, LeaveFull, RefuseActive, Look, JoinPassive, LookListed, AskPassive, LeavePassive, RefusePassive, Try, TryFill, TryNotifyActive, TryNotifyPassive, CancelMake, CancelNotify, CancelLeave, Abandon}
-use Rattle.world_once_cell.specs.program.Program.{Position}
-use Rattle.sync_program.specs.declared.once_cell.Position.TheVariants.{Out, ToMake, WaitingToMake, Making, ToWait, Waiting, At}
-use Rattle.world_once_cell.specs.declared.program.words.Content.{Content}
-use Rattle.world_once_cell.specs.declared.program.words.Content.TheVariants.{Empty, BeingMade}
-use Rattle.world_once_cell.specs.program.Program.{place_for, action_of, next_of, position_after}
-use Rattle.world_once_cell.specs.machine.Seats.{Task, failed, task_at, task_of as place_task, Seat, makes_at, in_active, in_passive_at, verdict, verdict_of}
-use Rattle.world_once_cell.specs.program.Deeds.{Change, begins, fills, empties, deed_of, content_after, active_after, passive_after, Finds, IsDone}
-use Rattle.world_once_cell.specs.machine.Machine.{OnceCell, IsCell, Acts, knows, goes_with, runs, is_begun, is_polling, is_trying, is_cancelling, is_abandoning, is_maker, position_at, answer_by}
 use Rattle.world_once_cell.proofs.of_machine.laws.Kept.{after}
 use Rattle.world_once_cell.proofs.of_machine.stages.Turns.{lands}
 use Rattle.world_once_cell.proofs.of_machine.laws.Contents as contents
 use Rattle.world_once_cell.proofs.of_machine.laws.Told.{in_list}
-use Rattle.world_once_cell.specs.State.{World, list_in, standing_of, task_of}
-use Rattle.world_once_cell.specs.View.{view_of}
-use Rattle.world_once_cell.specs.Tasks.{task_in, or_before, task_then, makes, list_for, given, is_open}
-use Rattle.world_once_cell.specs.Legal.{call_of, DecidesOn, gives_something_back, IsItsList, MayTell, IsAllowed, ChangesOneThing, KnowsTask, Carried, IsGranted, Carries, IsPendingMaker, WaitsInList, Waits, IsCause, IsRefusedForCause, LeavesClear, IsTold, TellsOthers, EndsProperly, Legal}
-use Rattle.world_once_cell.specs.Steps.{IsCellTable}
 use Rattle.world_once_cell.proofs.table.Seen as seen
 use Rattle.world_once_cell.proofs.step.Owns as legals
 use Rattle.world_once_cell.proofs.step.Owns.{each_has, never_pending}
@@ -76,30 +22,30 @@ use Rattle.world_once_cell.proofs.step.Here.{Here, TaskFits}
 -- what a call is decided on after this
 said_so : (x : Place) (n : Next) → decided_after (answer_by n) (verdict (position_after n)) ≡ said n
 said_so x (next.Do y) = refl
-said_so x (next.End «end».Got y) = refl
-said_so x (next.End «end».Granted y) = refl
-said_so x (next.End «end».Pending y) = refl
-said_so x (next.End «end».NotFree y) = refl
-said_so x (next.End «end».Waiting y) = refl
-said_so x (next.End «end».GivenBack y) = refl
-said_so x (next.End («end».Refused r) y) = refl
+said_so x (next.End End.Got y) = refl
+said_so x (next.End End.Granted y) = refl
+said_so x (next.End End.Pending y) = refl
+said_so x (next.End End.NotFree y) = refl
+said_so x (next.End End.Waiting y) = refl
+said_so x (next.End End.GivenBack y) = refl
+said_so x (next.End (End.Refused r) y) = refl
 
 possible_by : (n : Next) → is_possible (answer_by n) ≡ true
 possible_by (next.Do y) = refl
-possible_by (next.End «end».Got y) = refl
-possible_by (next.End «end».Granted y) = refl
-possible_by (next.End «end».Pending y) = refl
-possible_by (next.End «end».NotFree y) = refl
-possible_by (next.End «end».Waiting y) = refl
-possible_by (next.End «end».GivenBack y) = refl
-possible_by (next.End («end».Refused r) y) = refl
+possible_by (next.End End.Got y) = refl
+possible_by (next.End End.Granted y) = refl
+possible_by (next.End End.Pending y) = refl
+possible_by (next.End End.NotFree y) = refl
+possible_by (next.End End.Waiting y) = refl
+possible_by (next.End End.GivenBack y) = refl
+possible_by (next.End (End.Refused r) y) = refl
 
 -- what is answered, and doesn't go on, was decided
 said_then : (n : Next) (b : Answer) → is_stepped b ≡ false → answer_by n ≡ b → said n ≡ Some b
-said_then (next.Do y) b h e = let never : is_stepped answer.Stepped ≡ false = ap is_stepped e ∙ h in absurd (cc)
+said_then (next.Do y) b h e = let never : is_stepped Answer.Stepped ≡ false = ap is_stepped e ∙ h in absurd (cc)
 said_then (next.End f y) b h e = ap Some e
 
-polls_end : (x : Place) (f : Found) → is_polling x ≡ true → is_stepped (answer_by (next_of x f)) ≡ false → may_end kind.FirstPoll (answer_by (next_of x f)) ≡ true
+polls_end : (x : Place) (f : Found) → is_polling x ≡ true → is_stepped (answer_by (next_of x f)) ≡ false → may_end Kind.FirstPoll (answer_by (next_of x f)) ≡ true
 polls_end (Claim k told) (found.Full u) h e = refl
 polls_end (Claim k told) found.Empty h e = absurd (cc e)
 polls_end (Claim k told) _ h e = absurd (cc e)
@@ -135,7 +81,7 @@ polls_end (LeavePassive v) f h e = refl
 polls_end RefusePassive f h e = refl
 polls_end _ f h e = absurd (cc h)
 
-tries_end : (x : Place) (f : Found) → is_trying x ≡ true → is_stepped (answer_by (next_of x f)) ≡ false → may_end kind.Try (answer_by (next_of x f)) ≡ true
+tries_end : (x : Place) (f : Found) → is_trying x ≡ true → is_stepped (answer_by (next_of x f)) ≡ false → may_end Kind.Try (answer_by (next_of x f)) ≡ true
 tries_end (Try v) found.Empty h e = absurd (cc e)
 tries_end (Try v) _ h e = refl
 tries_end (TryFill v) f h e = absurd (cc e)
@@ -143,7 +89,7 @@ tries_end (TryNotifyActive v) f h e = absurd (cc e)
 tries_end (TryNotifyPassive v) f h e = refl
 tries_end _ f h e = absurd (cc h)
 
-cancels_end : (x : Place) (f : Found) → is_cancelling x ≡ true → is_stepped (answer_by (next_of x f)) ≡ false → may_end kind.Drop (answer_by (next_of x f)) ≡ true
+cancels_end : (x : Place) (f : Found) → is_cancelling x ≡ true → is_stepped (answer_by (next_of x f)) ≡ false → may_end Kind.Drop (answer_by (next_of x f)) ≡ true
 cancels_end CancelMake f h e = absurd (cc e)
 cancels_end CancelNotify f h e = refl
 cancels_end (CancelLeave list) f h e = refl
@@ -155,17 +101,17 @@ abandons_cancel Abandon h = refl
 abandons_cancel _ h = absurd (cc h)
 
 ends_by : (k : Kind) (r : Rest) (x : Place) (f : Found) → runs k r x ≡ true → is_stepped (answer_by (next_of x f)) ≡ false → may_end k (answer_by (next_of x f)) ≡ true
-ends_by kind.FirstPoll rest.Idle x f h e = polls_end x f h e
-ends_by kind.FirstPoll rest.Finished x f h e = polls_end x f h e
-ends_by kind.LaterPoll rest.Pending x f h e = later_ends (answer_by (next_of x f)) (polls_end x f h e)
-ends_by kind.Try rest.Idle x f h e = tries_end x f h e
-ends_by kind.Try rest.Finished x f h e = tries_end x f h e
-ends_by kind.Drop rest.Pending x f h e = cancels_end x f h e
-ends_by kind.Drop rest.Finished x f h e = cancels_end x f (abandons_cancel x h) e
+ends_by Kind.FirstPoll Rest.Idle x f h e = polls_end x f h e
+ends_by Kind.FirstPoll Rest.Finished x f h e = polls_end x f h e
+ends_by Kind.LaterPoll Rest.Pending x f h e = later_ends (answer_by (next_of x f)) (polls_end x f h e)
+ends_by Kind.Try Rest.Idle x f h e = tries_end x f h e
+ends_by Kind.Try Rest.Finished x f h e = tries_end x f h e
+ends_by Kind.Drop Rest.Pending x f h e = cancels_end x f h e
+ends_by Kind.Drop Rest.Finished x f h e = cancels_end x f (abandons_cancel x h) e
 ends_by _ _ x f h e = absurd (cc h)
 
 -- where one is answered that its maker failed, one is notified
-fails_at : (x : Place) (f : Found) → answer_by (next_of x f) ≡ answer.Ready got.Failed → action_of x ≡ act.Notify Active
+fails_at : (x : Place) (f : Found) → answer_by (next_of x f) ≡ Answer.Ready Got.Failed → action_of x ≡ act.Notify Active
 fails_at FailNotify f e = refl
 fails_at (Claim Closure told) (found.Full u) e = absurd (cc e)
 fails_at (Claim (Given o) told) (found.Full u) e = absurd (cc e)
@@ -212,14 +158,14 @@ fails_at (CancelLeave list) f e = absurd (cc e)
 fails_at Abandon f e = absurd (cc e)
 
 -- a dropped maker that has begun notifies one, and so does who was refused
-owes_active : (x : Place) → is_begun x ≡ true → verdict_of x ≡ Some answer.GivenBack → action_of x ≡ act.Notify Active
+owes_active : (x : Place) → is_begun x ≡ true → verdict_of x ≡ Some Answer.GivenBack → action_of x ≡ act.Notify Active
 owes_active CancelNotify b e = refl
 owes_active CancelMake b e = absurd (cc b)
 owes_active (CancelLeave list) b e = absurd (cc b)
 owes_active Abandon b e = absurd (cc b)
 owes_active _ b e = absurd (cc e)
 
-owes_list : (list : ListName) (x : Place) → verdict_of x ≡ Some (refused refusal.Memory) → list_for (place_task x) ≡ Some list → action_of x ≡ act.Notify list
+owes_list : (list : ListName) (x : Place) → verdict_of x ≡ Some (refused Refusal.Memory) → list_for (place_task x) ≡ Some list → action_of x ≡ act.Notify list
 owes_list list (RefuseActive k) e l = ap act.Notify (some_eq (sym (legals.active_for k) ∙ l))
 owes_list list RefusePassive e l = ap act.Notify (some_eq l)
 owes_list list _ e l = absurd (cc e)
@@ -273,26 +219,26 @@ module _ (i : Inputs) (p : ℕ) (c : Content) (x : Place) (f : Found) where
   kept_on (Some d) o b j e = j.0 ∙ e
   kept_on None o b j e = absurd (none_some e)
 
-  reasoned : (v o : Option Answer) (b : Answer) → Judged i p c x f v o → ((d : Answer) → v ≡ Some d → d ≡ answer.GivenBack) → o ≡ Some b → (b ≡ answer.GivenBack) ⊎ Reason i p c x f b
+  reasoned : (v o : Option Answer) (b : Answer) → Judged i p c x f v o → ((d : Answer) → v ≡ Some d → d ≡ Answer.GivenBack) → o ≡ Some b → (b ≡ Answer.GivenBack) ⊎ Reason i p c x f b
   reasoned (Some d) o b j late e = inl (some_eq (sym e ∙ j.0) ∙ late d refl)
   reasoned None None b j late e = absurd (none_some e)
   reasoned None (Some d) b j late e = let P : Answer → Type 0 = Reason i p c x f in inr (subst P (some_eq e) j)
 
-  pended : (v o : Option Answer) → Judged i p c x f v o → (v ≡ Some answer.Pending → ⊥) → o ≡ Some answer.Pending → Reason i p c x f answer.Pending
+  pended : (v o : Option Answer) → Judged i p c x f v o → (v ≡ Some Answer.Pending → ⊥) → o ≡ Some Answer.Pending → Reason i p c x f Answer.Pending
   pended (Some d) o j late e = absurd (late (sym j.0 ∙ e))
   pended None None j late e = absurd (none_some e)
   pended None (Some d) j late e = let P : Answer → Type 0 = Reason i p c x f in subst P (some_eq e) j
 
   overs : (r : Refusal) → 6 ≡ number_of r → Refuses i p c x f r → ⊥
-  overs refusal.Memory e y = omega arith
+  overs Refusal.Memory e y = omega arith
   overs _ e y = y
 
-  not_over : (v o : Option Answer) → Judged i p c x f v o → (v ≡ Some (refused refusal.Finished) → ⊥) → o ≡ Some (refused refusal.Finished) → ⊥
+  not_over : (v o : Option Answer) → Judged i p c x f v o → (v ≡ Some (refused Refusal.Finished) → ⊥) → o ≡ Some (refused Refusal.Finished) → ⊥
   not_over (Some d) o j late e = late (sym j.0 ∙ e)
   not_over None None j late e = none_some e
   not_over None (Some d) j late e = let P : Answer → Type 0 = Reason i p c x f in let why = subst P (some_eq e) j in overs why.0 why.1 why.2
 
-never_over : (x : Place) → verdict_of x ≡ Some (refused refusal.Finished) → ⊥
+never_over : (x : Place) → verdict_of x ≡ Some (refused Refusal.Finished) → ⊥
 never_over (RefuseActive k) e = let six : Path ℕ 1 6 = finished_number 1 (some_eq e) in absurd (omega (arith, six))
 never_over RefusePassive e = let six : Path ℕ 1 6 = finished_number 1 (some_eq e) in absurd (omega (arith, six))
 never_over (LeaveFull k v) e = cc e
@@ -308,10 +254,10 @@ room_found i p c d list h e = let P : Deed Change ListName → Type 0 = Room i p
 
 -- a party that stands so has a future or a try
 open_out : (d : Option Answer) (s : Stage) → goes_with s Out ≡ true → is_open (stands_as d s) ≡ false
-open_out d (Outside rest.Idle) g = refl
-open_out d (Outside rest.Finished) g = refl
-open_out d (Outside rest.Pending) g = absurd (cc g)
-open_out d (Outside rest.Holding) g = absurd (cc g)
+open_out d (Outside Rest.Idle) g = refl
+open_out d (Outside Rest.Finished) g = refl
+open_out d (Outside Rest.Pending) g = absurd (cc g)
+open_out d (Outside Rest.Holding) g = absurd (cc g)
 open_out d (Inside w) g = absurd (cc g)
 open_out d Forgotten g = refl
 
@@ -325,7 +271,7 @@ open_so s ToWait g o = refl
 open_so s Waiting g o = refl
 
 not_dropped_by : (what : What) (before : Task) → is_drop what ≡ true → or_before (task_in what) before ≡ failed → before ≡ failed
-not_dropped_by (Begin call.Drop inputs) before h f = absurd (cc f)
+not_dropped_by (Begin Call.Drop inputs) before h f = absurd (cc f)
 not_dropped_by _ before h f = absurd (cc h)
 
 asks_listed : (list : ListName) (y : Place) → action_of y ≡ act.Ask list → in_list list (At y) ≡ 1
@@ -383,7 +329,7 @@ module _ (t u : Table OnceCell) (m : Move) (a : Answer) (w : Within) where
     pub runs : runs w.kind w.was from ≡ true
     pub acts : Acts i p from found t.machine u.machine
     pub answer : a ≡ answer_by (next_of from found)
-    pub stages : u.stages ≡ set t.stages p (stage_after rest.Finished w a)
+    pub stages : u.stages ≡ set t.stages p (stage_after Rest.Finished w a)
     pub opening : u.opening ≡ t.opening
 
   module _ (k : Acting) where
@@ -414,14 +360,14 @@ module _ (t u : Table OnceCell) (m : Move) (a : Answer) (w : Within) where
     pub stood : standing_of old p ≡ stands_as (verdict x) s
     stood = seen.standing_seen t p
 
-    pub stands : standing_of new p ≡ stands_as (verdict to) (stage_after rest.Finished w a)
-    stands = acting.stands verdict_in rest.Finished t u p w a k.inside k.stages ∙ ap (λ y. stands_as (verdict y) (stage_after rest.Finished w a)) lands_at
+    pub stands : standing_of new p ≡ stands_as (verdict to) (stage_after Rest.Finished w a)
+    stands = acting.stands verdict_in Rest.Finished t u p w a k.inside k.stages ∙ ap (λ y. stands_as (verdict y) (stage_after Rest.Finished w a)) lands_at
 
     pub others_stand : (q : ℕ) → q ≢ p → standing_of new q ≡ standing_of old q
-    others_stand q apart = acting.others_stand verdict_in rest.Finished t u p w a k.inside k.stages q apart (ap verdict (stays q apart))
+    others_stand q apart = acting.others_stand verdict_in Rest.Finished t u p w a k.inside k.stages q apart (ap verdict (stays q apart))
 
     pub decides : decision a (standing_of new p) ≡ said (next_of from fnd)
-    decides = ap (decision a) stands ∙ (decision_seen rest.Finished w a (verdict to) ∙ (ap (λ b. decided_after b (verdict to)) k.answer ∙ said_so from (next_of from fnd)))
+    decides = ap (decision a) stands ∙ (decision_seen Rest.Finished w a (verdict to) ∙ (ap (λ b. decided_after b (verdict to)) k.answer ∙ said_so from (next_of from fnd)))
 
     pub task_old : task_of old p ≡ task_at x
     task_old = seen.task_seen t p
@@ -489,17 +435,17 @@ module _ (t u : Table OnceCell) (m : Move) (a : Answer) (w : Within) where
       active = k.acts.active;
       passive = k.acts.passive;
       others = others_stand;
-      parties = acting.as_many verdict_in rest.Finished t u p w a k.inside k.stages;
+      parties = acting.as_many verdict_in Rest.Finished t u p w a k.inside k.stages;
       found_memory = λ list e. room_found i p c deed list r.room e;
       parting = λ h. parted i p c from fnd (verdict_of from) (said (next_of from fnd)) r.judged (sym decided_there ∙ h);
       giving_up = λ h. ap (λ b. b || is_maker c p) decided_there ∙ (ap (λ b. is_some (verdict_of from) || b) (sym makes_seen) ∙ r.held_on h);
     }
 
-    goes_new : goes_with (stage_after rest.Finished w a) to ≡ true
-    goes_new = ap (λ b. goes_with (stage_after rest.Finished w b) to) k.answer ∙ lands w from fnd k.runs
+    goes_new : goes_with (stage_after Rest.Finished w a) to ≡ true
+    goes_new = ap (λ b. goes_with (stage_after Rest.Finished w b) to) k.answer ∙ lands w from fnd k.runs
 
     open_now : is_open (standing_of new p) ≡ true → open_at to ≡ true
-    open_now o = open_so (stage_after rest.Finished w a) to goes_new (ap is_open (sym stands) ∙ o)
+    open_now o = open_so (stage_after Rest.Finished w a) to goes_new (ap is_open (sym stands) ∙ o)
 
     cell_kept : (y : Maker) → from ≡ Make y → new.cell ≡ old.cell
     cell_kept y e = k.acts.content ∙ ap (λ z. content_then i p c z fnd) e
@@ -521,7 +467,7 @@ module _ (t u : Table OnceCell) (m : Move) (a : Answer) (w : Within) where
     }
 
     -- what is decided now, and was not before, has its reason, or is given back
-    reason : (b : Answer) → DecidesOn old m a new b → (b ≡ answer.GivenBack) ⊎ Reason i p c from fnd b
+    reason : (b : Answer) → DecidesOn old m a new b → (b ≡ Answer.GivenBack) ⊎ Reason i p c from fnd b
     reason b d = reasoned i p c from fnd (verdict_of from) (said (next_of from fnd)) b r.judged (k.here.undecided (sym (ap is_decided stood) ∙ d.0)) (sym decides ∙ d.1)
 
     fail_fits : from ≡ Fail → fnd ≡ found.Done → (old.cell ≡ BeingMade p) × (new.cell ≡ Empty) × (task_of old p ≡ failed)
@@ -531,19 +477,19 @@ module _ (t u : Table OnceCell) (m : Move) (a : Answer) (w : Within) where
       (elim (fits_now act.Empty (ap action_of e)) as (λ _. task_of old p ≡ failed) [ inl drop ↦ task_old ∙ not_dropped_by m.what (task_at x) drop (k.here.task ∙ ap place_task e) | inr f ↦ task_old ∙ f ]),
     )
 
-    carried : (g : Got) → Reason i p c from fnd (answer.Ready g) → Carried g old m new
-    carried (got.Value v) y = (k.acts.content ∙ y.0, λ own e. y.1 own (sym task_now ∙ e))
-    carried (got.Taken own) y = (y.0, task_now ∙ y.1)
-    carried got.Failed y = fail_fits y.0 y.1
-    carried got.Plain y = absurd y
-    carried (got.Leader b) y = absurd y
+    carried : (g : Got) → Reason i p c from fnd (Answer.Ready g) → Carried g old m new
+    carried (Got.Value v) y = (k.acts.content ∙ y.0, λ own e. y.1 own (sym task_now ∙ e))
+    carried (Got.Taken own) y = (y.0, task_now ∙ y.1)
+    carried Got.Failed y = fail_fits y.0 y.1
+    carried Got.Plain y = absurd y
+    carried (Got.Leader b) y = absurd y
 
     carries : Carries old m a new
     carries = record {
-      ready = λ g d. elim (reason (answer.Ready g) d) as (λ _. Carried g old m new) [ inl e ↦ absurd (cc) | inr y ↦ carried g y ];
-      granted = λ g d. elim (reason (answer.Granted g) d) as (λ _. IsGranted g old m new) [ inl e ↦ absurd (cc) | inr y ↦ record { plain = y.0; empty = y.1; begun = k.acts.content ∙ y.2; value = (y.3.0, k.here.tries y.3.0 y.3.1) } ];
-      filled = λ v making full. elim (r.filled v making (sym k.acts.content ∙ full)) as (λ _. (decision a (standing_of new p) ≡ Some (answer.Ready (got.Value v))) ⊎ (decision a (standing_of new p) ≡ Some (answer.Granted got.Plain))) [ inl e ↦ inl (decides ∙ e) | inr e ↦ inr (decides ∙ e) ];
-      emptied = λ making empty. elim (r.emptied making (sym k.acts.content ∙ empty)) as (λ _. (is_drop m.what ≡ true) ⊎ (decision a (standing_of new p) ≡ Some (answer.Ready got.Failed))) [ inl e ↦ inl (k.here.drop e) | inr e ↦ inr (decides ∙ e) ];
+      ready = λ g d. elim (reason (Answer.Ready g) d) as (λ _. Carried g old m new) [ inl e ↦ absurd (cc) | inr y ↦ carried g y ];
+      granted = λ g d. elim (reason (Answer.Granted g) d) as (λ _. IsGranted g old m new) [ inl e ↦ absurd (cc) | inr y ↦ record { plain = y.0; empty = y.1; begun = k.acts.content ∙ y.2; value = (y.3.0, k.here.tries y.3.0 y.3.1) } ];
+      filled = λ v making full. elim (r.filled v making (sym k.acts.content ∙ full)) as (λ _. (decision a (standing_of new p) ≡ Some (Answer.Ready (Got.Value v))) ⊎ (decision a (standing_of new p) ≡ Some (Answer.Granted Got.Plain))) [ inl e ↦ inl (decides ∙ e) | inr e ↦ inr (decides ∙ e) ];
+      emptied = λ making empty. elim (r.emptied making (sym k.acts.content ∙ empty)) as (λ _. (is_drop m.what ≡ true) ⊎ (decision a (standing_of new p) ≡ Some (Answer.Ready Got.Failed))) [ inl e ↦ inl (k.here.drop e) | inr e ↦ inr (decides ∙ e) ];
     }
 
     pub own_active : entries_of p t.machine.active ≡ in_active (At from)
@@ -578,7 +524,7 @@ module _ (t u : Table OnceCell) (m : Move) (a : Answer) (w : Within) where
           waits = subst P (sym kept) (waits_at p (list_in list old) one l.1);
         }
 
-    maker_waits : from ≡ Make Closure → fnd ≡ found.NotYet → i.made ≡ made.Pending → IsPendingMaker m new
+    maker_waits : from ≡ Make Closure → fnd ≡ found.NotYet → i.made ≡ Made.Pending → IsPendingMaker m new
     maker_waits e f h = record {
       maker = k.acts.content ∙ (ap (λ z. content_then i p c z fnd) e ∙ maker_of (ap (λ z. makes_at (At z)) e));
       task = task_new ∙ (ap (λ z. task_at (after z fnd)) e ∙ ap (λ z. task_at (after (Make Closure) z)) f);
@@ -587,7 +533,7 @@ module _ (t u : Table OnceCell) (m : Move) (a : Answer) (w : Within) where
 
     waits : Waits m a new
     waits = record {
-      waiting = λ e. elim (pended i p c from fnd (verdict_of from) (said (next_of from fnd)) r.judged (never_pending from) (said_then (next_of from fnd) answer.Pending refl (sym k.answer ∙ e))) as (λ _. IsPendingMaker m new ⊎ WaitsInList m new) [
+      waiting = λ e. elim (pended i p c from fnd (verdict_of from) (said (next_of from fnd)) r.judged (never_pending from) (said_then (next_of from fnd) Answer.Pending refl (sym k.answer ∙ e))) as (λ _. IsPendingMaker m new ⊎ WaitsInList m new) [
         | inl y ↦ inl (maker_waits y.0 y.1 y.2)
         | inr y ↦ inr (waits_in y.0 y.1 y.2)
       ];
@@ -607,20 +553,20 @@ module _ (t u : Table OnceCell) (m : Move) (a : Answer) (w : Within) where
     unlisted h Passive = own_passive ∙ (join_unlisted from h).1
 
     cause : (d : Refusal) → Refuses i p c from fnd d → IsCause old m new d
-    cause refusal.Memory y = let n = nothing_listed y.2 in record { input = y.0; unlisted = unlisted y.1; unmade = sym makes_seen ∙ (join_unlisted from y.1).2; cell = n.0; active = n.1; passive = n.2 }
-    cause refusal.Finished y = absurd y
+    cause Refusal.Memory y = let n = nothing_listed y.2 in record { input = y.0; unlisted = unlisted y.1; unmade = sym makes_seen ∙ (join_unlisted from y.1).2; cell = n.0; active = n.1; passive = n.2 }
+    cause Refusal.Finished y = absurd y
     cause _ y = absurd y
 
     was_inside : (d : Refusal) → 1 ≡ number_of d → Refuses i p c from fnd d → IsUndecided (standing_of old p)
-    was_inside refusal.Memory e y = let j = k.here.joins y.1 in (j.0, stood ∙ j.1)
+    was_inside Refusal.Memory e y = let j = k.here.joins y.1 in (j.0, stood ∙ j.1)
     was_inside _ e y = absurd y
 
     refused_for_cause : IsRefusedForCause old m a new
     refused_for_cause = record {
-      cause = λ n d. elim (reason (answer.Refused n) d) as (λ _. (b : Refusal) × (n ≡ number_of b) × IsCause old m new b) [ inl e ↦ absurd (cc) | inr y ↦ (y.0, y.1, cause y.0 y.2) ];
-      memory = λ d. elim (reason (refused refusal.Memory) d) as (λ _. IsUndecided (standing_of old p)) [ inl e ↦ absurd (cc) | inr y ↦ was_inside y.0 y.1 y.2 ];
+      cause = λ n d. elim (reason (Answer.Refused n) d) as (λ _. (b : Refusal) × (n ≡ number_of b) × IsCause old m new b) [ inl e ↦ absurd (cc) | inr y ↦ (y.0, y.1, cause y.0 y.2) ];
+      memory = λ d. elim (reason (refused Refusal.Memory) d) as (λ _. IsUndecided (standing_of old p)) [ inl e ↦ absurd (cc) | inr y ↦ was_inside y.0 y.1 y.2 ];
       after_ready = (
-        (λ e. absurd (not_over i p c from fnd (verdict_of from) (said (next_of from fnd)) r.judged (never_over from) (said_then (next_of from fnd) (refused refusal.Finished) refl (sym k.answer ∙ e)))),
+        (λ e. absurd (not_over i p c from fnd (verdict_of from) (said (next_of from fnd)) r.judged (never_over from) (said_then (next_of from fnd) (refused Refusal.Finished) refl (sym k.answer ∙ e)))),
         (λ e. let never : polls_again s m.what ≡ true = sym (again_seen (verdict x) s m.what) ∙ (ap (λ z. is_poll_after_ready z m.what) (sym stood) ∙ e) in absurd (cc (k.first, never))),
       );
     }
@@ -652,8 +598,8 @@ module _ (t u : Table OnceCell) (m : Move) (a : Answer) (w : Within) where
     tells_others : TellsOthers old m a new
     tells_others = record {
       failed = λ e. told Active (fails_at from fnd (sym k.answer ∙ e));
-      dropped = λ v e h. told Active (owes_active from (goes_inside v (Some answer.GivenBack) e).1 (k.here.kept v answer.GivenBack (sym stood ∙ e)));
-      refused = λ v list e h f. told list (owes_list list from (k.here.kept v (refused refusal.Memory) (sym stood ∙ e)) (ap list_for (sym (task_old ∙ ap task_at (goes_inside v (Some (refused refusal.Memory)) e).0)) ∙ f));
+      dropped = λ v e h. told Active (owes_active from (goes_inside v (Some Answer.GivenBack) e).1 (k.here.kept v Answer.GivenBack (sym stood ∙ e)));
+      refused = λ v list e h f. told list (owes_list list from (k.here.kept v (refused Refusal.Memory) (sym stood ∙ e)) (ap list_for (sym (task_old ∙ ap task_at (goes_inside v (Some (refused Refusal.Memory)) e).0)) ∙ f));
     }
 
     called : call_of old m ≡ Some w
@@ -666,12 +612,12 @@ module _ (t u : Table OnceCell) (m : Move) (a : Answer) (w : Within) where
     may_end_so h = ap (may_end w.kind) k.answer ∙ ends_by w.kind w.was from fnd k.runs (sym (ap is_stepped k.answer) ∙ h)
 
     ends_properly : EndsProperly old m a new
-    ends_properly = acting.ends_so standing_of (λ y q. knows) rest.Finished old m a new w called is_possible_now (rw stands (stands_seen rest.Finished w a (verdict to) is_possible_now may_end_so))
+    ends_properly = acting.ends_so standing_of (λ y q. knows) Rest.Finished old m a new w called is_possible_now (rw stands (stands_seen Rest.Finished w a (verdict to) is_possible_now may_end_so))
         (λ v b e. decides ∙ kept_on i p c from fnd (verdict_of from) (said (next_of from fnd)) b r.judged (k.here.kept v b (sym stood ∙ e)))
 
     pub legal : Legal old m a new
     legal = record {
-      possible = acting.possible_so standing_of (λ y q. knows) rest.Finished old m a new w called is_possible_now;
+      possible = acting.possible_so standing_of (λ y q. knows) Rest.Finished old m a new w called is_possible_now;
       one_change = one_change;
       knows_task = knows_task;
       carries = carries;

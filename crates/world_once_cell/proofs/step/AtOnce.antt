@@ -1,58 +1,14 @@
 -- What the first step of a call decides at once.
-use Rattle.std.proofs.Common.{◌≡◌, ℕ, ◌<◌, ◌≤◌, ◌&&◌, ◌==◌, if◌then◌else◌, Bool, true, false, List, length, Some, None, refl, arith, ap, sym, ◌∙◌, subst}
-use Rattle.lock_event.specs.declared.event.Entry.{Entry}
-use Rattle.lock_event.specs.Lists.{is_marked_at}
-use Rattle.world_base.specs.queue.Parties.{is_party, entries_of, is_unmarked}
-use Rattle.world_base.proofs.of_queue.Marks.{all_marked, else_marked}
-use Rattle.lock_event.specs.declared.event.Mark.TheVariants as mark
-use Rattle.world_base.specs.declared.moves.Answer.{Answer}
-use Rattle.world_base.specs.declared.moves.Answer.TheVariants as answer
-use Rattle.world_base.specs.declared.moves.Call.TheVariants as call
-use Rattle.world_base.specs.declared.moves.Inputs.{Inputs}
-use Rattle.world_base.specs.declared.moves.Made.{Made}
-use Rattle.world_base.specs.declared.moves.Made.TheVariants as made
-use Rattle.world_base.specs.declared.moves.Move.{Move}
-use Rattle.world_base.specs.declared.moves.What.{What}
-use Rattle.world_base.specs.declared.moves.What.TheVariants.{Begin}
-use Rattle.world_base.specs.declared.standing.Rest.{Rest}
-use Rattle.world_base.specs.declared.standing.Rest.TheVariants as rest
-use Rattle.world_base.specs.declared.standing.Stage.{Stage}
-use Rattle.world_base.specs.declared.standing.Stage.TheVariants.{Outside, Inside, Forgotten}
-use Rattle.world_base.specs.declared.standing.Within.{Within}
-use Rattle.world_base.specs.Standings.{Standing, outside, inside, inputs_of, is_stepped, decision}
-use Rattle.world_base.specs.Steps.{Deed, does, asks}
-use Rattle.world_base.specs.Frame.{is_drop}
-use Rattle.world_base.specs.table.Stages.{stage_at, stands_as, call_at, polls_again}
-use Rattle.world_base.specs.table.Tables.{Table}
-use Rattle.world_once_cell.specs.program.Program.{Action}
+use Rattle.world_once_cell.proofs.Prelude.{◌≡◌, ℕ, ◌<◌, ◌≤◌, ◌&&◌, ◌==◌, if◌then◌else◌, Bool, true, false, List, length, Some, None, refl, arith, ap, sym, ◌∙◌, subst, Entry, is_marked_at, is_party, entries_of, is_unmarked, all_marked, else_marked, Answer, Call, Inputs, Made, Move, What, Begin, Rest, Stage, Outside, Inside, Forgotten, Within, Standing, outside, inside, inputs_of, is_stepped, decision, Deed, does, asks, is_drop, stage_at, stands_as, call_at, polls_again, Table, Action, Found, ListName, Active, Passive, Maker, Closure, Given, Place, Claim, ClaimListed, JoinActive, AskActive, LeaveToMake, Make, Fill, NotifyActive, NotifyPassive, Fail, LeaveFull, RefuseActive, Look, AskPassive, Try, TryFill, TryNotifyActive, TryNotifyPassive, CancelMake, CancelLeave, Position, ToMake, WaitingToMake, Making, At, Content, Empty, Full, action_of, next_of, no_task, waits_only, fills_with, failed, task_by, task_at, place_task, makes_at, in_active, in_passive_at, verdict, Change, deed_of, content_after, active_after, passive_after, Finds, FindsContent, FindsMade, FindsAsk, IsDone, everyone, OnceCell, knows, goes_with, is_begun, is_maker, position_at, answer_by, World, list_in, is_empty, standing_of, task_of, view_of, task_in, or_before, task_then, given, AnswersAtOnce, KeepsLists, TriesAtOnce, MakesAtOnce, WaitsAtOnce, PollsMaker, DropsMaker, AsksAtOnce, is_try, is_poll, would_make, is_first_making, waits_for, is_first_wait, first_answer, maker_answer, both, not_one}
+use Rattle.lock_event.specs.declared.event.Mark.{Mark}
 use Rattle.sync_program.specs.declared.once_cell.Action.TheVariants as act
-use Rattle.world_once_cell.specs.program.Program.{Found}
 use Rattle.sync_program.specs.declared.once_cell.Found.TheVariants as found
-use Rattle.sync_program.specs.declared.once_cell.ListName.{ListName}
-use Rattle.sync_program.specs.declared.once_cell.ListName.TheVariants.{Active, Passive}
-use Rattle.world_once_cell.specs.program.Program.{Maker}
-use Rattle.sync_program.specs.declared.once_cell.Maker.TheVariants.{Closure, Given}
-use Rattle.world_once_cell.specs.program.Program.{Place}
-use Rattle.sync_program.specs.declared.once_cell.Place.TheVariants.{Claim, ClaimListed, JoinActive, AskActive, LeaveToMake, Make, Fill, NotifyActive, NotifyPassive, Fail, LeaveFull, RefuseActive, Look, AskPassive, Try, TryFill, TryNotifyActive, TryNotifyPassive, CancelMake, CancelLeave}
-use Rattle.world_once_cell.specs.program.Program.{Position}
-use Rattle.sync_program.specs.declared.once_cell.Position.TheVariants.{ToMake, WaitingToMake, Making, At}
-use Rattle.world_once_cell.specs.declared.program.words.Content.{Content}
-use Rattle.world_once_cell.specs.declared.program.words.Content.TheVariants.{Empty, Full}
-use Rattle.world_once_cell.specs.program.Program.{action_of, next_of}
-use Rattle.world_once_cell.specs.machine.Seats.{no_task, waits_only, fills_with, failed, task_by, task_at, task_of as place_task, makes_at, in_active, in_passive_at, verdict}
-use Rattle.world_once_cell.specs.program.Deeds.{Change, deed_of, content_after, active_after, passive_after, Finds, FindsContent, FindsMade, FindsAsk, IsDone, everyone}
-use Rattle.world_once_cell.specs.machine.Machine.{OnceCell, knows, goes_with, is_begun, is_maker, position_at, answer_by}
 use Rattle.world_once_cell.proofs.of_machine.laws.Kept.{after}
 use Rattle.world_once_cell.proofs.of_machine.stages.Turns.{Turn, turn}
 use Rattle.world_once_cell.proofs.of_machine.laws.Contents as contents
-use Rattle.world_once_cell.specs.State.{World, list_in, is_empty, standing_of, task_of}
-use Rattle.world_once_cell.specs.View.{view_of}
-use Rattle.world_once_cell.specs.Tasks.{task_in, or_before, task_then, given}
-use Rattle.world_once_cell.specs.AtOnce.{AnswersAtOnce, KeepsLists, TriesAtOnce, MakesAtOnce, WaitsAtOnce, PollsMaker, DropsMaker, AsksAtOnce, is_try, is_poll, would_make, is_first_making, waits_for, is_first_wait, first_answer, maker_answer}
 use Rattle.world_once_cell.proofs.step.Rows.{said, content_then}
 use Rattle.world_once_cell.proofs.step.Acting.{Acting}
 use Rattle.world_once_cell.proofs.step.Acting as acting
-use Rattle.world_base.proofs.Equations.{both, not_one}
 
 -- ---- Where calls begin
 
@@ -61,11 +17,11 @@ pub record EntranceAt (s : Standing) (what : What) (x : Position) (from : Place)
   pub tries : is_try what ≡ true → (v : ℕ) × (from ≡ Try v)
   pub making : (n : ℕ) (b : Bool) → is_first_making s what (task_at x) n b ≡ true → n ≡ in_active x → b ≡ makes_at x → (k : Maker) × (from ≡ Claim k false)
   pub waiting : (n : ℕ) → is_first_wait s what (task_at x) n ≡ true → n ≡ in_passive_at x → from ≡ Look false
-  pub maker : is_poll what ≡ true → s ≡ outside rest.Pending → makes_at x ≡ true → (k : Maker) × (from ≡ Make k)
+  pub maker : is_poll what ≡ true → s ≡ outside Rest.Pending → makes_at x ≡ true → (k : Maker) × (from ≡ Make k)
   pub dropped : is_drop what ≡ true → makes_at x ≡ true → from ≡ CancelMake
-  pub gone : is_drop what ≡ true → makes_at x ≡ false → (f : Found) → answer_by (next_of from f) ≡ answer.GivenBack
-  pub in_active : is_poll what ≡ true → s ≡ outside rest.Pending → 0 < in_active x → (k : Maker) × (from ≡ AskActive k)
-  pub in_passive : is_poll what ≡ true → s ≡ outside rest.Pending → 0 < in_passive_at x → from ≡ AskPassive
+  pub gone : is_drop what ≡ true → makes_at x ≡ false → (f : Found) → answer_by (next_of from f) ≡ Answer.GivenBack
+  pub in_active : is_poll what ≡ true → s ≡ outside Rest.Pending → 0 < in_active x → (k : Maker) × (from ≡ AskActive k)
+  pub in_passive : is_poll what ≡ true → s ≡ outside Rest.Pending → 0 < in_passive_at x → from ≡ AskPassive
 
 abbrev pub Entrance : Stage → What → Within → Position → Place → Type 0
 Entrance s what w x from = EntranceAt (stands_as (verdict x) s) what x from
@@ -85,35 +41,35 @@ maker_waits : (k : Maker) (b : Bool) → waits_for (task_by k) && b ≡ true →
 maker_waits Closure b h = cc h
 maker_waits (Given v) b h = cc h
 
-first_wait_init : (r : Rest) (i : Inputs) (n : ℕ) → is_first_wait (outside r) (Begin call.Initialize i) no_task n ≡ true → ⊥
-first_wait_init rest.Idle i n h = cc h
-first_wait_init rest.Finished i n h = cc h
-first_wait_init rest.Pending i n h = cc h
-first_wait_init rest.Holding i n h = cc h
+first_wait_init : (r : Rest) (i : Inputs) (n : ℕ) → is_first_wait (outside r) (Begin Call.Initialize i) no_task n ≡ true → ⊥
+first_wait_init Rest.Idle i n h = cc h
+first_wait_init Rest.Finished i n h = cc h
+first_wait_init Rest.Pending i n h = cc h
+first_wait_init Rest.Holding i n h = cc h
 
-first_wait_set : (v : ℕ) (r : Rest) (i : Inputs) (n : ℕ) → is_first_wait (outside r) (Begin (call.Set v) i) no_task n ≡ true → ⊥
-first_wait_set v rest.Idle i n h = cc h
-first_wait_set v rest.Finished i n h = cc h
-first_wait_set v rest.Pending i n h = cc h
-first_wait_set v rest.Holding i n h = cc h
+first_wait_set : (v : ℕ) (r : Rest) (i : Inputs) (n : ℕ) → is_first_wait (outside r) (Begin (Call.Set v) i) no_task n ≡ true → ⊥
+first_wait_set v Rest.Idle i n h = cc h
+first_wait_set v Rest.Finished i n h = cc h
+first_wait_set v Rest.Pending i n h = cc h
+first_wait_set v Rest.Holding i n h = cc h
 
-first_wait_try : (v : ℕ) (r : Rest) (i : Inputs) (n : ℕ) → is_first_wait (outside r) (Begin (call.TrySet v) i) no_task n ≡ true → ⊥
-first_wait_try v rest.Idle i n h = cc h
-first_wait_try v rest.Finished i n h = cc h
-first_wait_try v rest.Pending i n h = cc h
-first_wait_try v rest.Holding i n h = cc h
+first_wait_try : (v : ℕ) (r : Rest) (i : Inputs) (n : ℕ) → is_first_wait (outside r) (Begin (Call.TrySet v) i) no_task n ≡ true → ⊥
+first_wait_try v Rest.Idle i n h = cc h
+first_wait_try v Rest.Finished i n h = cc h
+first_wait_try v Rest.Pending i n h = cc h
+first_wait_try v Rest.Holding i n h = cc h
 
-first_making_wait : (r : Rest) (i : Inputs) (n : ℕ) (b : Bool) → is_first_making (outside r) (Begin call.Wait i) no_task n b ≡ true → ⊥
-first_making_wait rest.Idle i n b h = cc h
-first_making_wait rest.Finished i n b h = cc h
-first_making_wait rest.Pending i n b h = cc h
-first_making_wait rest.Holding i n b h = cc h
+first_making_wait : (r : Rest) (i : Inputs) (n : ℕ) (b : Bool) → is_first_making (outside r) (Begin Call.Wait i) no_task n b ≡ true → ⊥
+first_making_wait Rest.Idle i n b h = cc h
+first_making_wait Rest.Finished i n b h = cc h
+first_making_wait Rest.Pending i n b h = cc h
+first_making_wait Rest.Holding i n b h = cc h
 
-first_making_try : (v : ℕ) (r : Rest) (i : Inputs) (n : ℕ) (b : Bool) → is_first_making (outside r) (Begin (call.TrySet v) i) no_task n b ≡ true → ⊥
-first_making_try v rest.Idle i n b h = cc h
-first_making_try v rest.Finished i n b h = cc h
-first_making_try v rest.Pending i n b h = cc h
-first_making_try v rest.Holding i n b h = cc h
+first_making_try : (v : ℕ) (r : Rest) (i : Inputs) (n : ℕ) (b : Bool) → is_first_making (outside r) (Begin (Call.TrySet v) i) no_task n b ≡ true → ⊥
+first_making_try v Rest.Idle i n b h = cc h
+first_making_try v Rest.Finished i n b h = cc h
+first_making_try v Rest.Pending i n b h = cc h
+first_making_try v Rest.Holding i n b h = cc h
 
 pub entrance : (s : Stage) (what : What) (w : Within) (x : Position) → goes_with s x ≡ true → call_at knows s what ≡ Some w → polls_again s what ≡ false → Turn Entrance s what w x
 entrance = turn Entrance (record {
@@ -153,7 +109,7 @@ module _ (p : ℕ) (c : Content) where
   claims (found.Full v) e un = un ∙ sym (ap is_empty e)
   claims _ e un = absurd e
 
-  try_answer : (v : ℕ) (f : Found) → FindsContent f c → answer_by (next_of (Try v) f) ≡ (if is_empty c then answer.Stepped else answer.None)
+  try_answer : (v : ℕ) (f : Found) → FindsContent f c → answer_by (next_of (Try v) f) ≡ (if is_empty c then Answer.Stepped else Answer.None)
   try_answer v found.Empty e = rw e refl
   try_answer v found.BeingMade e = rw e.1 refl
   try_answer v (found.Full u) e = rw e refl
@@ -172,12 +128,12 @@ module _ (p : ℕ) (c : Content) where
   look_answer (found.Full u) e = rw e refl
   look_answer _ e = absurd e
 
-  ask_answer : (k : Maker) (l : List (Entry ℕ)) (f : Found) → FindsAsk p f l → answer_by (next_of (AskActive k) f) ≡ (if is_marked_at (is_party p) l then answer.Stepped else answer.Pending)
+  ask_answer : (k : Maker) (l : List (Entry ℕ)) (f : Found) → FindsAsk p f l → answer_by (next_of (AskActive k) f) ≡ (if is_marked_at (is_party p) l then Answer.Stepped else Answer.Pending)
   ask_answer k l found.Yes e = rw e refl
   ask_answer k l found.No e = rw e refl
   ask_answer k l _ e = absurd e
 
-  ask_passive_answer : (l : List (Entry ℕ)) (f : Found) → FindsAsk p f l → answer_by (next_of AskPassive f) ≡ (if is_marked_at (is_party p) l then answer.Stepped else answer.Pending)
+  ask_passive_answer : (l : List (Entry ℕ)) (f : Found) → FindsAsk p f l → answer_by (next_of AskPassive f) ≡ (if is_marked_at (is_party p) l then Answer.Stepped else Answer.Pending)
   ask_passive_answer l found.Yes e = rw e refl
   ask_passive_answer l found.No e = rw e refl
   ask_passive_answer l _ e = absurd e
@@ -198,15 +154,15 @@ claimed_passive p _ l = refl
 
 make_answer : (k : Maker) (m : Made) (f : Found) → FindsMade k m f → answer_by (next_of (Make k) f) ≡ maker_answer (task_by k) m
 make_answer (Given v) m f e = ap (λ f. answer_by (next_of (Make (Given v)) f)) e
-make_answer Closure made.Pending f e = ap (λ f. answer_by (next_of (Make Closure) f)) e
-make_answer Closure (made.Value v) f e = ap (λ f. answer_by (next_of (Make Closure) f)) e
-make_answer Closure made.Fail f e = ap (λ f. answer_by (next_of (Make Closure) f)) e
+make_answer Closure Made.Pending f e = ap (λ f. answer_by (next_of (Make Closure) f)) e
+make_answer Closure (Made.Value v) f e = ap (λ f. answer_by (next_of (Make Closure) f)) e
+make_answer Closure Made.Fail f e = ap (λ f. answer_by (next_of (Make Closure) f)) e
 
 make_task : (k : Maker) (m : Made) (f : Found) → FindsMade k m f → task_at (after (Make k) f) ≡ given (task_by k) m
 make_task (Given v) m f e = ap (λ f. task_at (after (Make (Given v)) f)) e
-make_task Closure made.Pending f e = ap (λ f. task_at (after (Make Closure) f)) e
-make_task Closure (made.Value v) f e = ap (λ f. task_at (after (Make Closure) f)) e
-make_task Closure made.Fail f e = ap (λ f. task_at (after (Make Closure) f)) e
+make_task Closure Made.Pending f e = ap (λ f. task_at (after (Make Closure) f)) e
+make_task Closure (Made.Value v) f e = ap (λ f. task_at (after (Make Closure) f)) e
+make_task Closure Made.Fail f e = ap (λ f. task_at (after (Make Closure) f)) e
 
 -- who makes, would make yet and stands in no list asks its maker
 asks_at : (y : Place) → makes_at (At y) ≡ true → would_make (place_task y) ≡ true → in_active (At y) ≡ 0 → (k : Maker) × (y ≡ Make k)
@@ -251,15 +207,15 @@ ends_telling v (RefuseActive k) f e b n = absurd (task_never k v e)
 ends_telling v _ f e b n = absurd (cc e)
 
 told_everyone : (p q : ℕ) (f : Found) (l m : List (Entry ℕ)) → IsDone f → length l ≤ everyone → m ≡ passive_after p (deed_of (act.NotifyAll Passive) f) l → 0 < entries_of q m → is_marked_at (is_party q) m ≡ true
-told_everyone p q found.Done l m h few e some = else_marked q m some (λ u. (let P : List (Entry ℕ) → Type 0 = λ z. is_unmarked q z ≡ true in all_marked q mark.Additional everyone l refl few (subst P e u)))
+told_everyone p q found.Done l m h few e some = else_marked q m some (λ u. (let P : List (Entry ℕ) → Type 0 = λ z. is_unmarked q z ≡ true in all_marked q Mark.Additional everyone l refl few (subst P e u)))
 told_everyone p q _ l m h few e some = absurd h
 
 -- a party outside every call is at no place
 outside_never : (r : Rest) (z : Place) → goes_with (Outside r) (At z) ≡ true → ⊥
-outside_never rest.Idle z g = cc g
-outside_never rest.Pending z g = cc g
-outside_never rest.Holding z g = cc g
-outside_never rest.Finished z g = cc g
+outside_never Rest.Idle z g = cc g
+outside_never Rest.Pending z g = cc g
+outside_never Rest.Holding z g = cc g
+outside_never Rest.Finished z g = cc g
 
 -- who makes and has what its maker gave stands inside a call, where it fills the cell, or empties it
 filler_at : (x : Position) (v : ℕ) → makes_at x ≡ true → task_at x ≡ fills_with v → (y : Place) × (x ≡ At y)
@@ -410,10 +366,10 @@ module _ (t u : Table OnceCell) (m : Move) (a : Answer) (w : Within) (k : Acting
   polled_task : is_poll m.what ≡ true → task_in m.what ≡ None
   polled_task h = by_what m.what h where
     by_what : (what : What) → is_poll what ≡ true → task_in what ≡ None
-    by_what (Begin call.Poll j) h = refl
+    by_what (Begin Call.Poll j) h = refl
     by_what _ h = absurd (cc h)
 
-  polled : is_poll m.what ≡ true → stands_as (verdict x) (stage_at t.stages p) ≡ outside rest.Pending → is_maker c p ≡ true → PollsMaker old m a new
+  polled : is_poll m.what ≡ true → stands_as (verdict x) (stage_at t.stages p) ≡ outside Rest.Pending → is_maker c p ≡ true → PollsMaker old m a new
   polled h pending made = (
       let d = door.maker h pending (k.old_laws.makers p ∙ made) in
       let task : task_of old p ≡ task_by d.0 = sym (ap (λ z. or_before z (task_of old p)) (polled_task h)) ∙ task_at_place (Make d.0) d.1 in
@@ -466,7 +422,7 @@ module _ (t u : Table OnceCell) (m : Move) (a : Answer) (w : Within) (k : Acting
       record { empty = content_at CancelMake e ∙ emptied k.found (finds_at CancelMake e); goes_on = answered CancelMake e }
       )
 
-  listed : is_poll m.what ≡ true → stands_as (verdict x) (stage_at t.stages p) ≡ outside rest.Pending → (list : ListName) → 0 < entries_of p (list_in list old) → AsksAtOnce old m a new list
+  listed : is_poll m.what ≡ true → stands_as (verdict x) (stage_at t.stages p) ≡ outside Rest.Pending → (list : ListName) → 0 < entries_of p (list_in list old) → AsksAtOnce old m a new list
   listed h pending Active some = (
       let d = door.in_active h pending (rw (k.old_laws.active_owners p) at some) in
       record {

@@ -1,28 +1,7 @@
 -- What is so where a move begins or goes on.
-use Rattle.std.proofs.Common.{◌≡◌, ℕ, ◌||◌, ◌⊎◌, inl, inr, true, false, Some, is_some, refl, ap, sym, ◌∙◌}
-use Rattle.world_base.specs.declared.moves.Answer.{Answer}
-use Rattle.world_base.specs.declared.moves.Answer.TheVariants as answer
-use Rattle.world_base.specs.declared.moves.Inputs.{Inputs}
-use Rattle.world_base.specs.declared.moves.What.{What}
-use Rattle.world_base.specs.declared.moves.What.TheVariants.{Go}
-use Rattle.world_base.specs.declared.standing.Stage.{Stage}
-use Rattle.world_base.specs.declared.standing.Within.{Within}
-use Rattle.world_base.specs.Standings.{inside, is_decided, IsUndecided}
-use Rattle.world_base.specs.Frame.{is_drop, is_giving_back}
-use Rattle.world_base.proofs.of_table.Calls.{decides_so, undecided_so}
-use Rattle.world_base.specs.table.Stages.{stands_as, call_at, polls_again}
-use Rattle.world_once_cell.specs.program.Program.{Action}
+use Rattle.world_once_cell.proofs.Prelude.{◌≡◌, ℕ, ◌||◌, ◌⊎◌, inl, inr, true, false, Some, is_some, refl, ap, sym, ◌∙◌, Answer, Inputs, What, Go, Stage, Within, inside, is_decided, IsUndecided, is_drop, is_giving_back, decides_so, undecided_so, stands_as, call_at, polls_again, Action, Maker, Place, JoinActive, AskActive, LeaveToMake, Make, Fill, NotifyActive, NotifyPassive, Fail, FailNotify, LeaveFull, RefuseActive, JoinPassive, AskPassive, LeavePassive, RefusePassive, Try, TryFill, TryNotifyActive, TryNotifyPassive, CancelMake, CancelNotify, CancelLeave, Position, At, action_of, Task, fills_with, failed, task_at, place_task, seat_of, seated, value_known, verdict, verdict_of, knows, goes_with, is_begun, task_in, or_before, list_for}
 use Rattle.sync_program.specs.declared.once_cell.Action.TheVariants as act
-use Rattle.world_once_cell.specs.program.Program.{Maker}
-use Rattle.world_once_cell.specs.program.Program.{Place}
-use Rattle.sync_program.specs.declared.once_cell.Place.TheVariants.{JoinActive, AskActive, LeaveToMake, Make, Fill, NotifyActive, NotifyPassive, Fail, FailNotify, LeaveFull, RefuseActive, JoinPassive, AskPassive, LeavePassive, RefusePassive, Try, TryFill, TryNotifyActive, TryNotifyPassive, CancelMake, CancelNotify, CancelLeave}
-use Rattle.world_once_cell.specs.program.Program.{Position}
-use Rattle.sync_program.specs.declared.once_cell.Position.TheVariants.{At}
-use Rattle.world_once_cell.specs.program.Program.{action_of}
-use Rattle.world_once_cell.specs.machine.Seats.{Task, fills_with, failed, task_at, task_of as place_task, seat_of, seated, value_known, verdict, verdict_of}
-use Rattle.world_once_cell.specs.machine.Machine.{knows, goes_with, is_begun}
 use Rattle.world_once_cell.proofs.of_machine.stages.Turns.{Turn, turn}
-use Rattle.world_once_cell.specs.Tasks.{task_in, or_before, list_for}
 use Rattle.world_once_cell.proofs.step.Rows.{is_join, is_notify}
 use Rattle.world_once_cell.proofs.step.Owns.{active_for}
 
@@ -41,7 +20,7 @@ pub record Here (s : Stage) (what : What) (w : Within) (x : Position) (from : Pl
   pub task : or_before (task_in what) (task_at x) ≡ place_task from
   pub decides : is_decided (stands_as (verdict x) s) || is_giving_back what ≡ is_some (verdict_of from)
   pub kept : (u : Within) (b : Answer) → stands_as (verdict x) s ≡ inside u (Some b) → verdict_of from ≡ Some b
-  pub undecided : is_decided (stands_as (verdict x) s) ≡ false → (b : Answer) → verdict_of from ≡ Some b → b ≡ answer.GivenBack
+  pub undecided : is_decided (stands_as (verdict x) s) ≡ false → (b : Answer) → verdict_of from ≡ Some b → b ≡ Answer.GivenBack
   pub joins : is_join from ≡ true → IsUndecided (stands_as (verdict x) s)
   pub drop : from ≡ CancelMake → is_drop what ≡ true
   pub tries : (v : ℕ) → from ≡ Try v → task_in what ≡ Some (fills_with v)

@@ -1,39 +1,7 @@
 -- What parties have, by where they stand.
-use Rattle.std.proofs.Common.{◌≡◌, ◌≢◌, ℕ, ◌<◌, ◌⊎◌, inl, inr, true, false, Some, None, refl, arith, ap, sym, ◌∙◌, subst}
-use Rattle.world_base.specs.queue.Parties.{entries_of}
-use Rattle.world_base.specs.declared.moves.Answer.TheVariants as answer
-use Rattle.world_base.specs.declared.standing.Kind.{Kind}
-use Rattle.world_base.specs.declared.standing.Kind.TheVariants as kind
-use Rattle.world_base.specs.declared.standing.Rest.{Rest}
-use Rattle.world_base.specs.declared.standing.Rest.TheVariants as rest
-use Rattle.world_base.specs.declared.standing.Stage.{Stage}
-use Rattle.world_base.specs.declared.standing.Stage.TheVariants.{Outside, Inside, Forgotten}
-use Rattle.world_base.specs.declared.standing.Within.{Within}
-use Rattle.world_base.specs.Standings.{inside}
-use Rattle.world_base.proofs.Equations.{none_some, both}
-use Rattle.world_base.specs.table.Stages.{stage_at, stands_as}
-use Rattle.world_base.specs.table.Tables.{Table}
-use Rattle.world_base.proofs.of_table.Mapped.{past_last}
-use Rattle.world_base.proofs.of_table.Past.{by_stage, by_stage_or_past}
-use Rattle.sync_program.specs.declared.once_cell.ListName.{ListName}
-use Rattle.sync_program.specs.declared.once_cell.ListName.TheVariants.{Active, Passive}
-use Rattle.world_once_cell.specs.program.Program.{Maker}
-use Rattle.sync_program.specs.declared.once_cell.Maker.TheVariants.{Closure, Given}
-use Rattle.world_once_cell.specs.program.Program.{Place}
-use Rattle.sync_program.specs.declared.once_cell.Place.TheVariants.{NotifyActive, NotifyPassive, FailNotify, LeaveFull, RefuseActive, LeavePassive, RefusePassive, Try, TryFill, TryNotifyActive, TryNotifyPassive, CancelMake, CancelNotify, CancelLeave, Abandon}
-use Rattle.world_once_cell.specs.program.Program.{Position}
-use Rattle.sync_program.specs.declared.once_cell.Position.TheVariants.{Out, ToMake, WaitingToMake, Making, ToWait, Waiting, At}
-use Rattle.world_once_cell.specs.declared.program.words.Content.TheVariants.{BeingMade, Full}
-use Rattle.world_once_cell.specs.program.Program.{got_of}
-use Rattle.world_once_cell.specs.machine.Seats.{fills_with, task_by, task_at, task_of as place_task, makes_at, in_active, in_passive_at, value_known, verdict, verdict_of}
-use Rattle.world_once_cell.specs.machine.Machine.{OnceCell, IsCell, goes_with, runs, is_begun, is_trying, is_cancelling, is_abandoning, is_pending, is_maker, position_at}
+use Rattle.world_once_cell.proofs.Prelude.{◌≡◌, ◌≢◌, ℕ, ◌<◌, ◌⊎◌, inl, inr, true, false, Some, None, refl, arith, ap, sym, ◌∙◌, subst, entries_of, Answer, Kind, Rest, Stage, Outside, Inside, Forgotten, Within, inside, none_some, both, stage_at, stands_as, Table, past_last, by_stage, by_stage_or_past, ListName, Active, Passive, Maker, Closure, Given, Place, NotifyActive, NotifyPassive, FailNotify, LeaveFull, RefuseActive, LeavePassive, RefusePassive, Try, TryFill, TryNotifyActive, TryNotifyPassive, CancelMake, CancelNotify, CancelLeave, Abandon, Position, Out, ToMake, WaitingToMake, Making, ToWait, Waiting, At, BeingMade, Full, got_of, fills_with, task_by, task_at, place_task, makes_at, in_active, in_passive_at, value_known, verdict, verdict_of, OnceCell, IsCell, goes_with, runs, is_begun, is_trying, is_cancelling, is_abandoning, is_pending, is_maker, position_at, World, is_full, list_in, standing_of, task_of, view_of, makes, list_for, HasByTask, IsClear, HasGranted, HasItsOwn, IsCellTable}
 use Rattle.world_once_cell.proofs.of_machine.laws.Contents as contents
 use Rattle.world_once_cell.proofs.of_machine.laws.Told.{in_list}
-use Rattle.world_once_cell.specs.State.{World, is_full, list_in, standing_of, task_of}
-use Rattle.world_once_cell.specs.View.{view_of}
-use Rattle.world_once_cell.specs.Tasks.{makes, list_for}
-use Rattle.world_once_cell.specs.Legal.{HasByTask, IsClear, HasGranted, HasItsOwn}
-use Rattle.world_once_cell.specs.Steps.{IsCellTable}
 use Rattle.world_once_cell.proofs.table.Seen as seen
 
 -- what a party's position says of it
@@ -102,26 +70,26 @@ granted : (w : World) (p v : ℕ) (y : Place) → place_task y ≡ fills_with v 
 granted w p v y task cell k = record { value = v; task = k.task ∙ task; cell = cell }
 
 -- a call that goes on undecided is a poll
-polls_on : (k : Kind) (r : Rest) (y : Place) → is_cancelling y ≡ false → is_abandoning y ≡ false → is_trying y ≡ false → runs k r y ≡ true → (k ≢ kind.Drop) × (k ≢ kind.Try)
-polls_on kind.Drop rest.Pending y a b d h = absurd (cc (a, h))
-polls_on kind.Drop rest.Finished y a b d h = absurd (cc (b, h))
-polls_on kind.Drop _ y a b d h = absurd (cc h)
-polls_on kind.Try rest.Idle y a b d h = absurd (cc (d, h))
-polls_on kind.Try rest.Finished y a b d h = absurd (cc (d, h))
-polls_on kind.Try _ y a b d h = absurd (cc h)
+polls_on : (k : Kind) (r : Rest) (y : Place) → is_cancelling y ≡ false → is_abandoning y ≡ false → is_trying y ≡ false → runs k r y ≡ true → (k ≢ Kind.Drop) × (k ≢ Kind.Try)
+polls_on Kind.Drop Rest.Pending y a b d h = absurd (cc (a, h))
+polls_on Kind.Drop Rest.Finished y a b d h = absurd (cc (b, h))
+polls_on Kind.Drop _ y a b d h = absurd (cc h)
+polls_on Kind.Try Rest.Idle y a b d h = absurd (cc (d, h))
+polls_on Kind.Try Rest.Finished y a b d h = absurd (cc (d, h))
+polls_on Kind.Try _ y a b d h = absurd (cc h)
 polls_on _ r y a b d h = (λ e. cc e, λ e. cc e)
 
-own_full : (w : World) (p : ℕ) (u : Within) (k : Maker) (v : ℕ) → w.cell ≡ Full v → task_of w p ≡ task_by k → HasItsOwn w p (inside u (Some (answer.Ready (got_of k v))))
+own_full : (w : World) (p : ℕ) (u : Within) (k : Maker) (v : ℕ) → w.cell ≡ Full v → task_of w p ≡ task_by k → HasItsOwn w p (inside u (Some (Answer.Ready (got_of k v))))
 own_full w p u Closure v full task = full
 own_full w p u (Given own) v full task = (ap is_full full, task)
 
 own_by : (w : World) (p : ℕ) (s : Stage) (x : Position) → goes_with s x ≡ true → Facts w p x → HasItsOwn w p (stands_as (verdict x) s)
-own_by w p (Outside rest.Idle) Out g k = record { lists = no_lists w p k.active k.passive; making = sym k.makes; task = k.task }
-own_by w p (Outside rest.Idle) _ g k = absurd (cc g)
-own_by w p (Outside rest.Finished) Out g k = record { lists = no_lists w p k.active k.passive; making = sym k.makes; task = k.task }
-own_by w p (Outside rest.Finished) _ g k = absurd (cc g)
-own_by w p (Outside rest.Pending) x g k = by_task w p x g k
-own_by w p (Outside rest.Holding) x g k = absurd (cc g)
+own_by w p (Outside Rest.Idle) Out g k = record { lists = no_lists w p k.active k.passive; making = sym k.makes; task = k.task }
+own_by w p (Outside Rest.Idle) _ g k = absurd (cc g)
+own_by w p (Outside Rest.Finished) Out g k = record { lists = no_lists w p k.active k.passive; making = sym k.makes; task = k.task }
+own_by w p (Outside Rest.Finished) _ g k = absurd (cc g)
+own_by w p (Outside Rest.Pending) x g k = by_task w p x g k
+own_by w p (Outside Rest.Holding) x g k = absurd (cc g)
 own_by w p (Inside u) (At (NotifyActive v)) g k = k.value v refl
 own_by w p (Inside u) (At (NotifyPassive v)) g k = k.value v refl
 own_by w p (Inside u) (At (LeaveFull m v)) g k = own_full w p u m v (k.value v refl) k.task
@@ -142,11 +110,11 @@ own_by w p (Inside u) _ g k = absurd (cc g)
 own_by w p Forgotten x g k = tt
 
 -- no call is decided on Pending
-pub never_pending : (x : Place) → verdict_of x ≡ Some answer.Pending → ⊥
+pub never_pending : (x : Place) → verdict_of x ≡ Some Answer.Pending → ⊥
 never_pending (LeaveFull k v) e = cc e
 never_pending _ e = cc e
 
-pends_by : (s : Stage) (x : Position) (u : Within) → stands_as (verdict x) s ≡ inside u (Some answer.Pending) → ⊥
+pends_by : (s : Stage) (x : Position) (u : Within) → stands_as (verdict x) s ≡ inside u (Some Answer.Pending) → ⊥
 pends_by (Outside r) x u e = cc
 pends_by (Inside w) (At y) u e = never_pending y (cc)
 pends_by (Inside w) _ u e = cc
@@ -155,7 +123,7 @@ pends_by Forgotten x u e = cc
 -- what holds of any World that stands
 pub record Standing_well (w : World) : Type 0 where
   pub each : (p : ℕ) → HasItsOwn w p (standing_of w p)
-  pub never_pending : (p : ℕ) (u : Within) → standing_of w p ≢ inside u (Some answer.Pending)
+  pub never_pending : (p : ℕ) (u : Within) → standing_of w p ≢ inside u (Some Answer.Pending)
 
 module _ (t : Table OnceCell) (laws : IsCell t.machine) (fits : IsCellTable t) where
   known : (q v : ℕ) → value_known (position_at t.machine.positions q) ≡ Some v → t.machine.content ≡ Full v

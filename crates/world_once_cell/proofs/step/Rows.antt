@@ -1,41 +1,11 @@
 -- What each place's action does, finding by finding.
-use Rattle.std.proofs.Common.{◌≡◌, ◌≢◌, ℕ, ◌||◌, ◌⊎◌, inl, inr, Bool, true, false, List, Option, Some, None, is_some, refl, ap, sym, ◌∙◌}
-use Rattle.lock_event.specs.declared.event.Entry.{Entry}
-use Rattle.world_base.specs.declared.moves.Answer.{Answer}
-use Rattle.world_base.specs.declared.moves.Answer.TheVariants as answer
-use Rattle.world_base.specs.declared.moves.Got.TheVariants as got
-use Rattle.world_base.specs.declared.moves.Inputs.{Inputs}
-use Rattle.world_base.specs.declared.moves.Made.{Made}
-use Rattle.world_base.specs.declared.moves.Made.TheVariants as made
-use Rattle.lock_program.specs.declared.refusal.Refusal.{Refusal}
-use Rattle.lock_program.specs.declared.refusal.Refusal.TheVariants as refusal
-use Rattle.world_base.specs.Frame.{is_refusal}
+use Rattle.world_once_cell.proofs.Prelude.{◌≡◌, ◌≢◌, ℕ, ◌||◌, ◌⊎◌, inl, inr, Bool, true, false, List, Option, Some, None, is_some, refl, ap, sym, ◌∙◌, Entry, Answer, Got, Inputs, Made, Refusal, is_refusal, Deed, nothing, changes, does, joins, asks, leaves, notifies, notifies_additionally, Found, got_left, ListName, Active, Passive, Maker, Closure, Given, Next, Place, Claim, ClaimListed, JoinActive, AskActive, LeaveToMake, Make, Fill, NotifyActive, NotifyPassive, Fail, FailNotify, LeaveFull, RefuseActive, Look, JoinPassive, LookListed, AskPassive, LeavePassive, RefusePassive, Try, TryFill, TryNotifyActive, TryNotifyPassive, CancelMake, CancelNotify, CancelLeave, Abandon, Position, Out, At, Content, Empty, BeingMade, Full, action_of, next_of, sets, fills_with, failed, task_by, task_at, place_task, makes_at, in_active, in_passive_at, verdict_of, Change, begins, fills, empties, everyone, deed_of, content_after, Finds, FindsMade, answer_by, is_full, makes, given, gives_something_back, gives_up}
 use Rattle.lock_program.specs.Refusals.{number_of}
-use Rattle.world_base.specs.Steps.{Deed, nothing, changes, does, joins, asks, leaves, notifies, notifies_additionally}
 use Rattle.world_base.specs.table.Ends.{answer_of}
-use Rattle.sync_program.specs.declared.once_cell.Action.TheVariants as act
-use Rattle.world_once_cell.specs.program.Program.{Found, got_left}
+use Rattle.sync_program.specs.declared.once_cell.Action.{Action}
 use Rattle.sync_program.specs.declared.once_cell.Found.TheVariants as found
-use Rattle.sync_program.specs.declared.once_cell.ListName.{ListName}
-use Rattle.sync_program.specs.declared.once_cell.ListName.TheVariants.{Active, Passive}
-use Rattle.world_once_cell.specs.program.Program.{Maker}
-use Rattle.sync_program.specs.declared.once_cell.Maker.TheVariants.{Closure, Given}
-use Rattle.world_once_cell.specs.program.Program.{Next}
 use Rattle.lock_program.specs.declared.end.Next.TheVariants as next
-use Rattle.world_once_cell.specs.program.Program.{Place}
-use Rattle.sync_program.specs.declared.once_cell.Place.TheVariants.{Claim, ClaimListed, JoinActive, AskActive, LeaveToMake, Make, Fill, NotifyActive, NotifyPassive, Fail, FailNotify, LeaveFull, RefuseActive, Look, JoinPassive, LookListed, AskPassive, LeavePassive, RefusePassive, Try, TryFill, TryNotifyActive, TryNotifyPassive, CancelMake, CancelNotify, CancelLeave, Abandon}
-use Rattle.world_once_cell.specs.program.Program.{Position}
-use Rattle.sync_program.specs.declared.once_cell.Position.TheVariants.{Out, At}
-use Rattle.world_once_cell.specs.declared.program.words.Content.{Content}
-use Rattle.world_once_cell.specs.declared.program.words.Content.TheVariants.{Empty, BeingMade, Full}
-use Rattle.world_once_cell.specs.program.Program.{action_of, next_of}
-use Rattle.world_once_cell.specs.machine.Seats.{sets, fills_with, failed, task_by, task_at, task_of as place_task, makes_at, in_active, in_passive_at, verdict_of}
-use Rattle.world_once_cell.specs.program.Deeds.{Change, begins, fills, empties, everyone, deed_of, content_after, Finds, FindsMade}
-use Rattle.world_once_cell.specs.machine.Machine.{answer_by}
 use Rattle.world_once_cell.proofs.of_machine.laws.Kept.{after}
-use Rattle.world_once_cell.specs.State.{is_full}
-use Rattle.world_once_cell.specs.Tasks.{makes, given}
-use Rattle.world_once_cell.specs.Legal.{gives_something_back, gives_up}
 
 -- what a call is decided on after this
 abbrev pub said : Next → Option Answer
@@ -66,28 +36,28 @@ module _ (i : Inputs) (p : ℕ) (c : Content) where
   abbrev pub AllowedAt : Deed Change ListName → Place → Type 0
   AllowedAt nothing x = Unit {0}
   AllowedAt (changes begins) x = (c ≡ Empty) × (makes (place_task x) ≡ true)
-  AllowedAt (changes (fills v)) x = (makes_at (At x) ≡ true) × (action_of x ≡ act.Fill v)
-  AllowedAt (changes empties) x = (makes_at (At x) ≡ true) × (action_of x ≡ act.Empty)
-  AllowedAt (does list joins) x = action_of x ≡ act.Join list
-  AllowedAt (does list asks) x = action_of x ≡ act.Ask list
-  AllowedAt (does list leaves) x = action_of x ≡ act.Leave list
-  AllowedAt (does list (notifies n)) x = (n ≡ 1) × (action_of x ≡ act.Notify list)
-  AllowedAt (does list (notifies_additionally n)) x = (n ≡ everyone) × (action_of x ≡ act.NotifyAll list)
+  AllowedAt (changes (fills v)) x = (makes_at (At x) ≡ true) × (action_of x ≡ Action.Fill v)
+  AllowedAt (changes empties) x = (makes_at (At x) ≡ true) × (action_of x ≡ Action.Empty)
+  AllowedAt (does list joins) x = action_of x ≡ Action.Join list
+  AllowedAt (does list asks) x = action_of x ≡ Action.Ask list
+  AllowedAt (does list leaves) x = action_of x ≡ Action.Leave list
+  AllowedAt (does list (notifies n)) x = (n ≡ 1) × (action_of x ≡ Action.Notify list)
+  AllowedAt (does list (notifies_additionally n)) x = (n ≡ everyone) × (action_of x ≡ Action.NotifyAll list)
 
   -- why a call is refused
   abbrev pub Refuses : Place → Found → Refusal → Type 0
-  Refuses x f refusal.Memory = (i.memory ≡ false) × (is_join x ≡ true) × (deed_of (action_of x) f ≡ nothing)
+  Refuses x f Refusal.Memory = (i.memory ≡ false) × (is_join x ≡ true) × (deed_of (action_of x) f ≡ nothing)
   Refuses x f _ = ⊥
 
   -- why a call is decided on this
   abbrev pub Reason : Place → Found → Answer → Type 0
-  Reason x f (answer.Ready (got.Value v)) = (content_then x f ≡ Full v) × ((own : ℕ) → place_task x ≢ sets own)
-  Reason x f (answer.Ready (got.Taken own)) = (is_full c ≡ true) × (place_task x ≡ sets own)
-  Reason x f (answer.Ready got.Failed) = (x ≡ Fail) × (f ≡ found.Done)
-  Reason x f (answer.Ready _) = ⊥
-  Reason x f (answer.Granted g) = (g ≡ got.Plain) × (c ≡ Empty) × (content_then x f ≡ BeingMade p) × ((v : ℕ) × (x ≡ Try v))
-  Reason x f answer.Pending = ((x ≡ Make Closure) × (f ≡ found.NotYet) × (i.made ≡ made.Pending)) ⊎ ((list : ListName) × (action_of x ≡ act.Ask list) × (f ≡ found.No))
-  Reason x f (answer.Refused n) = (r : Refusal) × (n ≡ number_of r) × Refuses x f r
+  Reason x f (Answer.Ready (Got.Value v)) = (content_then x f ≡ Full v) × ((own : ℕ) → place_task x ≢ sets own)
+  Reason x f (Answer.Ready (Got.Taken own)) = (is_full c ≡ true) × (place_task x ≡ sets own)
+  Reason x f (Answer.Ready Got.Failed) = (x ≡ Fail) × (f ≡ found.Done)
+  Reason x f (Answer.Ready _) = ⊥
+  Reason x f (Answer.Granted g) = (g ≡ Got.Plain) × (c ≡ Empty) × (content_then x f ≡ BeingMade p) × ((v : ℕ) × (x ≡ Try v))
+  Reason x f Answer.Pending = ((x ≡ Make Closure) × (f ≡ found.NotYet) × (i.made ≡ Made.Pending)) ⊎ ((list : ListName) × (action_of x ≡ Action.Ask list) × (f ≡ found.No))
+  Reason x f (Answer.Refused n) = (r : Refusal) × (n ≡ number_of r) × Refuses x f r
   Reason x f _ = Unit {0}
 
   -- what was decided is kept, and its party only gives back; what is decided now has its reason
@@ -111,8 +81,8 @@ module _ (i : Inputs) (p : ℕ) (c : Content) where
     pub held_on : gives_up (deed_of (action_of x) f) ≡ true → is_some (verdict_of x) || makes_at (At x) ≡ true
     pub clear : is_refusal (answer_by (next_of x f)) ≡ true → (in_active (after x f) ≡ 0) × (in_passive_at (after x f) ≡ 0) × (makes_at (after x f) ≡ false)
     pub task : open_at (after x f) ≡ true → TaskThen x (after x f)
-    pub filled : (v : ℕ) → c ≡ BeingMade p → content_then x f ≡ Full v → (said (next_of x f) ≡ Some (answer.Ready (got.Value v))) ⊎ (said (next_of x f) ≡ Some (answer.Granted got.Plain))
-    pub emptied : c ≡ BeingMade p → content_then x f ≡ Empty → (x ≡ CancelMake) ⊎ (said (next_of x f) ≡ Some (answer.Ready got.Failed))
+    pub filled : (v : ℕ) → c ≡ BeingMade p → content_then x f ≡ Full v → (said (next_of x f) ≡ Some (Answer.Ready (Got.Value v))) ⊎ (said (next_of x f) ≡ Some (Answer.Granted Got.Plain))
+    pub emptied : c ≡ BeingMade p → content_then x f ≡ Empty → (x ≡ CancelMake) ⊎ (said (next_of x f) ≡ Some (Answer.Ready Got.Failed))
 
   no_fill : (v : ℕ) → c ≡ BeingMade p → c ≡ Full v → ⊥
   no_fill v m full = let never : BeingMade p ≡ Full v = sym m ∙ full in cc never
@@ -123,27 +93,27 @@ module _ (i : Inputs) (p : ℕ) (c : Content) where
   -- what the maker of an initialisation gave
   pub gave : (k : Maker) (m : Made) (u : ℕ) → FindsMade k m (found.Made u) → fills_with u ≡ given (task_by k) m
   gave (Given v) m u e = cc e
-  gave Closure made.Pending u e = absurd (cc e)
-  gave Closure (made.Value v) u e = cc e
-  gave Closure made.Fail u e = absurd (cc e)
+  gave Closure Made.Pending u e = absurd (cc e)
+  gave Closure (Made.Value v) u e = cc e
+  gave Closure Made.Fail u e = absurd (cc e)
 
   pub gave_failure : (k : Maker) (m : Made) → FindsMade k m found.Failed → failed ≡ given (task_by k) m
   gave_failure (Given v) m e = absurd (cc e)
-  gave_failure Closure made.Pending e = absurd (cc e)
-  gave_failure Closure (made.Value v) e = absurd (cc e)
-  gave_failure Closure made.Fail e = refl
+  gave_failure Closure Made.Pending e = absurd (cc e)
+  gave_failure Closure (Made.Value v) e = absurd (cc e)
+  gave_failure Closure Made.Fail e = refl
 
-  pub pends : (k : Maker) (m : Made) → FindsMade k m found.NotYet → (k ≡ Closure) × (m ≡ made.Pending)
+  pub pends : (k : Maker) (m : Made) → FindsMade k m found.NotYet → (k ≡ Closure) × (m ≡ Made.Pending)
   pends (Given v) m e = absurd (cc e)
-  pends Closure made.Pending e = (refl, refl)
-  pends Closure (made.Value v) e = absurd (cc e)
-  pends Closure made.Fail e = absurd (cc e)
+  pends Closure Made.Pending e = (refl, refl)
+  pends Closure (Made.Value v) e = absurd (cc e)
+  pends Closure Made.Fail e = absurd (cc e)
 
   unexpected : (k : Maker) (m : Made) (f : Found) → FindsMade k m f → (f ≡ found.NotYet) ⊎ (((u : ℕ) × (f ≡ found.Made u)) ⊎ (f ≡ found.Failed))
   unexpected (Given v) m f e = inr (inl (v, e))
-  unexpected Closure made.Pending f e = inl e
-  unexpected Closure (made.Value v) f e = inr (inl (v, e))
-  unexpected Closure made.Fail f e = inr (inr e)
+  unexpected Closure Made.Pending f e = inl e
+  unexpected Closure (Made.Value v) f e = inr (inl (v, e))
+  unexpected Closure Made.Fail f e = inr (inr e)
 
   pub never_found : (k : Maker) (m : Made) (f : Found) → FindsMade k m f → (f ≡ found.NotYet → ⊥) → ((u : ℕ) → f ≡ found.Made u → ⊥) → (f ≡ found.Failed → ⊥) → ⊥
   never_found k m f e a b d = elim (unexpected k m f e) as (λ _. ⊥) [ inl x ↦ a x | inr y ↦ elim y as (λ _. ⊥) [ inl z ↦ b z.0 z.1 | inr z ↦ d z ] ]
@@ -174,8 +144,8 @@ module _ (i : Inputs) (p : ℕ) (c : Content) where
   row q r (ClaimListed (Given o)) (found.Full u) e = record { allowed = tt; judged = (ap is_full e, refl); room = tt; held_on = λ h. cc; clear = λ h. cc; task = λ o. inl refl; filled = λ n m full. absurd (no_fill n m full); emptied = λ m empty. absurd (no_empty m empty) }
   row q r (ClaimListed (Given o)) _ e = absurd e
   row q r (JoinActive k told) found.Done e = record { allowed = refl; judged = tt; room = e; held_on = λ h. cc; clear = λ h. cc; task = λ o. inl refl; filled = λ n m full. absurd (no_fill n m full); emptied = λ m empty. absurd (no_empty m empty) }
-  row q r (JoinActive k true) found.NoMemory e = record { allowed = tt; judged = (refusal.Memory, refl, (e, refl, refl)); room = tt; held_on = λ h. cc; clear = λ h. cc; task = λ o. inl refl; filled = λ n m full. absurd (no_fill n m full); emptied = λ m empty. absurd (no_empty m empty) }
-  row q r (JoinActive k false) found.NoMemory e = record { allowed = tt; judged = (refusal.Memory, refl, (e, refl, refl)); room = tt; held_on = λ h. cc; clear = λ h. (refl, refl, refl); task = λ o. inl refl; filled = λ n m full. absurd (no_fill n m full); emptied = λ m empty. absurd (no_empty m empty) }
+  row q r (JoinActive k true) found.NoMemory e = record { allowed = tt; judged = (Refusal.Memory, refl, (e, refl, refl)); room = tt; held_on = λ h. cc; clear = λ h. cc; task = λ o. inl refl; filled = λ n m full. absurd (no_fill n m full); emptied = λ m empty. absurd (no_empty m empty) }
+  row q r (JoinActive k false) found.NoMemory e = record { allowed = tt; judged = (Refusal.Memory, refl, (e, refl, refl)); room = tt; held_on = λ h. cc; clear = λ h. (refl, refl, refl); task = λ o. inl refl; filled = λ n m full. absurd (no_fill n m full); emptied = λ m empty. absurd (no_empty m empty) }
   row q r (JoinActive k told) _ e = absurd e
   row q r (AskActive k) found.Yes e = record { allowed = refl; judged = tt; room = tt; held_on = λ h. cc; clear = λ h. cc; task = λ o. inl refl; filled = λ n m full. absurd (no_fill n m full); emptied = λ m empty. absurd (no_empty m empty) }
   row q r (AskActive k) found.No e = record { allowed = refl; judged = inr (Active, refl, refl); room = tt; held_on = λ h. cc; clear = λ h. cc; task = λ o. inl refl; filled = λ n m full. absurd (no_fill n m full); emptied = λ m empty. absurd (no_empty m empty) }
@@ -214,8 +184,8 @@ module _ (i : Inputs) (p : ℕ) (c : Content) where
   row q r (Look false) found.BeingMade e = record { allowed = tt; judged = tt; room = tt; held_on = λ h. cc; clear = λ h. cc; task = λ o. inl refl; filled = λ n m full. absurd (no_fill n m full); emptied = λ m empty. absurd (no_empty m empty) }
   row q r (Look false) _ e = absurd e
   row q r (JoinPassive told) found.Done e = record { allowed = refl; judged = tt; room = e; held_on = λ h. cc; clear = λ h. cc; task = λ o. inl refl; filled = λ n m full. absurd (no_fill n m full); emptied = λ m empty. absurd (no_empty m empty) }
-  row q r (JoinPassive true) found.NoMemory e = record { allowed = tt; judged = (refusal.Memory, refl, (e, refl, refl)); room = tt; held_on = λ h. cc; clear = λ h. cc; task = λ o. inl refl; filled = λ n m full. absurd (no_fill n m full); emptied = λ m empty. absurd (no_empty m empty) }
-  row q r (JoinPassive false) found.NoMemory e = record { allowed = tt; judged = (refusal.Memory, refl, (e, refl, refl)); room = tt; held_on = λ h. cc; clear = λ h. (refl, refl, refl); task = λ o. inl refl; filled = λ n m full. absurd (no_fill n m full); emptied = λ m empty. absurd (no_empty m empty) }
+  row q r (JoinPassive true) found.NoMemory e = record { allowed = tt; judged = (Refusal.Memory, refl, (e, refl, refl)); room = tt; held_on = λ h. cc; clear = λ h. cc; task = λ o. inl refl; filled = λ n m full. absurd (no_fill n m full); emptied = λ m empty. absurd (no_empty m empty) }
+  row q r (JoinPassive false) found.NoMemory e = record { allowed = tt; judged = (Refusal.Memory, refl, (e, refl, refl)); room = tt; held_on = λ h. cc; clear = λ h. (refl, refl, refl); task = λ o. inl refl; filled = λ n m full. absurd (no_fill n m full); emptied = λ m empty. absurd (no_empty m empty) }
   row q r (JoinPassive told) _ e = absurd e
   row q r LookListed (found.Full u) e = record { allowed = tt; judged = (e, λ own s. cc s); room = tt; held_on = λ h. cc; clear = λ h. cc; task = λ o. inl refl; filled = λ n m full. absurd (no_fill n m full); emptied = λ m empty. absurd (no_empty m empty) }
   row q r LookListed found.Empty e = record { allowed = tt; judged = tt; room = tt; held_on = λ h. cc; clear = λ h. cc; task = λ o. inl refl; filled = λ n m full. absurd (no_fill n m full); emptied = λ m empty. absurd (no_empty m empty) }

@@ -1,27 +1,6 @@
 -- A table's step as callers see it.
-use Rattle.std.proofs.Common.{◌≡◌, ℕ, Bool, true, false, Some, None, refl, ap, sym, ◌∙◌, subst}
-use Rattle.world_base.specs.declared.moves.Answer.{Answer}
-use Rattle.world_base.specs.declared.moves.Answer.TheVariants as answer
-use Rattle.world_base.specs.declared.moves.Call.{Call}
-use Rattle.world_base.specs.declared.moves.Move.{Move}
-use Rattle.lock_program.specs.declared.refusal.Refusal.TheVariants as refusal
-use Rattle.world_base.specs.declared.standing.Rest.TheVariants as rest
-use Rattle.world_base.specs.declared.standing.Within.{Within}
-use Rattle.world_base.specs.Standings.{call_in, refused}
-use Rattle.world_base.specs.Frame.{is_poll_after_ready}
-use Rattle.world_base.proofs.Equations.{some_eq}
-use Rattle.world_base.specs.table.Stages.{stage_at, call_at, polls_again}
-use Rattle.world_base.specs.table.Tables.{Table, Acted}
-use Rattle.world_base.proofs.of_table.Calls.{call_seen, again_seen}
+use Rattle.world_once_cell.proofs.Prelude.{◌≡◌, ℕ, Bool, true, false, Some, None, refl, ap, sym, ◌∙◌, subst, Answer, Call, Move, Refusal, Rest, Within, call_in, refused, is_poll_after_ready, some_eq, stage_at, call_at, polls_again, Table, Acted, call_seen, again_seen, Place, verdict, OnceCell, IsCell, Moves, knows, position_at, standing_of, HasOneTeller, view_of, call_of, Legal, AnswersAtOnce, IsCellTable, TableSteps, Stands, Steps}
 use Rattle.world_base.proofs.of_table.Ways.{way, by_way}
-use Rattle.world_once_cell.specs.program.Program.{Place}
-use Rattle.world_once_cell.specs.machine.Seats.{verdict}
-use Rattle.world_once_cell.specs.machine.Machine.{OnceCell, IsCell, Moves, knows, position_at}
-use Rattle.world_once_cell.specs.State.{standing_of, HasOneTeller}
-use Rattle.world_once_cell.specs.View.{view_of}
-use Rattle.world_once_cell.specs.Legal.{call_of, Legal}
-use Rattle.world_once_cell.specs.AtOnce.{AnswersAtOnce}
-use Rattle.world_once_cell.specs.Steps.{IsCellTable, TableSteps, Stands, Steps}
 use Rattle.world_once_cell.proofs.table.Seen as seen
 use Rattle.world_once_cell.proofs.step.Idle as idle
 use Rattle.world_once_cell.proofs.step.Owns.{well}
@@ -34,7 +13,7 @@ abbrev pub known_calls : OnceCell → ℕ → Call → Bool
 known_calls s p = knows
 
 module _ (t u : Table OnceCell) (m : Move) (a : Answer) (tl : IsCell t.machine) (tf : IsCellTable t) (ul : IsCell u.machine) (uf : IsCellTable u) where
-  carried : (w : Within) → call_at knows (stage_at t.stages m.party) m.what ≡ Some w → polls_again (stage_at t.stages m.party) m.what ≡ false → Acted known_calls rest.Finished Moves w t m a u → Acting t u m a w
+  carried : (w : Within) → call_at knows (stage_at t.stages m.party) m.what ≡ Some w → polls_again (stage_at t.stages m.party) m.what ≡ false → Acted known_calls Rest.Finished Moves w t m a u → Acting t u m a w
   carried w e f d =
       let turn = here (stage_at t.stages m.party) m.what w (position_at t.machine.positions m.party) (tf.stands m.party d.inside).goes e f in
       let same : turn.from ≡ d.acts.from = some_eq (sym turn.starts ∙ d.acts.starts) in
@@ -59,10 +38,10 @@ module _ (t u : Table OnceCell) (m : Move) (a : Answer) (tl : IsCell t.machine) 
       }
 
   -- what holds where nothing is done, and where the machine acted, holds of each step
-  pub by_step : (P : Answer → Table OnceCell → Type 0) → (call_at knows (stage_at t.stages m.party) m.what ≡ None → P answer.NotPossible t)
-      → ((w : Within) → call_at knows (stage_at t.stages m.party) m.what ≡ Some w → polls_again (stage_at t.stages m.party) m.what ≡ true → P (refused refusal.Finished) t)
+  pub by_step : (P : Answer → Table OnceCell → Type 0) → (call_at knows (stage_at t.stages m.party) m.what ≡ None → P Answer.NotPossible t)
+      → ((w : Within) → call_at knows (stage_at t.stages m.party) m.what ≡ Some w → polls_again (stage_at t.stages m.party) m.what ≡ true → P (refused Refusal.Finished) t)
       → ((w : Within) → Acting t u m a w → P a u) → TableSteps t m a u → P a u
-  by_step P none again act step = by_way known_calls rest.Finished Moves t u m a P none again (λ w e f d. act w (carried w e f d)) (way known_calls rest.Finished Moves t u m a step)
+  by_step P none again act step = by_way known_calls Rest.Finished Moves t u m a P none again (λ w e f d. act w (carried w e f d)) (way known_calls Rest.Finished Moves t u m a step)
 
   stands : (x : Table OnceCell) → IsCell x.machine → IsCellTable x → HasOneTeller (view_of x) → Stands (view_of x)
   stands x laws fits one = record { seen = refl; cell = laws; fits = fits; one_teller = one }

@@ -1,37 +1,8 @@
 -- At most one party fills the cell, or has filled it and has still to tell.
-use Rattle.std.proofs.Common.{◌≡◌, ◌≢◌, ℕ, ◌⊎◌, inl, inr, Bool, true, false, Option, Some, None, refl, arith, ap, sym, ◌∙◌}
-use Rattle.std.proofs.Math.Decide.{ℕ_discrete}
+use Rattle.world_once_cell.proofs.Prelude.{◌≡◌, ◌≢◌, ℕ, ◌⊎◌, inl, inr, Bool, true, false, Option, Some, None, refl, arith, ap, sym, ◌∙◌, ℕ_discrete, Answer, Call, Move, What, Begin, Rest, Stage, Outside, Inside, Forgotten, is_outside, is_possible, stage_at, stands_as, Table, past_last, by_stage_or_past, Closure, Given, Claim, ClaimListed, JoinActive, AskActive, LeaveToMake, Make, Fill, NotifyActive, NotifyPassive, LeaveFull, RefuseActive, Try, TryFill, TryNotifyActive, TryNotifyPassive, Out, ToMake, WaitingToMake, Making, ToWait, Waiting, At, Content, BeingMade, Full, Maker, Position, Task, no_task, fills_with, task_by, task_at, makes_at, value_known, verdict, OnceCell, IsCell, goes_with, knows, position_at, World, standing_of, task_of, is_empty, is_full, HasOneTeller, new_world, task_in, is_open, view_of, Legal, AnswersAtOnce, is_try, IsCellTable}
 use Rattle.std.proofs.lemmas.Bool.{true≢false}
-use Rattle.world_base.specs.declared.moves.Answer.{Answer}
-use Rattle.world_base.specs.declared.moves.Answer.TheVariants as answer
-use Rattle.world_base.specs.declared.moves.Call.TheVariants as call
-use Rattle.world_base.specs.declared.moves.Move.{Move}
-use Rattle.world_base.specs.declared.moves.What.{What}
-use Rattle.world_base.specs.declared.moves.What.TheVariants.{Begin}
-use Rattle.world_base.specs.declared.standing.Rest.TheVariants as rest
-use Rattle.world_base.specs.declared.standing.Stage.{Stage}
-use Rattle.world_base.specs.declared.standing.Stage.TheVariants.{Outside, Inside, Forgotten}
-use Rattle.world_base.specs.Standings.{is_outside, is_possible}
-use Rattle.world_base.specs.table.Stages.{stage_at, stands_as}
-use Rattle.world_base.specs.table.Tables.{Table}
 use Rattle.world_base.proofs.Alike.{all_alike}
 use Rattle.world_base.proofs.of_any_world.Endings.{ends_outside}
-use Rattle.world_base.proofs.of_table.Mapped.{past_last}
-use Rattle.world_base.proofs.of_table.Past.{by_stage_or_past}
-use Rattle.sync_program.specs.declared.once_cell.Maker.TheVariants.{Closure, Given}
-use Rattle.sync_program.specs.declared.once_cell.Place.TheVariants.{Claim, ClaimListed, JoinActive, AskActive, LeaveToMake, Make, Fill, NotifyActive, NotifyPassive, LeaveFull, RefuseActive, Try, TryFill, TryNotifyActive, TryNotifyPassive}
-use Rattle.sync_program.specs.declared.once_cell.Position.TheVariants.{Out, ToMake, WaitingToMake, Making, ToWait, Waiting, At}
-use Rattle.world_once_cell.specs.declared.program.words.Content.{Content}
-use Rattle.world_once_cell.specs.declared.program.words.Content.TheVariants.{BeingMade, Full}
-use Rattle.world_once_cell.specs.program.Program.{Maker, Position}
-use Rattle.world_once_cell.specs.machine.Seats.{Task, no_task, fills_with, task_by, task_at, makes_at, value_known, verdict}
-use Rattle.world_once_cell.specs.machine.Machine.{OnceCell, IsCell, goes_with, knows, position_at}
-use Rattle.world_once_cell.specs.State.{World, standing_of, task_of, is_empty, is_full, HasOneTeller, new_world}
-use Rattle.world_once_cell.specs.Tasks.{task_in, is_open}
-use Rattle.world_once_cell.specs.View.{view_of}
-use Rattle.world_once_cell.specs.Legal.{Legal}
-use Rattle.world_once_cell.specs.AtOnce.{AnswersAtOnce, is_try}
-use Rattle.world_once_cell.specs.Steps.{IsCellTable}
 use Rattle.world_once_cell.proofs.of_machine.laws.Contents.{maker_is}
 use Rattle.world_once_cell.proofs.table.Seen as seen
 
@@ -53,10 +24,10 @@ fills_inside s (WaitingToMake k) n g e = absurd (never_by k n e)
 fills_inside s (Making k) n g e = absurd (never_by k n e)
 fills_inside s ToWait n g e = absurd (cc e)
 fills_inside s Waiting n g e = absurd (cc e)
-fills_inside (Outside rest.Idle) (At y) n g e = absurd (cc g)
-fills_inside (Outside rest.Pending) (At y) n g e = absurd (cc g)
-fills_inside (Outside rest.Holding) (At y) n g e = absurd (cc g)
-fills_inside (Outside rest.Finished) (At y) n g e = absurd (cc g)
+fills_inside (Outside Rest.Idle) (At y) n g e = absurd (cc g)
+fills_inside (Outside Rest.Pending) (At y) n g e = absurd (cc g)
+fills_inside (Outside Rest.Holding) (At y) n g e = absurd (cc g)
+fills_inside (Outside Rest.Finished) (At y) n g e = absurd (cc g)
 fills_inside Forgotten (At y) n g e = absurd (cc g)
 fills_inside (Inside w) (At (Claim k told)) n g e = absurd (never_by k n e)
 fills_inside (Inside w) (At (ClaimListed k)) n g e = absurd (never_by k n e)
@@ -100,15 +71,15 @@ module _ (t : Table OnceCell) (laws : IsCell t.machine) (fits : IsCellTable t) w
 -- ---- one step
 
 tries : (what : What) (n : ℕ) → task_in what ≡ Some (fills_with n) → is_try what ≡ true
-tries (Begin (call.TrySet v) i) n e = refl
-tries (Begin call.Initialize i) n e = absurd (cc e)
-tries (Begin (call.Set v) i) n e = absurd (cc e)
-tries (Begin call.Wait i) n e = absurd (cc e)
-tries (Begin call.Drop i) n e = absurd (cc e)
+tries (Begin (Call.TrySet v) i) n e = refl
+tries (Begin Call.Initialize i) n e = absurd (cc e)
+tries (Begin (Call.Set v) i) n e = absurd (cc e)
+tries (Begin Call.Wait i) n e = absurd (cc e)
+tries (Begin Call.Drop i) n e = absurd (cc e)
 tries _ n e = absurd (cc e)
 
-not_stepped : (a : Answer) → a ≡ answer.None → a ≢ answer.Stepped
-not_stepped a e h = let never : answer.None ≡ answer.Stepped = sym e ∙ h in cc never
+not_stepped : (a : Answer) → a ≡ Answer.None → a ≢ Answer.Stepped
+not_stepped a e h = let never : Answer.None ≡ Answer.Stepped = sym e ∙ h in cc never
 
 same_maker : (p q : ℕ) → BeingMade p ≡ BeingMade q → p ≡ q
 same_maker p q e = cc
@@ -131,8 +102,8 @@ module _ (old new : World) (m : Move) (a : Answer) (possible : is_possible a ≡
     by_empty : (b : Bool) → is_empty old.cell ≡ b → is_empty old.cell ≡ true
     by_empty true e = e
     by_empty false e =
-        let none : a ≡ answer.None = rw e at (at_once.tried is possible).answered in
-        let out = ends_outside standing_of (λ w q. knows) rest.Finished old m a new legal.possible legal.ends_properly (not_stepped a none) possible in
+        let none : a ≡ Answer.None = rw e at (at_once.tried is possible).answered in
+        let out = ends_outside standing_of (λ w q. knows) Rest.Finished old m a new legal.possible legal.ends_properly (not_stepped a none) possible in
         absurd (true≢false (sym out ∙ inside))
 
   was : (n : ℕ) → task_of new p ≡ fills_with n → Was n

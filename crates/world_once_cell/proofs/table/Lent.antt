@@ -1,19 +1,6 @@
 -- A value is put in the World as in its table.
-use Rattle.std.proofs.Common.{◌≡◌, ℕ, true, List, Option, ap, sym, ◌∙◌}
-use Rattle.std.specs.List.{list_all}
-use Rattle.lock_event.specs.declared.event.Entry.{Entry}
-use Rattle.world_base.specs.Standings.{Standing, is_outside_stage}
-use Rattle.world_base.specs.table.Tables.{Table}
-use Rattle.world_base.proofs.of_table.Views.{rest_seen}
-use Rattle.world_once_cell.specs.declared.program.words.Content.{Content}
-use Rattle.world_once_cell.specs.machine.Seats.{Task, verdict}
-use Rattle.world_once_cell.specs.machine.Machine.{OnceCell, position_at}
-use Rattle.world_once_cell.specs.State.{World}
-use Rattle.world_once_cell.specs.View.{view_of}
-use Rattle.world_once_cell.specs.Laws.{is_at_rest}
-use Rattle.world_base.specs.table.Lending.{table_with}
+use Rattle.world_once_cell.proofs.Prelude.{◌≡◌, ℕ, true, List, Option, ap, sym, ◌∙◌, list_all, Entry, Standing, is_outside_stage, Table, rest_seen, Content, Task, verdict, OnceCell, position_at, World, view_of, is_at_rest, table_with, with_value}
 use Rattle.world_base.proofs.of_table.Lending.{lent_seen}
-use Rattle.world_once_cell.specs.machine.Machine.{with_value}
 use Rattle.world_once_cell.specs.Lending.{world_with}
 
 same_world : (c : Content) (es fs : List (Entry ℕ)) (ts ts' : List Standing) (ns : List Task) (t : Table OnceCell) → ts ≡ ts'

@@ -1,15 +1,5 @@
 -- What callers see of a machine, party by party.
-use Rattle.std.proofs.Common.{◌≡◌, ℕ, List}
-use Rattle.world_base.specs.table.Stages.{stage_at, stands_as}
-use Rattle.world_base.specs.table.Tables.{Table}
-use Rattle.world_base.proofs.of_table.Mapped.{mapped_at}
-use Rattle.world_base.proofs.of_table.Views.{standings_at}
-use Rattle.world_once_cell.specs.program.Program.{Position}
-use Rattle.sync_program.specs.declared.once_cell.Position.TheVariants.{Out}
-use Rattle.world_once_cell.specs.machine.Seats.{task_at, verdict}
-use Rattle.world_once_cell.specs.machine.Machine.{OnceCell, position_at}
-use Rattle.world_once_cell.specs.State.{standing_of, task_of}
-use Rattle.world_once_cell.specs.View.{view_of}
+use Rattle.world_once_cell.proofs.Prelude.{◌≡◌, ℕ, List, stage_at, stands_as, Table, mapped_at, standings_at, Position, Out, task_at, verdict, OnceCell, position_at, standing_of, task_of, view_of}
 
 module _ (t : Table OnceCell) where
   abbrev xs : List Position

@@ -1,69 +1,15 @@
 -- What whole calls promise.
-use Rattle.std.proofs.Common.{◌≡◌, ◌≢◌, ℕ, ◌<◌, ◌⊎◌, inl, inr, Bool, true, false, List, length, Option, Some, None, refl, arith, ap, sym, ◌∙◌, subst}
-use Rattle.lock_event.specs.declared.event.Entry.{Entry}
-use Rattle.lock_event.specs.Lists.{is_marked_at, marked_count}
-use Rattle.world_base.specs.queue.Parties.{is_party, entries_of}
-use Rattle.world_base.specs.declared.moves.Answer.{Answer}
-use Rattle.world_base.specs.declared.moves.Answer.TheVariants as answer
-use Rattle.world_base.specs.declared.moves.Call.{Call}
-use Rattle.world_base.specs.declared.moves.Call.TheVariants as call
-use Rattle.world_base.specs.declared.moves.Got.{Got}
-use Rattle.world_base.specs.declared.moves.Got.TheVariants as got
-use Rattle.world_base.specs.declared.moves.Inputs.{Inputs}
-use Rattle.world_base.specs.declared.moves.Move.{Move}
-use Rattle.world_base.specs.declared.moves.What.{What}
-use Rattle.world_base.specs.declared.moves.What.TheVariants.{Begin, Go}
-use Rattle.lock_program.specs.declared.refusal.Refusal.TheVariants as refusal
-use Rattle.world_base.specs.declared.standing.Rest.TheVariants as rest
-use Rattle.world_base.specs.declared.standing.Stage.{Stage}
-use Rattle.world_base.specs.declared.standing.Stage.TheVariants.{Outside, Inside, Forgotten}
-use Rattle.world_base.specs.declared.standing.Within.{Within}
-use Rattle.world_base.specs.Standings.{Standing, outside, inputs_of, call_in, refused}
-use Rattle.world_base.specs.Frame.{is_poll_after_ready, is_refusal}
-use Rattle.world_base.specs.Steps.{notifies, list_after}
-use Rattle.world_base.proofs.Equations.{some_none}
-use Rattle.world_base.specs.table.Stages.{stage_at, stands_as, call_at, polls_again}
-use Rattle.world_base.specs.table.Tables.{Table}
-use Rattle.world_base.proofs.of_table.Calls.{call_seen, again_seen}
-use Rattle.world_base.proofs.of_table.Mapped.{past_last}
-use Rattle.world_base.proofs.of_table.Past.{by_stage_or_past}
-use Rattle.world_once_cell.specs.program.Program.{Action}
+use Rattle.world_once_cell.proofs.Prelude.{◌≡◌, ◌≢◌, ℕ, ◌<◌, ◌⊎◌, inl, inr, Bool, true, false, List, length, Option, Some, None, refl, arith, ap, sym, ◌∙◌, subst, Entry, is_marked_at, marked_count, is_party, entries_of, Answer, Call, Got, Inputs, Move, What, Begin, Go, Refusal, Rest, Stage, Outside, Inside, Forgotten, Within, Standing, outside, inputs_of, call_in, refused, is_poll_after_ready, is_refusal, notifies, list_after, some_none, stage_at, stands_as, call_at, polls_again, Table, call_seen, again_seen, past_last, by_stage_or_past, Action, Found, ListName, Active, Passive, Maker, Closure, Given, Place, Claim, ClaimListed, JoinActive, AskActive, LeaveToMake, Make, Fill, NotifyActive, NotifyPassive, Fail, FailNotify, LeaveFull, RefuseActive, Look, JoinPassive, LookListed, AskPassive, LeavePassive, RefusePassive, CancelMake, CancelNotify, Position, Out, At, Content, Empty, BeingMade, Full, got_of, action_of, next_of, Task, no_task, initializes, sets, waits_only, fills_with, failed, task_by, task_at, place_task, in_active, verdict, list_of, deed_of, content_after, active_after, passive_after, Finds, OnceCell, IsCell, knows, goes_with, runs, is_maker, position_at, answer_by, World, list_in, standing_of, task_of, view_of, or_before, task_then, given, call_of, is_first_making, got_by, IsCellTable, TableSteps, Stands, Steps, ◌-◌, Notified, going_on, moves_of, answers_of, beginning, Known, HoldsWell, learn, Runs}
 use Rattle.sync_program.specs.declared.once_cell.Action.TheVariants as act
-use Rattle.world_once_cell.specs.program.Program.{Found}
 use Rattle.sync_program.specs.declared.once_cell.Found.TheVariants as found
-use Rattle.sync_program.specs.declared.once_cell.ListName.{ListName}
-use Rattle.sync_program.specs.declared.once_cell.ListName.TheVariants.{Active, Passive}
-use Rattle.world_once_cell.specs.program.Program.{Maker}
-use Rattle.sync_program.specs.declared.once_cell.Maker.TheVariants.{Closure, Given}
-use Rattle.world_once_cell.specs.program.Program.{Place}
-use Rattle.sync_program.specs.declared.once_cell.Place.TheVariants.{Claim, ClaimListed, JoinActive, AskActive, LeaveToMake, Make, Fill, NotifyActive, NotifyPassive, Fail, FailNotify, LeaveFull, RefuseActive, Look, JoinPassive, LookListed, AskPassive, LeavePassive, RefusePassive, CancelMake, CancelNotify}
-use Rattle.world_once_cell.specs.program.Program.{Position}
-use Rattle.sync_program.specs.declared.once_cell.Position.TheVariants.{Out, At}
-use Rattle.world_once_cell.specs.declared.program.words.Content.{Content}
-use Rattle.world_once_cell.specs.declared.program.words.Content.TheVariants.{Empty, BeingMade, Full}
-use Rattle.world_once_cell.specs.program.Program.{got_of, action_of, next_of}
-use Rattle.world_once_cell.specs.machine.Seats.{Task, no_task, initializes, sets, waits_only, fills_with, failed, task_by, task_at, task_of as place_task, in_active, verdict}
-use Rattle.world_once_cell.specs.program.Deeds.{list_of, deed_of, content_after, active_after, passive_after, Finds}
-use Rattle.world_once_cell.specs.machine.Machine.{OnceCell, IsCell, knows, goes_with, runs, is_maker, position_at, answer_by}
 use Rattle.world_once_cell.proofs.of_machine.laws.Kept.{after}
 use Rattle.world_once_cell.proofs.of_machine.stages.Turns.{fits}
 use Rattle.world_once_cell.proofs.of_machine.laws.Contents as contents
-use Rattle.world_once_cell.specs.State.{World, list_in, standing_of, task_of}
-use Rattle.world_once_cell.specs.View.{view_of}
-use Rattle.world_once_cell.specs.Tasks.{or_before, task_then, given}
-use Rattle.world_once_cell.specs.Legal.{call_of}
-use Rattle.world_once_cell.specs.AtOnce.{is_first_making, got_by}
-use Rattle.world_once_cell.specs.Steps.{IsCellTable, TableSteps, Stands, Steps}
 use Rattle.world_once_cell.proofs.table.Seen as seen
-use Rattle.std.proofs.Common.{◌-◌}
 use Rattle.lock_event.proofs.Marks.{length-mark_waiting}
 use Rattle.lock_event.proofs.Counts.{marked_count-notified}
-use Rattle.lock_event.specs.declared.event.Mark.TheVariants.{Notified}
-use Rattle.world_base.specs.Whole.{going_on, moves_of, answers_of}
 use Rattle.world_base.proofs.Bounds.{marked_listed}
-use Rattle.world_base.specs.any_world.Steps.{beginning}
 use Rattle.world_base.proofs.of_any_world.Runs.{Onward, along}
-use Rattle.world_once_cell.specs.Runs.{Known, HoldsWell, learn, Runs}
 use Rattle.world_once_cell.specs.Bound.{ComesTo, Promises}
 use Rattle.world_once_cell.proofs.step.Rows.{content_then, gave, gave_failure, pends, never_found}
 use Rattle.world_once_cell.proofs.step.Idle.{again, making_possible}
@@ -82,18 +28,18 @@ notified_some l some = let long : 0 < length l = rw (length-mark_waiting Notifie
 
 -- a party that is at a place is inside a call, and may go on
 stage_goes : (i : Inputs) (y : Place) (z : Stage) → goes_with z (At y) ≡ true → call_at knows z (Go i) ≡ None → ⊥
-stage_goes i y (Outside rest.Idle) h e = cc h
-stage_goes i y (Outside rest.Pending) h e = cc h
-stage_goes i y (Outside rest.Holding) h e = cc h
-stage_goes i y (Outside rest.Finished) h e = cc h
+stage_goes i y (Outside Rest.Idle) h e = cc h
+stage_goes i y (Outside Rest.Pending) h e = cc h
+stage_goes i y (Outside Rest.Holding) h e = cc h
+stage_goes i y (Outside Rest.Finished) h e = cc h
 stage_goes i y (Inside v) h e = cc e
 stage_goes i y Forgotten h e = cc h
 
 again_goes : (i : Inputs) (z : Stage) → polls_again z (Go i) ≡ true → ⊥
-again_goes i (Outside rest.Idle) h = cc h
-again_goes i (Outside rest.Pending) h = cc h
-again_goes i (Outside rest.Holding) h = cc h
-again_goes i (Outside rest.Finished) h = cc h
+again_goes i (Outside Rest.Idle) h = cc h
+again_goes i (Outside Rest.Pending) h = cc h
+again_goes i (Outside Rest.Holding) h = cc h
+again_goes i (Outside Rest.Finished) h = cc h
 again_goes i (Inside v) h = cc h
 again_goes i Forgotten h = cc h
 
@@ -109,10 +55,10 @@ abbrev Notified_some : List (Entry ℕ) → Type 0
 Notified_some l = 0 < length l → 0 < marked_count l
 
 abbrev Ends : Task → ℕ → Answer → Content → List (Entry ℕ) → Type 0
-Ends (fills_with x) p a c l = (a ≡ answer.Ready (got.Value x)) × (c ≡ Full x)
-Ends failed p a c l = (a ≡ answer.Ready got.Failed) × (c ≡ Empty) × Notified_some l
-Ends no_task p a c l = (a ≡ answer.GivenBack) × (c ≡ Empty) × Notified_some l
-Ends _ p a c l = (a ≡ answer.Pending) × (c ≡ BeingMade p)
+Ends (fills_with x) p a c l = (a ≡ Answer.Ready (Got.Value x)) × (c ≡ Full x)
+Ends failed p a c l = (a ≡ Answer.Ready Got.Failed) × (c ≡ Empty) × Notified_some l
+Ends no_task p a c l = (a ≡ Answer.GivenBack) × (c ≡ Empty) × Notified_some l
+Ends _ p a c l = (a ≡ Answer.Pending) × (c ≡ BeingMade p)
 
 comes : (t : Task) (p : ℕ) (a : Answer) (v : World) → Ends t p a v.cell v.active → ComesTo t p a v
 comes (fills_with x) p a v e = e
@@ -142,13 +88,13 @@ module _ (p : ℕ) (i : Inputs) (t : Task) where
     active_then y f = active_after p (deed_of (action_of y) f) q
 
     record Goes_on (y : Place) (f : Found) : Type 0 where
-      pub going : answer_by (next_of y f) ≡ answer.Stepped → (z : Place) × (after y f ≡ At z) × Coming z (content_then i p c y f) (active_then y f)
-      pub ended : answer_by (next_of y f) ≢ answer.Stepped → Ends t p (answer_by (next_of y f)) (content_then i p c y f) (active_then y f)
+      pub going : answer_by (next_of y f) ≡ Answer.Stepped → (z : Place) × (after y f ≡ At z) × Coming z (content_then i p c y f) (active_then y f)
+      pub ended : answer_by (next_of y f) ≢ Answer.Stepped → Ends t p (answer_by (next_of y f)) (content_then i p c y f) (active_then y f)
 
-    on : (y : Place) (f : Found) (z : Place) → after y f ≡ At z → answer_by (next_of y f) ≡ answer.Stepped → Coming z (content_then i p c y f) (active_then y f) → Goes_on y f
+    on : (y : Place) (f : Found) (z : Place) → after y f ≡ At z → answer_by (next_of y f) ≡ Answer.Stepped → Coming z (content_then i p c y f) (active_then y f) → Goes_on y f
     on y f z e s h = record { going = λ g. (z, e, h); ended = λ n. absurd (n s) }
 
-    done : (y : Place) (f : Found) → (answer_by (next_of y f) ≡ answer.Stepped → ⊥) → Ends t p (answer_by (next_of y f)) (content_then i p c y f) (active_then y f) → Goes_on y f
+    done : (y : Place) (f : Found) → (answer_by (next_of y f) ≡ Answer.Stepped → ⊥) → Ends t p (answer_by (next_of y f)) (content_then i p c y f) (active_then y f) → Goes_on y f
     done y f n h = record { going = λ s. absurd (n s); ended = λ _. h }
 
     not_made : (n : ℕ) → c ≡ BeingMade n → c ≡ Empty → ⊥
@@ -172,7 +118,7 @@ module _ (p : ℕ) (i : Inputs) (t : Task) where
     goes_on (Make k) found.Failed e h = on (Make k) found.Failed Fail refl refl (gave_failure i p c k i.made e ∙ h.1)
     goes_on (Make Closure) found.NotYet e h = (
         let is : initializes ≡ t = sym (ap (given initializes) (pends i p c Closure i.made e).1) ∙ h.1 in
-        done (Make Closure) found.NotYet (λ s. cc s) (by_task initializes answer.Pending c q is (refl, h.0))
+        done (Make Closure) found.NotYet (λ s. cc s) (by_task initializes Answer.Pending c q is (refl, h.0))
         )
     goes_on (Make (Given o)) found.NotYet e h = absurd (cc e)
     goes_on (Make k) _ e h = absurd (never_found i p c k i.made _ e (λ x. cc x) (λ u x. cc x) (λ x. cc x))
@@ -180,15 +126,15 @@ module _ (p : ℕ) (i : Inputs) (t : Task) where
     goes_on (Fill v) _ e h = absurd e
     goes_on (NotifyActive v) found.Done e h = on (NotifyActive v) found.Done (NotifyPassive v) refl refl h
     goes_on (NotifyActive v) _ e h = absurd e
-    goes_on (NotifyPassive v) found.Done e h = done (NotifyPassive v) found.Done (λ s. cc s) (by_task (fills_with v) (answer.Ready (got.Value v)) c q h.1 (refl, h.0))
+    goes_on (NotifyPassive v) found.Done e h = done (NotifyPassive v) found.Done (λ s. cc s) (by_task (fills_with v) (Answer.Ready (Got.Value v)) c q h.1 (refl, h.0))
     goes_on (NotifyPassive v) _ e h = absurd e
     goes_on Fail found.Done e h = on Fail found.Done FailNotify refl refl (refl, h)
     goes_on Fail _ e h = absurd e
-    goes_on FailNotify found.Done e h = done FailNotify found.Done (λ s. cc s) (by_task failed (answer.Ready got.Failed) c (list_after p (notifies 1) q) h.1 (refl, h.0, notified_some q))
+    goes_on FailNotify found.Done e h = done FailNotify found.Done (λ s. cc s) (by_task failed (Answer.Ready Got.Failed) c (list_after p (notifies 1) q) h.1 (refl, h.0, notified_some q))
     goes_on FailNotify _ e h = absurd e
     goes_on CancelMake found.Done e h = on CancelMake found.Done CancelNotify refl refl (refl, h)
     goes_on CancelMake _ e h = absurd e
-    goes_on CancelNotify found.Done e h = done CancelNotify found.Done (λ s. cc s) (by_task no_task answer.GivenBack c (list_after p (notifies 1) q) h.1 (refl, h.0, notified_some q))
+    goes_on CancelNotify found.Done e h = done CancelNotify found.Done (λ s. cc s) (by_task no_task Answer.GivenBack c (list_after p (notifies 1) q) h.1 (refl, h.0, notified_some q))
     goes_on CancelNotify _ e h = absurd e
     goes_on _ f e h = absurd h
 
@@ -250,7 +196,7 @@ module _ (p : ℕ) (i : Inputs) (t : Task) where
         again_here : is_poll_after_ready (standing_of w p) (Begin c i) ≡ polls_again (stage_at w.behind.stages p) (Begin c i)
         again_here = ap (λ z. is_poll_after_ready z (Begin c i)) standing_here ∙ again_seen (verdict (position_at w.behind.machine.positions p)) (stage_at w.behind.stages p) (Begin c i)
 
-  pub comes_to : (known : Known) (w : World) (c : Call) (n : ℕ) (a : Answer) (v : World) → Runs known w (moves_of p c i n) (answers_of n a) v → a ≢ answer.Stepped → Begins w c → ComesTo t p a v
+  pub comes_to : (known : Known) (w : World) (c : Call) (n : ℕ) (a : Answer) (v : World) → Runs known w (moves_of p c i n) (answers_of n a) v → a ≢ Answer.Stepped → Begins w c → ComesTo t p a v
   comes_to known w c n a v runs ended g = along Steps learn HoldsWell p i IsComing (ComesTo t p) comes_on known n w (beginning p c i) a v (λ b x s. comes_begun w c b x g s) ended runs
 
 -- ---- the beginnings
@@ -275,13 +221,13 @@ active_is w st = ap (λ z. z.active) st.seen
 passive_is : (w : World) (st : Stands w) → w.passive ≡ w.behind.machine.passive
 passive_is w st = ap (λ z. z.passive) st.seen
 
-poll_possible : (s : Standing) (i : Inputs) (c : Call) → (c ≡ call.Poll) ⊎ (c ≡ call.Drop) → s ≡ outside rest.Pending → call_in knows s (Begin c i) ≡ None → ⊥
-poll_possible s i call.Poll which e none = let P : Standing → Type 0 = λ x. call_in knows x (Begin call.Poll i) ≡ None in let never : P (outside rest.Pending) = subst P e none in cc never
-poll_possible s i call.Drop which e none = let P : Standing → Type 0 = λ x. call_in knows x (Begin call.Drop i) ≡ None in let never : P (outside rest.Pending) = subst P e none in cc never
+poll_possible : (s : Standing) (i : Inputs) (c : Call) → (c ≡ Call.Poll) ⊎ (c ≡ Call.Drop) → s ≡ outside Rest.Pending → call_in knows s (Begin c i) ≡ None → ⊥
+poll_possible s i Call.Poll which e none = let P : Standing → Type 0 = λ x. call_in knows x (Begin Call.Poll i) ≡ None in let never : P (outside Rest.Pending) = subst P e none in cc never
+poll_possible s i Call.Drop which e none = let P : Standing → Type 0 = λ x. call_in knows x (Begin Call.Drop i) ≡ None in let never : P (outside Rest.Pending) = subst P e none in cc never
 poll_possible s i _ (inl e) h none = cc e
 poll_possible s i _ (inr e) h none = cc e
 
-pending_first : (s : Standing) (what : What) → s ≡ outside rest.Pending → is_poll_after_ready s what ≡ true → ⊥
+pending_first : (s : Standing) (what : What) → s ≡ outside Rest.Pending → is_poll_after_ready s what ≡ true → ⊥
 pending_first s what e h = (again s what h).pending e
 
 task_by_none : (o : Option Task) (b d : Task) → o ≡ None → or_before o b ≡ d → b ≡ d
@@ -308,19 +254,19 @@ module _ (p : ℕ) (i : Inputs) (w : World) where
         );
   }
 
-  poll_task : (b : Answer) (y : World) (s : Steps w (beginning p call.Poll i) b y) (z : Within) (k : Acting w.behind y.behind (beginning p call.Poll i) b z) → task_of w p ≡ place_task k.from
+  poll_task : (b : Answer) (y : World) (s : Steps w (beginning p Call.Poll i) b y) (z : Within) (k : Acting w.behind y.behind (beginning p Call.Poll i) b z) → task_of w p ≡ place_task k.from
   poll_task b y s z k = task_is w p s.did.stood ∙ k.here.task
 
   -- the poll of a party that was told
-  solo_begins : standing_of w p ≡ outside rest.Pending → is_marked_at (is_party p) w.active ≡ true → w.cell ≡ Empty → Begins p i (given (task_of w p) i.made) w call.Poll
+  solo_begins : standing_of w p ≡ outside Rest.Pending → is_marked_at (is_party p) w.active ≡ true → w.cell ≡ Empty → Begins p i (given (task_of w p) i.made) w Call.Poll
   solo_begins pending marked empty = record {
-    possible = λ none. poll_possible (standing_of w p) i call.Poll (inl refl) pending none;
-    first = λ f. pending_first (standing_of w p) (Begin call.Poll i) pending f;
+    possible = λ none. poll_possible (standing_of w p) i Call.Poll (inl refl) pending none;
+    first = λ f. pending_first (standing_of w p) (Begin Call.Poll i) pending f;
     from = λ b y s z k. (
         let st = s.did.stood in
         let listed : 0 < entries_of p w.active = marked_listed p w.active marked in
         let some : 0 < in_active x = rw (sym (ap (entries_of p) (active_is w st) ∙ st.cell.active_owners p)) listed in
-        let d = (entered_at w (beginning p call.Poll i) b y s z k).in_active refl (standing_at w p st ∙ pending) some in
+        let d = (entered_at w (beginning p Call.Poll i) b y s z k).in_active refl (standing_at w p st ∙ pending) some in
         let task : task_of w p ≡ task_by d.0 = poll_task b y s z k ∙ ap place_task d.1 in
         let R : Place → Type 0 = λ e. Coming p i (given (task_of w p) i.made) e w.behind.machine.content w.behind.machine.active in
         subst R (sym d.1) (ap (is_marked_at (is_party p)) (sym (active_is w st)) ∙ marked, sym (cell_is w st) ∙ empty, ap (λ e. given e i.made) (sym task))
@@ -328,13 +274,13 @@ module _ (p : ℕ) (i : Inputs) (w : World) where
   }
 
   -- the poll of the maker
-  maker_begins : standing_of w p ≡ outside rest.Pending → is_maker w.cell p ≡ true → Begins p i (given (task_of w p) i.made) w call.Poll
+  maker_begins : standing_of w p ≡ outside Rest.Pending → is_maker w.cell p ≡ true → Begins p i (given (task_of w p) i.made) w Call.Poll
   maker_begins pending making = record {
-    possible = λ none. poll_possible (standing_of w p) i call.Poll (inl refl) pending none;
-    first = λ f. pending_first (standing_of w p) (Begin call.Poll i) pending f;
+    possible = λ none. poll_possible (standing_of w p) i Call.Poll (inl refl) pending none;
+    first = λ f. pending_first (standing_of w p) (Begin Call.Poll i) pending f;
     from = λ b y s z k. (
         let st = s.did.stood in
-        let d = (entered_at w (beginning p call.Poll i) b y s z k).maker refl (standing_at w p st ∙ pending) (st.cell.makers p ∙ (ap (λ e. is_maker e p) (sym (cell_is w st)) ∙ making)) in
+        let d = (entered_at w (beginning p Call.Poll i) b y s z k).maker refl (standing_at w p st ∙ pending) (st.cell.makers p ∙ (ap (λ e. is_maker e p) (sym (cell_is w st)) ∙ making)) in
         let task : task_of w p ≡ task_by d.0 = poll_task b y s z k ∙ ap place_task d.1 in
         let R : Place → Type 0 = λ e. Coming p i (given (task_of w p) i.made) e w.behind.machine.content w.behind.machine.active in
         subst R (sym d.1) (sym (cell_is w st) ∙ contents.maker_is w.cell p making, ap (λ e. given e i.made) (sym task))
@@ -342,13 +288,13 @@ module _ (p : ℕ) (i : Inputs) (w : World) where
   }
 
   -- the drop of the maker
-  drop_begins : standing_of w p ≡ outside rest.Pending → is_maker w.cell p ≡ true → Begins p i no_task w call.Drop
+  drop_begins : standing_of w p ≡ outside Rest.Pending → is_maker w.cell p ≡ true → Begins p i no_task w Call.Drop
   drop_begins pending making = record {
-    possible = λ none. poll_possible (standing_of w p) i call.Drop (inr refl) pending none;
-    first = λ f. pending_first (standing_of w p) (Begin call.Drop i) pending f;
+    possible = λ none. poll_possible (standing_of w p) i Call.Drop (inr refl) pending none;
+    first = λ f. pending_first (standing_of w p) (Begin Call.Drop i) pending f;
     from = λ b y s z k. (
         let st = s.did.stood in
-        let e = (entered_at w (beginning p call.Drop i) b y s z k).dropped refl (st.cell.makers p ∙ (ap (λ e. is_maker e p) (sym (cell_is w st)) ∙ making)) in
+        let e = (entered_at w (beginning p Call.Drop i) b y s z k).dropped refl (st.cell.makers p ∙ (ap (λ e. is_maker e p) (sym (cell_is w st)) ∙ making)) in
         let R : Place → Type 0 = λ e. Coming p i no_task e w.behind.machine.content w.behind.machine.active in
         subst R (sym e) refl
         );
@@ -379,7 +325,7 @@ is_handing Passive RefusePassive = true
 is_handing list _ = false
 
 record Handed (list : ListName) (y : Place) (f : Found) : Type 0 where
-  pub going : answer_by (next_of y f) ≡ answer.Stepped → (z : Place) × (after y f ≡ At z) × (is_handing list z ≡ true)
+  pub going : answer_by (next_of y f) ≡ Answer.Stepped → (z : Place) × (after y f ≡ At z) × (is_handing list z ≡ true)
   pub refused : is_refusal (answer_by (next_of y f)) ≡ true → action_of y ≡ act.Notify list
 
 handed : (list : ListName) (y : Place) (f : Found) → is_handing list y ≡ true → Handed list y f
@@ -456,30 +402,30 @@ module _ (p : ℕ) (i : Inputs) (list : ListName) where
       }
       )
 
-  hands_quiet : (b : Answer) (v : World) → is_refusal b ≡ false → (b ≡ answer.Stepped → ⊥) → Hands b v
+  hands_quiet : (b : Answer) (v : World) → is_refusal b ≡ false → (b ≡ Answer.Stepped → ⊥) → Hands b v
   hands_quiet b v r n = record { going = λ s. absurd (n s); ended = λ _ h some. absurd (cc (r, h)) }
 
   hands_by : (t u : Table OnceCell) (what : What) (a : Answer) (tl : IsCell t.machine) (tf : IsCellTable t) (ul : IsCell u.machine) (uf : IsCellTable u) → inputs_of what ≡ i → ((w : Within) (k : Acting t u (record { party = p; what = what }) a w) → is_handing list k.from ≡ true) → TableSteps t (record { party = p; what = what }) a u → Hands a (view_of u)
   hands_by t u what a tl tf ul uf same hands step = by_step t u (record { party = p; what = what }) a tl tf ul uf (λ b x. Hands b (view_of x))
-      (λ e. hands_quiet answer.NotPossible (view_of t) refl (λ s. cc s)) (λ w e f. hands_quiet (refused refusal.Finished) (view_of t) refl (λ s. cc s))
+      (λ e. hands_quiet Answer.NotPossible (view_of t) refl (λ s. cc s)) (λ w e f. hands_quiet (refused Refusal.Finished) (view_of t) refl (λ s. cc s))
       (λ w k. hands_acted t u what a w k same (hands w k)) step
 
   hands_going : (x : World) (b : Answer) (y : World) → IsHanding x → Steps x (going_on p i) b y → Hands b y
   hands_going x b y g s = subst (λ z. Hands b z) (sym s.did.stands.seen) (hands_by x.behind y.behind (Go i) b s.did.stood.cell s.did.stood.fits s.did.stands.cell s.did.stands.fits refl
       (λ w k. ap (is_handing list) (at_same k.from g.0 (sym (from_turn x.behind y.behind (going_on p i) b w k) ∙ g.1)) ∙ g.2) s.did.step)
 
-  listed_hands : (w : World) (st : Stands w) (from : Place) (z : Within) → Entrance (stage_at w.behind.stages p) (Begin call.Poll i) z (position_at w.behind.machine.positions p) from → standing_of w p ≡ outside rest.Pending → 0 < entries_of p (list_in list w) → is_handing list from ≡ true
+  listed_hands : (w : World) (st : Stands w) (from : Place) (z : Within) → Entrance (stage_at w.behind.stages p) (Begin Call.Poll i) z (position_at w.behind.machine.positions p) from → standing_of w p ≡ outside Rest.Pending → 0 < entries_of p (list_in list w) → is_handing list from ≡ true
   listed_hands w st from z d pending listed = by_list list listed where
     by_list : (name : ListName) → 0 < entries_of p (list_in name w) → is_handing name from ≡ true
     by_list Active some = let at = d.in_active refl (standing_at w p st ∙ pending) (rw (sym (ap (entries_of p) (active_is w st) ∙ st.cell.active_owners p)) some) in ap (is_handing Active) at.1
     by_list Passive some = ap (is_handing Passive) (d.in_passive refl (standing_at w p st ∙ pending) (rw (sym (ap (entries_of p) (passive_is w st) ∙ st.cell.passive_owners p)) some))
 
-  hands_begun : (w : World) (b : Answer) (y : World) → standing_of w p ≡ outside rest.Pending → 0 < entries_of p (list_in list w) → Steps w (beginning p call.Poll i) b y → Hands b y
-  hands_begun w b y pending listed s = subst (λ z. Hands b z) (sym s.did.stands.seen) (hands_by w.behind y.behind (Begin call.Poll i) b s.did.stood.cell s.did.stood.fits s.did.stands.cell s.did.stands.fits refl
-      (λ z k. listed_hands w s.did.stood k.from z (entered_at w (beginning p call.Poll i) b y s z k) pending listed) s.did.step)
+  hands_begun : (w : World) (b : Answer) (y : World) → standing_of w p ≡ outside Rest.Pending → 0 < entries_of p (list_in list w) → Steps w (beginning p Call.Poll i) b y → Hands b y
+  hands_begun w b y pending listed s = subst (λ z. Hands b z) (sym s.did.stands.seen) (hands_by w.behind y.behind (Begin Call.Poll i) b s.did.stood.cell s.did.stood.fits s.did.stands.cell s.did.stands.fits refl
+      (λ z k. listed_hands w s.did.stood k.from z (entered_at w (beginning p Call.Poll i) b y s z k) pending listed) s.did.step)
 
-  pub hands_on : (known : Known) (w : World) (n : ℕ) (a : Answer) (v : World) → Runs known w (moves_of p call.Poll i n) (answers_of n a) v → a ≢ answer.Stepped → standing_of w p ≡ outside rest.Pending → 0 < entries_of p (list_in list w) → HandsOn a v
-  hands_on known w n a v runs ended pending listed = along Steps learn HoldsWell p i IsHanding HandsOn hands_going known n w (beginning p call.Poll i) a v (λ b x s. hands_begun w b x pending listed s) ended runs
+  pub hands_on : (known : Known) (w : World) (n : ℕ) (a : Answer) (v : World) → Runs known w (moves_of p Call.Poll i n) (answers_of n a) v → a ≢ Answer.Stepped → standing_of w p ≡ outside Rest.Pending → 0 < entries_of p (list_in list w) → HandsOn a v
+  hands_on known w n a v runs ended pending listed = along Steps learn HoldsWell p i IsHanding HandsOn hands_going known n w (beginning p Call.Poll i) a v (λ b x s. hands_begun w b x pending listed s) ended runs
 
 -- ---- on a full cell a notified party's poll is ready
 
@@ -500,28 +446,28 @@ module _ (p : ℕ) (i : Inputs) (g : Got) (v : ℕ) where
   -- a place where the cell is looked at, and from where this is got
   abbrev Looks : Place → Type 0
   Looks (Claim k told) = got_of k v ≡ g
-  Looks (Look told) = got.Value v ≡ g
+  Looks (Look told) = Got.Value v ≡ g
   Looks _ = ⊥
 
   abbrev Asks : Place → List (Entry ℕ) → List (Entry ℕ) → Type 0
   Asks (AskActive k) q r = (is_marked_at (is_party p) q ≡ true) × (got_of k v ≡ g)
-  Asks AskPassive q r = (is_marked_at (is_party p) r ≡ true) × (got.Value v ≡ g)
+  Asks AskPassive q r = (is_marked_at (is_party p) r ≡ true) × (Got.Value v ≡ g)
   Asks _ q r = ⊥
 
   module _ (c : Content) (q r : List (Entry ℕ)) (full : c ≡ Full v) where
-    looks : (y : Place) (f : Found) → Finds i p (action_of y) f c q r → Looks y → answer_by (next_of y f) ≡ answer.Ready g
-    looks (Claim k told) (found.Full u) e h = ap answer.Ready (ap (got_of k) (same_value u v c e full) ∙ h)
+    looks : (y : Place) (f : Found) → Finds i p (action_of y) f c q r → Looks y → answer_by (next_of y f) ≡ Answer.Ready g
+    looks (Claim k told) (found.Full u) e h = ap Answer.Ready (ap (got_of k) (same_value u v c e full) ∙ h)
     looks (Claim k told) found.Empty e h = absurd (empty_full v c e full)
     looks (Claim k told) found.BeingMade e h = absurd (made_full e.0 v c e.1 full)
     looks (Claim k told) _ e h = absurd e
-    looks (Look told) (found.Full u) e h = ap answer.Ready (ap got.Value (same_value u v c e full) ∙ h)
+    looks (Look told) (found.Full u) e h = ap Answer.Ready (ap Got.Value (same_value u v c e full) ∙ h)
     looks (Look told) found.Empty e h = absurd (empty_full v c e full)
     looks (Look told) found.BeingMade e h = absurd (made_full e.0 v c e.1 full)
     looks (Look told) _ e h = absurd e
     looks _ f e h = absurd h
 
     -- who asks and was told goes on to look
-    asks : (y : Place) (f : Found) → Finds i p (action_of y) f c q r → Asks y q r → (answer_by (next_of y f) ≡ answer.Stepped) × (content_then i p c y f ≡ Full v) × ((z : Place) × (after y f ≡ At z) × Looks z)
+    asks : (y : Place) (f : Found) → Finds i p (action_of y) f c q r → Asks y q r → (answer_by (next_of y f) ≡ Answer.Stepped) × (content_then i p c y f ≡ Full v) × ((z : Place) × (after y f ≡ At z) × Looks z)
     asks (AskActive k) found.Yes e h = (refl, full, (Claim k true, refl, h.1))
     asks (AskActive k) found.No e h = absurd (cc (e, h.0))
     asks (AskActive k) _ e h = absurd e
@@ -534,7 +480,7 @@ module _ (p : ℕ) (i : Inputs) (g : Got) (v : ℕ) where
   IsLooking x = (y : Place) × (position_at x.behind.machine.positions p ≡ At y) × Looks y × (x.cell ≡ Full v)
 
   abbrev IsReady : Answer → World → Type 0
-  IsReady a u = a ≡ answer.Ready g
+  IsReady a u = a ≡ Answer.Ready g
 
   abbrev Readies : Answer → World → Type 0
   Readies a u = Onward IsLooking IsReady a u
@@ -544,8 +490,8 @@ module _ (p : ℕ) (i : Inputs) (g : Got) (v : ℕ) where
 
   looked : (t u : Table OnceCell) (what : What) (a : Answer) (w : Within) (k : Acting t u (record { party = p; what = what }) a w) → inputs_of what ≡ i → t.machine.content ≡ Full v → Looks k.from → Readies a (view_of u)
   looked t u what a w k same full h = (
-      let ready : a ≡ answer.Ready g = k.answer ∙ looks t.machine.content t.machine.active t.machine.passive full k.from k.found (finds_so t u what a w k same) h in
-      record { going = λ e. (let never : answer.Stepped ≡ answer.Ready g = sym e ∙ ready in absurd (cc never)); ended = λ n. ready }
+      let ready : a ≡ Answer.Ready g = k.answer ∙ looks t.machine.content t.machine.active t.machine.passive full k.from k.found (finds_so t u what a w k same) h in
+      record { going = λ e. (let never : Answer.Stepped ≡ Answer.Ready g = sym e ∙ ready in absurd (cc never)); ended = λ n. ready }
       )
 
   asked : (t u : Table OnceCell) (what : What) (a : Answer) (w : Within) (k : Acting t u (record { party = p; what = what }) a w) → inputs_of what ≡ i → t.machine.content ≡ Full v → Asks k.from t.machine.active t.machine.passive → Readies a (view_of u)
@@ -562,8 +508,8 @@ module _ (p : ℕ) (i : Inputs) (g : Got) (v : ℕ) where
       (λ e. absurd (may_go x.behind p i h.0 s.did.stood.fits h.1 e)) (λ w e f. absurd (again_goes i (stage_at x.behind.stages p) f))
       (λ w k. (let at : h.0 ≡ k.from = at_same h.0 k.from (sym h.1 ∙ from_turn x.behind y.behind (going_on p i) b w k) in let Q : Place → Type 0 = Looks in looked x.behind y.behind (Go i) b w k refl (sym (cell_is x s.did.stood) ∙ h.3) (subst Q at h.2))) s.did.step)
 
-  module _ (w : World) (pending : standing_of w p ≡ outside rest.Pending) (full : w.cell ≡ Full v) (gets : got_by (task_of w p) v ≡ g) where
-    asks_there : (st : Stands w) (from : Place) (z : Within) → Entrance (stage_at w.behind.stages p) (Begin call.Poll i) z (position_at w.behind.machine.positions p) from → task_of w p ≡ place_task from → (list : ListName) → is_marked_at (is_party p) (list_in list w) ≡ true → Asks from w.behind.machine.active w.behind.machine.passive
+  module _ (w : World) (pending : standing_of w p ≡ outside Rest.Pending) (full : w.cell ≡ Full v) (gets : got_by (task_of w p) v ≡ g) where
+    asks_there : (st : Stands w) (from : Place) (z : Within) → Entrance (stage_at w.behind.stages p) (Begin Call.Poll i) z (position_at w.behind.machine.positions p) from → task_of w p ≡ place_task from → (list : ListName) → is_marked_at (is_party p) (list_in list w) ≡ true → Asks from w.behind.machine.active w.behind.machine.passive
     asks_there st from z d task Active marked =
         let listed : 0 < entries_of p w.active = marked_listed p w.active marked in
         let at = d.in_active refl (standing_at w p st ∙ pending) (rw (sym (ap (entries_of p) (active_is w st) ∙ st.cell.active_owners p)) listed) in
@@ -575,28 +521,28 @@ module _ (p : ℕ) (i : Inputs) (g : Got) (v : ℕ) where
         let R : Place → Type 0 = λ e. Asks e w.behind.machine.active w.behind.machine.passive in
         subst R (sym at) (ap (is_marked_at (is_party p)) (sym (passive_is w st)) ∙ marked, ap (λ e. got_by e v) (sym (task ∙ ap place_task at)) ∙ gets)
 
-    asks_begun : (list : ListName) → is_marked_at (is_party p) (list_in list w) ≡ true → (b : Answer) (y : World) → Steps w (beginning p call.Poll i) b y → Readies b y
-    asks_begun list marked b y s = subst (λ z. Readies b z) (sym s.did.stands.seen) (by_step w.behind y.behind (beginning p call.Poll i) b s.did.stood.cell s.did.stood.fits s.did.stands.cell s.did.stands.fits (λ d z. Readies d (view_of z))
-        (λ e. absurd (poll_possible (standing_of w p) i call.Poll (inl refl) pending (called_so ∙ e))) (λ z e f. absurd (pending_first (standing_of w p) (Begin call.Poll i) pending (again_so ∙ f)))
-        (λ z k. asked w.behind y.behind (Begin call.Poll i) b z k refl (sym (cell_is w s.did.stood) ∙ full) (asks_there s.did.stood k.from z (entered_at w (beginning p call.Poll i) b y s z k) (poll_task p i w b y s z k) list marked)) s.did.step) where
+    asks_begun : (list : ListName) → is_marked_at (is_party p) (list_in list w) ≡ true → (b : Answer) (y : World) → Steps w (beginning p Call.Poll i) b y → Readies b y
+    asks_begun list marked b y s = subst (λ z. Readies b z) (sym s.did.stands.seen) (by_step w.behind y.behind (beginning p Call.Poll i) b s.did.stood.cell s.did.stood.fits s.did.stands.cell s.did.stands.fits (λ d z. Readies d (view_of z))
+        (λ e. absurd (poll_possible (standing_of w p) i Call.Poll (inl refl) pending (called_so ∙ e))) (λ z e f. absurd (pending_first (standing_of w p) (Begin Call.Poll i) pending (again_so ∙ f)))
+        (λ z k. asked w.behind y.behind (Begin Call.Poll i) b z k refl (sym (cell_is w s.did.stood) ∙ full) (asks_there s.did.stood k.from z (entered_at w (beginning p Call.Poll i) b y s z k) (poll_task p i w b y s z k) list marked)) s.did.step) where
           standing_so : standing_of w p ≡ stands_as (verdict (position_at w.behind.machine.positions p)) (stage_at w.behind.stages p)
           standing_so = sym (standing_at w p s.did.stood)
 
-          called_so : call_of w (beginning p call.Poll i) ≡ call_at knows (stage_at w.behind.stages p) (Begin call.Poll i)
-          called_so = ap (λ z. call_in knows z (Begin call.Poll i)) standing_so ∙ call_seen knows (verdict (position_at w.behind.machine.positions p)) (stage_at w.behind.stages p) (Begin call.Poll i)
+          called_so : call_of w (beginning p Call.Poll i) ≡ call_at knows (stage_at w.behind.stages p) (Begin Call.Poll i)
+          called_so = ap (λ z. call_in knows z (Begin Call.Poll i)) standing_so ∙ call_seen knows (verdict (position_at w.behind.machine.positions p)) (stage_at w.behind.stages p) (Begin Call.Poll i)
 
-          again_so : is_poll_after_ready (standing_of w p) (Begin call.Poll i) ≡ polls_again (stage_at w.behind.stages p) (Begin call.Poll i)
-          again_so = ap (λ z. is_poll_after_ready z (Begin call.Poll i)) standing_so ∙ again_seen (verdict (position_at w.behind.machine.positions p)) (stage_at w.behind.stages p) (Begin call.Poll i)
+          again_so : is_poll_after_ready (standing_of w p) (Begin Call.Poll i) ≡ polls_again (stage_at w.behind.stages p) (Begin Call.Poll i)
+          again_so = ap (λ z. is_poll_after_ready z (Begin Call.Poll i)) standing_so ∙ again_seen (verdict (position_at w.behind.machine.positions p)) (stage_at w.behind.stages p) (Begin Call.Poll i)
 
-  pub ready_told : (w : World) → got_by (task_of w p) v ≡ g → (known : Known) (n : ℕ) (a : Answer) (u : World) → Runs known w (moves_of p call.Poll i n) (answers_of n a) u → a ≢ answer.Stepped → standing_of w p ≡ outside rest.Pending → (list : ListName) → is_marked_at (is_party p) (list_in list w) ≡ true → w.cell ≡ Full v → a ≡ answer.Ready g
-  ready_told w gets known n a u runs ended pending list marked full = along Steps learn HoldsWell p i IsLooking IsReady looks_on known n w (beginning p call.Poll i) a u (λ b x s. asks_begun w pending full gets list marked b x s) ended runs
+  pub ready_told : (w : World) → got_by (task_of w p) v ≡ g → (known : Known) (n : ℕ) (a : Answer) (u : World) → Runs known w (moves_of p Call.Poll i n) (answers_of n a) u → a ≢ Answer.Stepped → standing_of w p ≡ outside Rest.Pending → (list : ListName) → is_marked_at (is_party p) (list_in list w) ≡ true → w.cell ≡ Full v → a ≡ Answer.Ready g
+  ready_told w gets known n a u runs ended pending list marked full = along Steps learn HoldsWell p i IsLooking IsReady looks_on known n w (beginning p Call.Poll i) a u (λ b x s. asks_begun w pending full gets list marked b x s) ended runs
 
-pub keeps_promises : (known : Known) (w : World) (p : ℕ) (c : Call) (i : Inputs) (n : ℕ) (a : Answer) (v : World) → Runs known w (moves_of p c i n) (answers_of n a) v → a ≢ answer.Stepped → Promises w p c i a v
+pub keeps_promises : (known : Known) (w : World) (p : ℕ) (c : Call) (i : Inputs) (n : ℕ) (a : Answer) (v : World) → Runs known w (moves_of p c i n) (answers_of n a) v → a ≢ Answer.Stepped → Promises w p c i a v
 keeps_promises known w p c i n a v runs ended = record {
   first = λ h empty. comes_to p i (given (task_then (Begin c i) (task_of w p)) i.made) known w c n a v runs ended (first_begins p i w c h empty);
-  solo = λ e pending marked empty. (let P : Call → Type 0 = λ c. Runs known w (moves_of p c i n) (answers_of n a) v in comes_to p i (given (task_of w p) i.made) known w call.Poll n a v (subst P e runs) ended (solo_begins p i w pending marked empty));
-  maker = λ e pending making. (let P : Call → Type 0 = λ c. Runs known w (moves_of p c i n) (answers_of n a) v in comes_to p i (given (task_of w p) i.made) known w call.Poll n a v (subst P e runs) ended (maker_begins p i w pending making));
-  dropped = λ e pending making. (let P : Call → Type 0 = λ c. Runs known w (moves_of p c i n) (answers_of n a) v in comes_to p i no_task known w call.Drop n a v (subst P e runs) ended (drop_begins p i w pending making));
+  solo = λ e pending marked empty. (let P : Call → Type 0 = λ c. Runs known w (moves_of p c i n) (answers_of n a) v in comes_to p i (given (task_of w p) i.made) known w Call.Poll n a v (subst P e runs) ended (solo_begins p i w pending marked empty));
+  maker = λ e pending making. (let P : Call → Type 0 = λ c. Runs known w (moves_of p c i n) (answers_of n a) v in comes_to p i (given (task_of w p) i.made) known w Call.Poll n a v (subst P e runs) ended (maker_begins p i w pending making));
+  dropped = λ e pending making. (let P : Call → Type 0 = λ c. Runs known w (moves_of p c i n) (answers_of n a) v in comes_to p i no_task known w Call.Drop n a v (subst P e runs) ended (drop_begins p i w pending making));
   full = λ e pending list x marked full. (let P : Call → Type 0 = λ c. Runs known w (moves_of p c i n) (answers_of n a) v in ready_told p i (got_by (task_of w p) x) x w refl known n a v (subst P e runs) ended pending list marked full);
   hands_on = λ e pending list listed. (let P : Call → Type 0 = λ c. Runs known w (moves_of p c i n) (answers_of n a) v in hands_on p i list known w n a v (subst P e runs) ended pending listed);
 }

@@ -1,39 +1,9 @@
 -- A call that is carried out alone ends within its number of steps.
-use Rattle.std.proofs.Common.{◌≡◌, ℕ, ◌+◌, ◌<◌, ◌≤◌, if◌then◌else◌, Bool, true, false, List, Some, refl, arith, ap, sym, ◌∙◌, subst}
-use Rattle.lock_event.specs.declared.event.Entry.{Entry}
-use Rattle.lock_event.specs.Lists.{is_marked_at}
-use Rattle.world_base.specs.queue.Parties.{is_party, entries_of}
-use Rattle.world_base.specs.declared.moves.Answer.{Answer}
-use Rattle.world_base.specs.declared.moves.Call.{Call}
-use Rattle.world_base.specs.declared.moves.Call.TheVariants as call
-use Rattle.world_base.specs.declared.moves.Inputs.{Inputs}
-use Rattle.world_base.specs.declared.moves.Move.{Move}
-use Rattle.world_base.specs.declared.moves.What.{What}
-use Rattle.world_base.specs.declared.moves.What.TheVariants.{Begin, Go}
-use Rattle.world_base.specs.declared.standing.Stage.{Stage}
-use Rattle.world_base.specs.declared.standing.Within.{Within}
-use Rattle.world_base.specs.Standings.{inputs_of}
-use Rattle.world_base.proofs.Equations.{some_eq}
-use Rattle.world_base.specs.table.Stages.{stage_at, call_at, polls_again}
-use Rattle.world_base.specs.table.Tables.{Table}
-use Rattle.world_once_cell.specs.program.Program.{Found}
+use Rattle.world_once_cell.proofs.Prelude.{◌≡◌, ℕ, ◌+◌, ◌<◌, ◌≤◌, if◌then◌else◌, Bool, true, false, List, Some, refl, arith, ap, sym, ◌∙◌, subst, Entry, is_marked_at, is_party, entries_of, Answer, Call, Inputs, Move, What, Begin, Go, Stage, Within, inputs_of, some_eq, stage_at, call_at, polls_again, Table, Found, Place, Claim, ClaimListed, JoinActive, AskActive, LeaveToMake, Make, Fill, NotifyActive, NotifyPassive, Fail, FailNotify, LeaveFull, RefuseActive, Look, JoinPassive, LookListed, AskPassive, LeavePassive, RefusePassive, Try, TryFill, TryNotifyActive, TryNotifyPassive, CancelMake, CancelNotify, CancelLeave, Abandon, Position, At, Content, action_of, next_of, in_active, in_passive_at, deed_of, active_after, passive_after, Finds, OnceCell, IsCell, knows, goes_with, position_at, answer_by, going_on, left_by, beginning, joined_unmarked, IsCellTable, TableSteps}
 use Rattle.sync_program.specs.declared.once_cell.Found.TheVariants as found
-use Rattle.world_once_cell.specs.program.Program.{Place}
-use Rattle.sync_program.specs.declared.once_cell.Place.TheVariants.{Claim, ClaimListed, JoinActive, AskActive, LeaveToMake, Make, Fill, NotifyActive, NotifyPassive, Fail, FailNotify, LeaveFull, RefuseActive, Look, JoinPassive, LookListed, AskPassive, LeavePassive, RefusePassive, Try, TryFill, TryNotifyActive, TryNotifyPassive, CancelMake, CancelNotify, CancelLeave, Abandon}
-use Rattle.world_once_cell.specs.program.Program.{Position}
-use Rattle.sync_program.specs.declared.once_cell.Position.TheVariants.{At}
-use Rattle.world_once_cell.specs.declared.program.words.Content.{Content}
-use Rattle.world_once_cell.specs.program.Program.{action_of, next_of}
-use Rattle.world_once_cell.specs.machine.Seats.{in_active, in_passive_at}
-use Rattle.world_once_cell.specs.program.Deeds.{deed_of, active_after, passive_after, Finds}
-use Rattle.world_once_cell.specs.machine.Machine.{OnceCell, IsCell, knows, goes_with, position_at, answer_by}
 use Rattle.world_once_cell.proofs.of_machine.laws.Kept.{after}
 use Rattle.world_once_cell.proofs.of_machine.stages.Turns.{Turn, turn}
-use Rattle.world_base.specs.Whole.{going_on}
-use Rattle.world_base.specs.any_world.Steps.{left_by, beginning}
-use Rattle.world_base.proofs.Lists.{joined_unmarked}
 use Rattle.world_once_cell.specs.machine.Ranks.{left, left_at, active_marked, passive_marked, steps_left}
-use Rattle.world_once_cell.specs.Steps.{IsCellTable, TableSteps}
 use Rattle.world_once_cell.specs.Whole.{most_steps_of}
 use Rattle.world_once_cell.proofs.step.Acting.{Acting}
 use Rattle.world_once_cell.proofs.step.Acting as acting
@@ -143,12 +113,12 @@ some_at (At x) a b = some_left x a b
 some_at _ a b = omega arith
 
 one_at_least : (c : Call) → 1 ≤ most_steps_of c
-one_at_least call.Initialize = omega arith
-one_at_least (call.Set v) = omega arith
-one_at_least call.Wait = omega arith
-one_at_least call.Poll = omega arith
-one_at_least (call.TrySet v) = omega arith
-one_at_least call.Drop = omega arith
+one_at_least Call.Initialize = omega arith
+one_at_least (Call.Set v) = omega arith
+one_at_least Call.Wait = omega arith
+one_at_least Call.Poll = omega arith
+one_at_least (Call.TrySet v) = omega arith
+one_at_least Call.Drop = omega arith
 one_at_least _ = omega arith
 
 -- no call has more left where it begins than it may take

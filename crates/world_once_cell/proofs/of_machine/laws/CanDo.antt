@@ -1,16 +1,5 @@
 -- What an action needs is there.
-use Rattle.std.proofs.Common.{◌≡◌, ℕ, ◌<◌, List, length, refl, arith, sym, ◌∙◌, ap}
-use Rattle.world_base.specs.queue.Parties.{entries_of}
-use Rattle.world_base.specs.queue.Queues.{Queue}
-use Rattle.sync_program.specs.declared.once_cell.ListName.TheVariants.{Active, Passive}
-use Rattle.world_once_cell.specs.program.Program.{Place}
-use Rattle.sync_program.specs.declared.once_cell.Place.TheVariants.{JoinActive, AskActive, LeaveToMake, LeaveFull, JoinPassive, AskPassive, LeavePassive, CancelLeave}
-use Rattle.world_once_cell.specs.program.Program.{Position}
-use Rattle.world_once_cell.specs.declared.program.words.Content.{Content}
-use Rattle.world_once_cell.specs.program.Program.{action_of}
-use Rattle.world_once_cell.specs.machine.Seats.{Seat, seat_of, seated}
-use Rattle.world_once_cell.specs.program.Deeds.{CanDo}
-use Rattle.world_once_cell.specs.machine.Machine.{IsKept, position_at}
+use Rattle.world_once_cell.proofs.Prelude.{◌≡◌, ℕ, ◌<◌, List, length, refl, arith, sym, ◌∙◌, ap, entries_of, Queue, Active, Passive, Place, JoinActive, AskActive, LeaveToMake, LeaveFull, JoinPassive, AskPassive, LeavePassive, CancelLeave, Position, Content, action_of, Seat, seat_of, seated, CanDo, IsKept, position_at}
 
 module _ (p : ℕ) (c : Content) (xs : List Position) (q r : Queue) (kept : IsKept c xs q r) (known : p < length xs) where
   module _ (x : Place) (same : seat_of x ≡ seated (position_at xs p)) where

@@ -1,22 +1,7 @@
 -- What an action does to what is in the cell, and to what parties know of it.
-use Rattle.std.proofs.Common.{◌≡◌, ◌≢◌, ℕ, ◌==◌, ◌⊎◌, inl, inr, true, false, List, Some, refl, arith, ap, sym, ◌∙◌}
+use Rattle.world_once_cell.proofs.Prelude.{◌≡◌, ◌≢◌, ℕ, ◌==◌, ◌⊎◌, inl, inr, true, false, List, Some, refl, arith, ap, sym, ◌∙◌, Entry, Inputs, some_eq, none_some, Found, ListName, Active, Passive, Place, Claim, ClaimListed, JoinActive, AskActive, LeaveToMake, Make, Fill, NotifyActive, NotifyPassive, Fail, FailNotify, LeaveFull, RefuseActive, Look, JoinPassive, LookListed, AskPassive, LeavePassive, RefusePassive, Try, TryFill, TryNotifyActive, TryNotifyPassive, CancelMake, CancelNotify, CancelLeave, Abandon, At, Content, action_of, makes_at, value_known, will_tell, Finds, deed_of, content_after, is_maker}
 use Rattle.std.proofs.lemmas.Bool.Decides.{nat_tests}
-use Rattle.lock_event.specs.declared.event.Entry.{Entry}
-use Rattle.world_base.specs.declared.moves.Inputs.{Inputs}
-use Rattle.world_base.proofs.Equations.{some_eq, none_some}
-use Rattle.world_once_cell.specs.program.Program.{Found}
 use Rattle.sync_program.specs.declared.once_cell.Found.TheVariants as found
-use Rattle.sync_program.specs.declared.once_cell.ListName.{ListName}
-use Rattle.sync_program.specs.declared.once_cell.ListName.TheVariants.{Active, Passive}
-use Rattle.world_once_cell.specs.program.Program.{Place}
-use Rattle.sync_program.specs.declared.once_cell.Place.TheVariants.{Claim, ClaimListed, JoinActive, AskActive, LeaveToMake, Make, Fill, NotifyActive, NotifyPassive, Fail, FailNotify, LeaveFull, RefuseActive, Look, JoinPassive, LookListed, AskPassive, LeavePassive, RefusePassive, Try, TryFill, TryNotifyActive, TryNotifyPassive, CancelMake, CancelNotify, CancelLeave, Abandon}
-use Rattle.sync_program.specs.declared.once_cell.Position.TheVariants.{At}
-use Rattle.world_once_cell.specs.declared.program.words.Content.{Content}
-use Rattle.world_once_cell.specs.declared.program.words.Content.TheVariants as content
-use Rattle.world_once_cell.specs.program.Program.{action_of}
-use Rattle.world_once_cell.specs.machine.Seats.{makes_at, value_known, will_tell}
-use Rattle.world_once_cell.specs.program.Deeds.{Finds, deed_of, content_after}
-use Rattle.world_once_cell.specs.machine.Machine.{is_maker}
 use Rattle.world_once_cell.proofs.of_machine.laws.Kept.{after}
 
 same_party : (q p : ℕ) → (q == p) ≡ true → q ≡ p
@@ -28,12 +13,12 @@ its_own p = grind (arith, nat_tests)
 another : (p j : ℕ) → j ≢ p → (p == j) ≡ false
 another p j apart = grind (arith, nat_tests)
 
-pub maker_is : (c : Content) (p : ℕ) → is_maker c p ≡ true → c ≡ content.BeingMade p
-maker_is content.Empty p h = absurd (cc)
-maker_is (content.BeingMade q) p h = ap content.BeingMade (same_party q p h)
-maker_is (content.Full v) p h = absurd (cc)
+pub maker_is : (c : Content) (p : ℕ) → is_maker c p ≡ true → c ≡ Content.BeingMade p
+maker_is Content.Empty p h = absurd (cc)
+maker_is (Content.BeingMade q) p h = ap Content.BeingMade (same_party q p h)
+maker_is (Content.Full v) p h = absurd (cc)
 
-pub is_its_maker : (p : ℕ) → is_maker (content.BeingMade p) p ≡ true
+pub is_its_maker : (p : ℕ) → is_maker (Content.BeingMade p) p ≡ true
 is_its_maker p = its_own p
 
 not_its : (c : Content) (p j : ℕ) → is_maker c p ≡ true → j ≢ p → is_maker c j ≡ false
@@ -43,14 +28,14 @@ module _ (i : Inputs) (p : ℕ) (c : Content) (q r : List (Entry ℕ)) where
   abbrev then : Place → Found → Content
   then x f = content_after p (deed_of (action_of x) f) c
 
-  empty_full : (v : ℕ) → c ≡ content.Empty → c ≡ content.Full v → ⊥
-  empty_full v e full = let never : content.Empty ≡ content.Full v = sym e ∙ full in cc never
+  empty_full : (v : ℕ) → c ≡ Content.Empty → c ≡ Content.Full v → ⊥
+  empty_full v e full = let never : Content.Empty ≡ Content.Full v = sym e ∙ full in cc never
 
-  made_full : (v : ℕ) → true ≡ is_maker c p → c ≡ content.Full v → ⊥
-  made_full v m full = let never : true ≡ is_maker (content.Full v) p = m ∙ ap (λ c. is_maker c p) full in cc never
+  made_full : (v : ℕ) → true ≡ is_maker c p → c ≡ Content.Full v → ⊥
+  made_full v m full = let never : true ≡ is_maker (Content.Full v) p = m ∙ ap (λ c. is_maker c p) full in cc never
 
   -- a full cell stays as it is
-  pub full_stays : (x : Place) (f : Found) → Finds i p (action_of x) f c q r → makes_at (At x) ≡ is_maker c p → (v : ℕ) → c ≡ content.Full v → then x f ≡ content.Full v
+  pub full_stays : (x : Place) (f : Found) → Finds i p (action_of x) f c q r → makes_at (At x) ≡ is_maker c p → (v : ℕ) → c ≡ Content.Full v → then x f ≡ Content.Full v
   full_stays (Claim k told) found.Empty e m n full = absurd (empty_full n e full)
   full_stays (Claim k told) found.BeingMade e m n full = full
   full_stays (Claim k told) (found.Full u) e m n full = full
@@ -113,7 +98,7 @@ module _ (i : Inputs) (p : ℕ) (c : Content) (q r : List (Entry ℕ)) where
   full_stays Abandon f e m n full = full
 
   -- a cell that is full then was full before, or its party is about to tell all
-  pub full_before : (x : Place) (f : Found) → Finds i p (action_of x) f c q r → (v : ℕ) → then x f ≡ content.Full v → (c ≡ content.Full v) ⊎ ((list : ListName) → will_tell list (after x f) ≡ true)
+  pub full_before : (x : Place) (f : Found) → Finds i p (action_of x) f c q r → (v : ℕ) → then x f ≡ Content.Full v → (c ≡ Content.Full v) ⊎ ((list : ListName) → will_tell list (after x f) ≡ true)
   full_before (Claim k told) found.Empty e n full = absurd (cc full)
   full_before (Claim k told) found.BeingMade e n full = inl full
   full_before (Claim k told) (found.Full u) e n full = inl full
@@ -310,14 +295,14 @@ module _ (i : Inputs) (p : ℕ) (c : Content) (q r : List (Entry ℕ)) where
   others_make Abandon f e m j apart = refl
 
   -- what the party knows then of the cell's value is so
-  pub value_then : (x : Place) (f : Found) → Finds i p (action_of x) f c q r → ((v : ℕ) → value_known (At x) ≡ Some v → c ≡ content.Full v) → (v : ℕ) → value_known (after x f) ≡ Some v → then x f ≡ content.Full v
+  pub value_then : (x : Place) (f : Found) → Finds i p (action_of x) f c q r → ((v : ℕ) → value_known (At x) ≡ Some v → c ≡ Content.Full v) → (v : ℕ) → value_known (after x f) ≡ Some v → then x f ≡ Content.Full v
   value_then (Claim k told) found.Empty e was n known = absurd (none_some known)
   value_then (Claim k told) found.BeingMade e was n known = absurd (none_some known)
   value_then (Claim k told) (found.Full u) e was n known = absurd (none_some known)
   value_then (Claim k told) _ e was n known = absurd e
   value_then (ClaimListed k) found.Empty e was n known = absurd (none_some known)
   value_then (ClaimListed k) found.BeingMade e was n known = absurd (none_some known)
-  value_then (ClaimListed k) (found.Full u) e was n known = e ∙ ap content.Full (some_eq known)
+  value_then (ClaimListed k) (found.Full u) e was n known = e ∙ ap Content.Full (some_eq known)
   value_then (ClaimListed k) _ e was n known = absurd e
   value_then (JoinActive k told) found.Done e was n known = absurd (none_some known)
   value_then (JoinActive k true) found.NoMemory e was n known = absurd (none_some known)
@@ -331,7 +316,7 @@ module _ (i : Inputs) (p : ℕ) (c : Content) (q r : List (Entry ℕ)) where
   value_then (Make k) (found.Made u) e was n known = absurd (none_some known)
   value_then (Make k) found.Failed e was n known = absurd (none_some known)
   value_then (Make k) _ e was n known = absurd (none_some known)
-  value_then (Fill v) found.Done e was n known = ap content.Full (some_eq known)
+  value_then (Fill v) found.Done e was n known = ap Content.Full (some_eq known)
   value_then (Fill v) _ e was n known = absurd e
   value_then (NotifyActive v) found.Done e was n known = was n known
   value_then (NotifyActive v) _ e was n known = absurd e
@@ -351,7 +336,7 @@ module _ (i : Inputs) (p : ℕ) (c : Content) (q r : List (Entry ℕ)) where
   value_then (JoinPassive true) found.NoMemory e was n known = absurd (none_some known)
   value_then (JoinPassive false) found.NoMemory e was n known = absurd (none_some known)
   value_then (JoinPassive told) _ e was n known = absurd e
-  value_then LookListed (found.Full u) e was n known = e ∙ ap content.Full (some_eq known)
+  value_then LookListed (found.Full u) e was n known = e ∙ ap Content.Full (some_eq known)
   value_then LookListed _ e was n known = absurd (none_some known)
   value_then AskPassive found.Yes e was n known = absurd (none_some known)
   value_then AskPassive found.No e was n known = absurd (none_some known)
@@ -364,7 +349,7 @@ module _ (i : Inputs) (p : ℕ) (c : Content) (q r : List (Entry ℕ)) where
   value_then (Try v) found.BeingMade e was n known = absurd (none_some known)
   value_then (Try v) (found.Full u) e was n known = absurd (none_some known)
   value_then (Try v) _ e was n known = absurd e
-  value_then (TryFill v) found.Done e was n known = ap content.Full (some_eq known)
+  value_then (TryFill v) found.Done e was n known = ap Content.Full (some_eq known)
   value_then (TryFill v) _ e was n known = absurd e
   value_then (TryNotifyActive v) found.Done e was n known = was n known
   value_then (TryNotifyActive v) _ e was n known = absurd e

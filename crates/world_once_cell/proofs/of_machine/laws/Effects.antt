@@ -1,21 +1,7 @@
 -- What an action does, in numbers.
-use Rattle.std.proofs.Common.{ℕ, ◌<◌, Bool, true, false, List, length, refl, arith, ap}
-use Rattle.lock_event.specs.declared.event.Entry.{Entry}
-use Rattle.lock_event.specs.declared.event.Mark.TheVariants.{Additional}
-use Rattle.lock_event.specs.Lists.{is_marked_at, marked_count, mark_waiting}
-use Rattle.world_base.specs.queue.Parties.{is_party}
-use Rattle.world_base.specs.queue.Queues.{Queue}
-use Rattle.world_base.specs.declared.moves.Inputs.{Inputs}
-use Rattle.world_base.specs.Steps.{joins, asks, leaves, notifies, notifies_additionally}
-use Rattle.world_base.proofs.Lists.{counted, mark_some}
-use Rattle.world_once_cell.specs.program.Program.{Action}
+use Rattle.world_once_cell.proofs.Prelude.{ℕ, ◌<◌, Bool, true, false, List, length, refl, arith, ap, Entry, Additional, is_marked_at, marked_count, mark_waiting, is_party, Queue, Inputs, joins, asks, leaves, notifies, notifies_additionally, counted, mark_some, Action, Found, Active, Passive, Content, CanDo, Finds, deed_of, content_after, active_after, everyone, tally_of, free_of}
 use Rattle.sync_program.specs.declared.once_cell.Action.TheVariants as act
-use Rattle.world_once_cell.specs.program.Program.{Found}
 use Rattle.sync_program.specs.declared.once_cell.Found.TheVariants as found
-use Rattle.sync_program.specs.declared.once_cell.ListName.TheVariants.{Active, Passive}
-use Rattle.world_once_cell.specs.declared.program.words.Content.{Content}
-use Rattle.world_once_cell.specs.program.Deeds.{CanDo, Finds, deed_of, content_after, active_after, everyone}
-use Rattle.world_once_cell.specs.machine.Tally.{tally_of, free_of}
 use Rattle.world_once_cell.proofs.of_machine.laws.Steps.{Effect}
 
 -- where a list isn't empty, telling all marks some entry

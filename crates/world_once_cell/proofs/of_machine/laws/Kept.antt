@@ -1,15 +1,8 @@
 -- Each step keeps what always holds of the numbers.
-use Rattle.std.proofs.Common.{◌≡◌, ◌+◌, ◌<◌, ◌≤◌, true, false, arith}
+use Rattle.world_once_cell.proofs.Prelude.{◌≡◌, ◌+◌, ◌<◌, ◌≤◌, true, false, arith, Found, Active, Passive, Place, Claim, ClaimListed, JoinActive, AskActive, LeaveToMake, Make, Fill, NotifyActive, NotifyPassive, Fail, FailNotify, LeaveFull, RefuseActive, Look, JoinPassive, LookListed, AskPassive, LeavePassive, RefusePassive, Try, TryFill, TryNotifyActive, TryNotifyPassive, CancelMake, CancelNotify, CancelLeave, Abandon, Position, At, action_of, next_of, position_after, Tally, Counts}
 use Rattle.world_base.proofs.of_queue.Debts.{still_owed}
-use Rattle.world_once_cell.specs.program.Program.{Found}
 use Rattle.sync_program.specs.declared.once_cell.Found.TheVariants as found
-use Rattle.sync_program.specs.declared.once_cell.ListName.TheVariants.{Active, Passive}
-use Rattle.world_once_cell.specs.program.Program.{Place}
-use Rattle.sync_program.specs.declared.once_cell.Place.TheVariants.{Claim, ClaimListed, JoinActive, AskActive, LeaveToMake, Make, Fill, NotifyActive, NotifyPassive, Fail, FailNotify, LeaveFull, RefuseActive, Look, JoinPassive, LookListed, AskPassive, LeavePassive, RefusePassive, Try, TryFill, TryNotifyActive, TryNotifyPassive, CancelMake, CancelNotify, CancelLeave, Abandon}
-use Rattle.world_once_cell.specs.program.Program.{Position}
-use Rattle.sync_program.specs.declared.once_cell.Position.TheVariants.{At}
-use Rattle.world_once_cell.specs.program.Program.{action_of, next_of, position_after}
-use Rattle.world_once_cell.specs.machine.Tally.{Tally, Counts, IsSound}
+use Rattle.world_once_cell.specs.machine.Tally.{IsSound}
 use Rattle.world_once_cell.proofs.of_machine.laws.Steps.{Effect, Goes}
 
 abbrev pub after : Place → Found → Position

@@ -1,17 +1,8 @@
 -- What always holds of a cell, as callers see it.
-use Rattle.std.proofs.Common.{◌≡◌, ◌<◌, true, List, [], ◌∷◌, length, refl, arith, ap}
-use Rattle.lock_event.specs.Lists.{marked_count, IsMarkedFirst}
-use Rattle.world_base.specs.queue.Queues.{Queue}
+use Rattle.world_once_cell.proofs.Prelude.{◌≡◌, ◌<◌, true, List, [], ◌∷◌, length, refl, arith, ap, marked_count, IsMarkedFirst, Queue, Position, At, Content, in_active, in_passive_at, waits, owes, is_resting, free_of, IsKept, IsAtRest, IsCell}
 use Rattle.world_base.specs.queue.Debts.{Roles, Rests, AllRest}
 use Rattle.world_base.proofs.of_queue.Debts.{paid_at_rest}
-use Rattle.world_once_cell.specs.program.Program.{Position}
-use Rattle.sync_program.specs.declared.once_cell.Position.TheVariants.{At}
-use Rattle.world_once_cell.specs.declared.program.words.Content.{Content}
-use Rattle.world_once_cell.specs.declared.program.words.Content.TheVariants as content
-use Rattle.world_once_cell.specs.machine.Seats.{in_active, in_passive_at, waits, owes, is_resting}
 use Rattle.world_once_cell.proofs.of_machine.laws.Locks.{fits_all, bounded_passive}
-use Rattle.world_once_cell.specs.machine.Tally.{free_of}
-use Rattle.world_once_cell.specs.machine.Machine.{IsKept, IsAtRest, IsCell}
 
 abbrev roles : Roles Position
 roles = record { listed = in_active; waits = waits; owes = owes }
@@ -25,7 +16,7 @@ all_rest : (xs : List Position) → IsAtRest xs → AllRest roles xs
 all_rest [] h = tt
 all_rest (x ∷ xs) h = (rests x h.0, all_rest xs h.1)
 
-is_free : (c : Content) → c ≡ content.Empty → 0 < free_of c
+is_free : (c : Content) → c ≡ Content.Empty → 0 < free_of c
 is_free c e = let one : free_of c ≡ 1 = ap free_of e in omega arith
 
 pub is_cell : (c : Content) (xs : List Position) (q r : Queue) → IsKept c xs q r → IsMarkedFirst q.entries → IsMarkedFirst r.entries → IsCell (record { content = c; positions = xs; active = q.entries; passive = r.entries })

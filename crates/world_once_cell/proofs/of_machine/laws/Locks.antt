@@ -1,40 +1,11 @@
 -- An action of one party keeps what always holds of a cell.
-use Rattle.std.proofs.Common.{◌≡◌, ◌≢◌, ℕ, ◌+◌, ◌*◌, ◌<◌, ◌≤◌, true, false, List, length, get_or, Some, refl, arith, ap, sym, subst, ◌∙◌, length-set, get_or-set_same, get_or-set_other}
-use Rattle.std.proofs.Math.ListN.{set}
-use Rattle.std.proofs.Math.Decide.{ℕ_discrete}
-use Rattle.std.specs.List.{sum_by}
+use Rattle.world_once_cell.proofs.Prelude.{◌≡◌, ◌≢◌, ℕ, ◌+◌, ◌*◌, ◌<◌, ◌≤◌, true, false, List, length, get_or, Some, refl, arith, ap, sym, subst, ◌∙◌, length-set, get_or-set_same, get_or-set_other, set, ℕ_discrete, sum_by, sum_by-set, sum_by-le, sum_by-le-sum_by, get_or-le-sum_by, Entry, entries_of, Inputs, Deed, nothing, changes, does, some_eq, Queue, queue, What, Rest, Stage, Within, call_at, polls_again, stage_after, Keeps, CanList, joined_own, asked_own, asked_not, left_own, notified_own, notified_additionally_own, Action, Found, ListName, Active, Passive, Place, Claim, ClaimListed, JoinActive, AskActive, LeaveToMake, Make, Fill, NotifyActive, NotifyPassive, Fail, FailNotify, LeaveFull, RefuseActive, Look, JoinPassive, LookListed, AskPassive, LeavePassive, RefusePassive, Try, TryFill, TryNotifyActive, TryNotifyPassive, CancelMake, CancelNotify, CancelLeave, Abandon, Position, Out, WaitingToMake, Waiting, At, Content, place_for, action_of, next_of, Seat, seat_of, seated, makes_at, in_active, in_passive_at, waits, owes, value_known, Change, CanDo, Finds, deed_of, content_after, active_after, passive_after, everyone, Tally, tally_of, counts_of, OnceCell, IsKept, knows, goes_with, answer_by, position_at, is_maker}
 use Rattle.std.proofs.lemmas.List.{get_or_default}
-use Rattle.std.proofs.lemmas.List.Sums.{sum_by-set, sum_by-le, sum_by-le-sum_by, get_or-le-sum_by}
-use Rattle.lock_event.specs.declared.event.Entry.{Entry}
-use Rattle.world_base.specs.queue.Parties.{entries_of}
-use Rattle.world_base.specs.declared.moves.Inputs.{Inputs}
-use Rattle.world_base.specs.Steps.{Deed, nothing, changes, does}
-use Rattle.world_base.proofs.Equations.{some_eq}
-use Rattle.world_base.specs.queue.Queues.{Queue, queue}
-use Rattle.world_base.specs.declared.moves.What.{What}
-use Rattle.world_base.specs.declared.standing.Rest.TheVariants as rest
-use Rattle.world_base.specs.declared.standing.Stage.{Stage}
-use Rattle.world_base.specs.declared.standing.Within.{Within}
-use Rattle.world_base.specs.table.Stages.{call_at, polls_again, stage_after}
-use Rattle.world_base.specs.table.Tables.{Keeps}
 use Rattle.world_base.proofs.Lists as lists
-use Rattle.world_base.proofs.Lists.{CanList, joined_own, asked_own, asked_not, left_own, notified_own, notified_additionally_own}
-use Rattle.world_once_cell.specs.program.Program.{Action}
 use Rattle.sync_program.specs.declared.once_cell.Action.TheVariants as act
-use Rattle.world_once_cell.specs.program.Program.{Found}
 use Rattle.sync_program.specs.declared.once_cell.Found.TheVariants as found
-use Rattle.sync_program.specs.declared.once_cell.ListName.{ListName}
-use Rattle.sync_program.specs.declared.once_cell.ListName.TheVariants.{Active, Passive}
-use Rattle.world_once_cell.specs.program.Program.{Place}
-use Rattle.sync_program.specs.declared.once_cell.Place.TheVariants.{Claim, ClaimListed, JoinActive, AskActive, LeaveToMake, Make, Fill, NotifyActive, NotifyPassive, Fail, FailNotify, LeaveFull, RefuseActive, Look, JoinPassive, LookListed, AskPassive, LeavePassive, RefusePassive, Try, TryFill, TryNotifyActive, TryNotifyPassive, CancelMake, CancelNotify, CancelLeave, Abandon}
-use Rattle.world_once_cell.specs.program.Program.{Position}
-use Rattle.sync_program.specs.declared.once_cell.Position.TheVariants.{Out, WaitingToMake, Waiting, At}
-use Rattle.world_once_cell.specs.declared.program.words.Content.{Content}
-use Rattle.world_once_cell.specs.program.Program.{place_for, action_of, next_of}
-use Rattle.world_once_cell.specs.machine.Seats.{Seat, seat_of, seated, makes_at, in_active, in_passive_at, waits, owes, value_known}
-use Rattle.world_once_cell.specs.program.Deeds.{Change, CanDo, Finds, deed_of, content_after, active_after, passive_after, everyone}
-use Rattle.world_once_cell.specs.machine.Tally.{Tally, IsSound, tally_of, counts_of}
-use Rattle.world_once_cell.specs.machine.Machine.{OnceCell, IsKept, Stands, knows, goes_with, answer_by, position_at, is_maker}
+use Rattle.world_once_cell.specs.machine.Tally.{IsSound}
+use Rattle.world_once_cell.specs.machine.Machine.{Stands}
 use Rattle.world_once_cell.proofs.of_machine.laws.Steps.{Effect, Goes}
 use Rattle.world_once_cell.proofs.of_machine.laws.Effects.{numbers}
 use Rattle.world_once_cell.proofs.of_machine.laws.Kept.{after, kept}
@@ -405,9 +376,9 @@ never_lost xs p w what s stands call first = let t = fits s what w (position_at 
 
 pub keeps : (x y : OnceCell) (p : ℕ) (i : Inputs) (w : Within) (from : Place) (f : Found) (s : Stage) → p < length x.positions → Fits w (position_at x.positions p) from → Stands x p s → ((q : ℕ) → makes_at (position_at x.positions q) ≡ is_maker x.content q)
     → Finds i p (action_of from) f x.content x.active x.passive → y.positions ≡ set x.positions p (after from f) → y.content ≡ content_after p (deed_of (action_of from) f) x.content
-    → Keeps (λ (s : OnceCell). length s.positions) Stands x p (stage_after rest.Finished w (answer_by (next_of from f))) y
+    → Keeps (λ (s : OnceCell). length s.positions) Stands x p (stage_after Rest.Finished w (answer_by (next_of from f))) y
 keeps x y p i w from f s known fit stood makers finds to content = (
-    let P : List Position → Type 0 = λ ps. goes_with (stage_after rest.Finished w (answer_by (next_of from f))) (position_at ps p) ≡ true in
+    let P : List Position → Type 0 = λ ps. goes_with (stage_after Rest.Finished w (answer_by (next_of from f))) (position_at ps p) ≡ true in
     let set_to : P (set x.positions p (after from f)) = rw (get_or-set_same x.positions p (after from f) Out known) (lands w from f fit.runs) in
     let here : position_at y.positions p ≡ after from f = ap (λ ps. position_at ps p) to ∙ get_or-set_same x.positions p (after from f) Out known in
     let made : makes_at (At from) ≡ is_maker x.content p = ap (λ (z : Seat). z.makes) fit.same ∙ makers p in

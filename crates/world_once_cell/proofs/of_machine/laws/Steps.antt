@@ -1,16 +1,7 @@
 -- What a step does to the numbers.
-use Rattle.std.proofs.Common.{◌≡◌, ◌+◌, ◌<◌, ◌≤◌, Bool, true, false}
-use Rattle.world_base.specs.Steps.{ListFunction, joins, asks, leaves, notifies, notifies_additionally}
-use Rattle.world_base.proofs.Lists.{Counted}
-use Rattle.world_once_cell.specs.program.Program.{Action}
+use Rattle.world_once_cell.proofs.Prelude.{◌≡◌, ◌+◌, ◌<◌, ◌≤◌, Bool, true, false, ListFunction, joins, asks, leaves, notifies, notifies_additionally, Counted, Action, Found, Active, Position, everyone, in_active, waits, owes, Tally, Counts}
 use Rattle.sync_program.specs.declared.once_cell.Action.TheVariants as act
-use Rattle.world_once_cell.specs.program.Program.{Found}
 use Rattle.sync_program.specs.declared.once_cell.Found.TheVariants as found
-use Rattle.sync_program.specs.declared.once_cell.ListName.TheVariants.{Active}
-use Rattle.world_once_cell.specs.program.Program.{Position}
-use Rattle.world_once_cell.specs.program.Deeds.{everyone}
-use Rattle.world_once_cell.specs.machine.Seats.{in_active, waits, owes}
-use Rattle.world_once_cell.specs.machine.Tally.{Tally, Counts}
 
 abbrev pub SameList : Tally → Tally → Type 0
 SameList s t = (t.size ≡ s.size) × (t.marked ≡ s.marked)

@@ -1,23 +1,8 @@
 -- What always holds of a full cell still holds once its value was put or taken from outside every call.
-use Rattle.std.proofs.Common.{◌≡◌, ℕ, zero, suc, ◌+◌, ◌<◌, true, false, List, [], ◌∷◌, Option, Some, None, refl, arith}
-use Rattle.std.specs.List.{sum_by}
-use Rattle.std.proofs.lemmas.List.Sums.{sum_by-cons}
-use Rattle.lock_event.specs.Lists.{marked_count, is_marked_at, without}
+use Rattle.world_once_cell.proofs.Prelude.{◌≡◌, ℕ, zero, suc, ◌+◌, ◌<◌, true, false, List, [], ◌∷◌, Option, Some, None, refl, arith, sum_by, sum_by-cons, marked_count, is_marked_at, without, is_party, entries_of, Queue, Active, Passive, NotifyActive, TryNotifyActive, AskActive, CancelLeave, Position, WaitingToMake, At, Content, content_by, kept_by, content_of, kept_of, refilled, in_active, waits, owes, is_late, will_tell, IsKept, position_at, else_marked}
 use Rattle.lock_event.proofs.Counts.{marked_count-without_marked}
-use Rattle.world_base.specs.queue.Parties.{is_party, entries_of}
-use Rattle.world_base.specs.queue.Queues.{Queue}
-use Rattle.sync_program.specs.declared.once_cell.ListName.TheVariants.{Active, Passive}
-use Rattle.sync_program.specs.declared.once_cell.Place.TheVariants.{NotifyActive, TryNotifyActive, AskActive, CancelLeave}
-use Rattle.world_once_cell.specs.program.Program.{Position}
-use Rattle.sync_program.specs.declared.once_cell.Position.TheVariants.{WaitingToMake, At}
-use Rattle.world_once_cell.specs.declared.program.words.Content.TheVariants as content
 use Rattle.world_once_cell.specs.declared.program.words.State.{State}
-use Rattle.world_once_cell.specs.declared.program.words.State.TheVariants as state
 use Rattle.world_once_cell.specs.declared.program.words.Words.{Words}
-use Rattle.world_once_cell.specs.program.Words.{content_by, kept_by, content_of, kept_of, refilled}
-use Rattle.world_once_cell.specs.machine.Seats.{in_active, waits, owes, is_late, will_tell}
-use Rattle.world_once_cell.specs.machine.Machine.{IsKept, position_at}
-use Rattle.world_base.proofs.of_queue.Marks.{else_marked}
 
 -- where some term of a sum isn't nothing, one party has it
 pub some_term : (f : Position → ℕ) (xs : List Position) → 0 < sum_by f xs → (p : ℕ) × (0 < f (position_at xs p))
@@ -49,7 +34,7 @@ waits_listed _ h = absurd (omega arith)
 
 module _ (xs : List Position) (q r : Queue) where
   -- the value was another one
-  pub another : (v u : ℕ) → IsKept (content.Full v) xs q r → IsKept (content.Full u) xs q r
+  pub another : (v u : ℕ) → IsKept (Content.Full v) xs q r → IsKept (Content.Full u) xs q r
   another v u k = record {
     sound = k.sound;
     makers = k.makers;
@@ -64,7 +49,7 @@ module _ (xs : List Position) (q r : Queue) where
   }
 
   -- while the cell was full, whoever waits was told, or somebody is about to tell all
-  still_owed : (v : ℕ) → IsKept (content.Full v) xs q r → 0 < sum_by waits xs → 0 < sum_by owes xs + marked_count q.entries
+  still_owed : (v : ℕ) → IsKept (Content.Full v) xs q r → 0 < sum_by waits xs → 0 < sum_by owes xs + marked_count q.entries
   still_owed v k some = by_owing (sum_by owes xs) refl where
     by_owing : (n : ℕ) → sum_by owes xs ≡ n → 0 < n + marked_count q.entries
     by_owing (suc n) e = omega arith
@@ -77,7 +62,7 @@ module _ (xs : List Position) (q r : Queue) where
         omega (arith, one)
 
   -- the value is gone
-  pub gone : (v : ℕ) → IsKept (content.Full v) xs q r → IsKept content.Empty xs q r
+  pub gone : (v : ℕ) → IsKept (Content.Full v) xs q r → IsKept Content.Empty xs q r
   gone v k = record {
     sound = record { in_list = k.sound.in_list; owed = λ free some. still_owed v k some };
     makers = k.makers;
@@ -95,27 +80,27 @@ module _ (xs : List Position) (q r : Queue) where
   pub settled : (w : Words) → IsKept (kept_of w) xs q r → IsKept (content_of w) xs q r
   settled w k = by_words w.state w.value k where
     by_words : (s : State) (v : Option ℕ) → IsKept (kept_by s v) xs q r → IsKept (content_by s v) xs q r
-    by_words state.Empty v k = k
-    by_words (state.BeingMade p) v k = k
-    by_words state.Full (Some v) k = k
-    by_words state.Full None k = gone 0 k
+    by_words State.Empty v k = k
+    by_words (State.BeingMade p) v k = k
+    by_words State.Full (Some v) k = k
+    by_words State.Full None k = gone 0 k
 
   -- a value is put beside a settled state, or taken from there
   pub put : (w : Words) (v : Option ℕ) → IsKept (kept_of w) xs q r → IsKept (kept_by w.state v) xs q r
   put w v k = by_words w.state w.value v k where
     by_words : (s : State) (u v : Option ℕ) → IsKept (kept_by s u) xs q r → IsKept (kept_by s v) xs q r
-    by_words state.Empty u v k = k
-    by_words (state.BeingMade p) u v k = k
-    by_words state.Full (Some u) (Some v) k = another u v k
-    by_words state.Full None (Some v) k = another 0 v k
-    by_words state.Full (Some u) None k = another u 0 k
-    by_words state.Full None None k = k
+    by_words State.Empty u v k = k
+    by_words (State.BeingMade p) u v k = k
+    by_words State.Full (Some u) (Some v) k = another u v k
+    by_words State.Full None (Some v) k = another 0 v k
+    by_words State.Full (Some u) None k = another u 0 k
+    by_words State.Full None None k = k
 
 -- what is in a settled cell then
 pub put_content : (w : Words) (v : Option ℕ) → kept_of w ≡ content_of w → content_by w.state v ≡ refilled (content_of w) v
 put_content w v settled = by_words w.state w.value v settled where
   by_words : (s : State) (u v : Option ℕ) → kept_by s u ≡ content_by s u → content_by s v ≡ refilled (content_by s u) v
-  by_words state.Empty u v e = refl
-  by_words (state.BeingMade p) u v e = refl
-  by_words state.Full (Some u) v e = refl
-  by_words state.Full None v e = absurd (cc e)
+  by_words State.Empty u v e = refl
+  by_words (State.BeingMade p) u v e = refl
+  by_words State.Full (Some u) v e = refl
+  by_words State.Full None v e = absurd (cc e)

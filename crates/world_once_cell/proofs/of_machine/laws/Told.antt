@@ -1,28 +1,7 @@
 -- Whom a full cell has told.
-use Rattle.std.proofs.Common.{◌≡◌, ◌≢◌, ℕ, ◌<◌, ◌≤◌, inl, inr, Bool, true, false, List, length, refl, ap, sym, ◌∙◌, subst, get_or-set_same, get_or-set_other}
-use Rattle.std.proofs.Math.ListN.{set}
-use Rattle.std.proofs.Math.Decide.{ℕ_discrete}
-use Rattle.lock_event.specs.declared.event.Entry.{Entry}
-use Rattle.lock_event.specs.declared.event.Mark.TheVariants as mark
-use Rattle.world_base.specs.queue.Parties.{entries_of, is_unmarked}
-use Rattle.world_base.proofs.of_queue.Marks.{never_unlisted, all_marked}
-use Rattle.world_base.proofs.Lists.{unmarked_before}
-use Rattle.world_base.specs.declared.moves.Inputs.{Inputs}
-use Rattle.world_base.specs.Steps.{Deed, nothing, changes, does}
-use Rattle.world_once_cell.specs.program.Program.{Found}
+use Rattle.world_once_cell.proofs.Prelude.{◌≡◌, ◌≢◌, ℕ, ◌<◌, ◌≤◌, inl, inr, Bool, true, false, List, length, refl, ap, sym, ◌∙◌, subst, get_or-set_same, get_or-set_other, set, ℕ_discrete, Entry, entries_of, is_unmarked, never_unlisted, all_marked, unmarked_before, Inputs, Deed, nothing, changes, does, Found, ListName, Active, Passive, Place, Claim, ClaimListed, JoinActive, AskActive, LeaveToMake, Make, Fill, NotifyActive, NotifyPassive, Fail, FailNotify, LeaveFull, RefuseActive, Look, JoinPassive, LookListed, AskPassive, LeavePassive, RefusePassive, Try, TryFill, TryNotifyActive, TryNotifyPassive, CancelMake, CancelNotify, CancelLeave, Abandon, Position, Out, At, Content, action_of, in_active, in_passive_at, is_late, will_tell, Finds, deed_of, content_after, active_after, passive_after, list_of, everyone, Change, position_at, AllTold}
+use Rattle.lock_event.specs.declared.event.Mark.{Mark}
 use Rattle.sync_program.specs.declared.once_cell.Found.TheVariants as found
-use Rattle.sync_program.specs.declared.once_cell.ListName.{ListName}
-use Rattle.sync_program.specs.declared.once_cell.ListName.TheVariants.{Active, Passive}
-use Rattle.world_once_cell.specs.program.Program.{Place}
-use Rattle.sync_program.specs.declared.once_cell.Place.TheVariants.{Claim, ClaimListed, JoinActive, AskActive, LeaveToMake, Make, Fill, NotifyActive, NotifyPassive, Fail, FailNotify, LeaveFull, RefuseActive, Look, JoinPassive, LookListed, AskPassive, LeavePassive, RefusePassive, Try, TryFill, TryNotifyActive, TryNotifyPassive, CancelMake, CancelNotify, CancelLeave, Abandon}
-use Rattle.world_once_cell.specs.program.Program.{Position}
-use Rattle.sync_program.specs.declared.once_cell.Position.TheVariants.{Out, At}
-use Rattle.world_once_cell.specs.declared.program.words.Content.{Content}
-use Rattle.world_once_cell.specs.declared.program.words.Content.TheVariants as content
-use Rattle.world_once_cell.specs.program.Program.{action_of}
-use Rattle.world_once_cell.specs.machine.Seats.{in_active, in_passive_at, is_late, will_tell}
-use Rattle.world_once_cell.specs.program.Deeds.{Finds, deed_of, content_after, active_after, passive_after, list_of, everyone, Change}
-use Rattle.world_once_cell.specs.machine.Machine.{position_at, AllTold}
 use Rattle.world_once_cell.proofs.of_machine.laws.Kept.{after}
 use Rattle.world_once_cell.proofs.of_machine.laws.Contents.{full_before}
 
@@ -54,27 +33,27 @@ module _ (i : Inputs) (p : ℕ) (c : Content) (q r : List (Entry ℕ)) where
 
   -- who has just told all has left nobody unmarked
   told_all : (list : ListName) (x : Place) (f : Found) → Finds i p (action_of x) f c q r → will_tell list (At x) ≡ true → will_tell list (after x f) ≡ false → length (list_of list q r) ≤ everyone → (j : ℕ) → is_unmarked j (list_then list x f) ≡ true → ⊥
-  told_all Active (NotifyActive v) found.Done e before now few j h = all_marked j mark.Additional everyone q refl few h
+  told_all Active (NotifyActive v) found.Done e before now few j h = all_marked j Mark.Additional everyone q refl few h
   told_all Active (NotifyActive v) _ e before now few j h = e
   told_all Passive (NotifyActive v) f e before now few j h = cc now
-  told_all Passive (NotifyPassive v) found.Done e before now few j h = all_marked j mark.Additional everyone r refl few h
+  told_all Passive (NotifyPassive v) found.Done e before now few j h = all_marked j Mark.Additional everyone r refl few h
   told_all Passive (NotifyPassive v) _ e before now few j h = e
-  told_all Active (TryNotifyActive v) found.Done e before now few j h = all_marked j mark.Additional everyone q refl few h
+  told_all Active (TryNotifyActive v) found.Done e before now few j h = all_marked j Mark.Additional everyone q refl few h
   told_all Active (TryNotifyActive v) _ e before now few j h = e
   told_all Passive (TryNotifyActive v) f e before now few j h = cc now
-  told_all Passive (TryNotifyPassive v) found.Done e before now few j h = all_marked j mark.Additional everyone r refl few h
+  told_all Passive (TryNotifyPassive v) found.Done e before now few j h = all_marked j Mark.Additional everyone r refl few h
   told_all Passive (TryNotifyPassive v) _ e before now few j h = e
   told_all _ _ f e before now few j h = cc before
 
-  empty_full : (v : ℕ) → c ≡ content.Empty → c ≡ content.Full v → ⊥
-  empty_full v e full = let never : content.Empty ≡ content.Full v = sym e ∙ full in cc never
+  empty_full : (v : ℕ) → c ≡ Content.Empty → c ≡ Content.Full v → ⊥
+  empty_full v e full = let never : Content.Empty ≡ Content.Full v = sym e ∙ full in cc never
 
-  made_full : (v n : ℕ) → c ≡ content.BeingMade n → c ≡ content.Full v → ⊥
-  made_full v n e full = let never : content.BeingMade n ≡ content.Full v = sym e ∙ full in cc never
+  made_full : (v n : ℕ) → c ≡ Content.BeingMade n → c ≡ Content.Full v → ⊥
+  made_full v n e full = let never : Content.BeingMade n ≡ Content.Full v = sym e ∙ full in cc never
 
   -- the party itself, once the cell is full
-  own_told : (list : ListName) (x : Place) (f : Found) → Finds i p (action_of x) f c q r → (v : ℕ) → then x f ≡ content.Full v → entries_of p (list_then list x f) ≡ in_list list (after x f) → is_unmarked p (list_then list x f) ≡ true
-      → (c ≡ content.Full v → is_unmarked p (list_of list q r) ≡ true → is_late list (At x) ≡ true) → is_late list (after x f) ≡ true
+  own_told : (list : ListName) (x : Place) (f : Found) → Finds i p (action_of x) f c q r → (v : ℕ) → then x f ≡ Content.Full v → entries_of p (list_then list x f) ≡ in_list list (after x f) → is_unmarked p (list_then list x f) ≡ true
+      → (c ≡ Content.Full v → is_unmarked p (list_of list q r) ≡ true → is_late list (At x) ≡ true) → is_late list (after x f) ≡ true
   own_told Active (Claim k told) found.Empty e n full own u was = absurd (never_unlisted p _ own u)
   own_told Active (Claim k told) (found.Full w) e n full own u was = absurd (never_unlisted p _ own u)
   own_told Active (Claim k told) _ e n full own u was = absurd (never_unlisted p _ own u)
@@ -199,7 +178,7 @@ module _ (i : Inputs) (p : ℕ) (c : Content) (q r : List (Entry ℕ)) where
       nobody_now : will_tell list to ≡ false
       nobody_now = sym (ap (will_tell list) landed) ∙ none p
 
-      by_tell : (b : Bool) → will_tell list (At x) ≡ b → c ≡ content.Full v → is_late list (position_at ys j) ≡ true
+      by_tell : (b : Bool) → will_tell list (At x) ≡ b → c ≡ Content.Full v → is_late list (position_at ys j) ≡ true
       by_tell true is before = absurd (told_all list x f finds is nobody_now few j u)
       by_tell false is before = elim (ℕ_discrete j p) as (λ _. is_late list (position_at ys j) ≡ true) [
         | yes e ↦ (let P : ℕ → Type 0 = λ k. is_unmarked k (list_then list x f) ≡ true in

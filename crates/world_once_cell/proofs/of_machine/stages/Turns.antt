@@ -1,32 +1,7 @@
 -- Where a call begins or goes on, and at which stage its party is after its action.
-use Rattle.std.proofs.Common.{◌≡◌, ◌&&◌, true, false, Some, refl, sym, subst}
+use Rattle.world_once_cell.proofs.Prelude.{◌≡◌, ◌&&◌, true, false, Some, refl, sym, subst, Call, Inputs, What, Begin, Go, Kind, Rest, Stage, Outside, Inside, Forgotten, Within, some_eq, none_some, both, call_at, polls_again, stage_after, Found, ListName, Active, Passive, Maker, Closure, Given, Place, Claim, ClaimListed, JoinActive, AskActive, LeaveToMake, Make, Fill, NotifyActive, NotifyPassive, Fail, FailNotify, LeaveFull, RefuseActive, Look, JoinPassive, LookListed, AskPassive, LeavePassive, RefusePassive, Try, TryFill, TryNotifyActive, TryNotifyPassive, CancelMake, CancelNotify, CancelLeave, Abandon, Position, Out, ToMake, WaitingToMake, Making, ToWait, Waiting, At, place_for, next_of, seat_of, seated, value_known, is_late, will_tell, knows, runs, is_polling, is_trying, is_cancelling, is_begun, goes_with, answer_by}
 use Rattle.std.proofs.lemmas.Bool.{false≢true}
-use Rattle.world_base.specs.declared.moves.Call.TheVariants as call
-use Rattle.world_base.specs.declared.moves.Inputs.{Inputs}
-use Rattle.world_base.specs.declared.moves.What.{What}
-use Rattle.world_base.specs.declared.moves.What.TheVariants.{Begin, Go}
-use Rattle.world_base.specs.declared.standing.Kind.{Kind}
-use Rattle.world_base.specs.declared.standing.Kind.TheVariants as kind
-use Rattle.world_base.specs.declared.standing.Rest.{Rest}
-use Rattle.world_base.specs.declared.standing.Rest.TheVariants as rest
-use Rattle.world_base.specs.declared.standing.Stage.{Stage}
-use Rattle.world_base.specs.declared.standing.Stage.TheVariants.{Outside, Inside, Forgotten}
-use Rattle.world_base.specs.declared.standing.Within.{Within}
-use Rattle.world_base.proofs.Equations.{some_eq, none_some, both}
-use Rattle.world_base.specs.table.Stages.{call_at, polls_again, stage_after}
-use Rattle.world_once_cell.specs.program.Program.{Found}
 use Rattle.sync_program.specs.declared.once_cell.Found.TheVariants as found
-use Rattle.sync_program.specs.declared.once_cell.ListName.{ListName}
-use Rattle.sync_program.specs.declared.once_cell.ListName.TheVariants.{Active, Passive}
-use Rattle.world_once_cell.specs.program.Program.{Maker}
-use Rattle.sync_program.specs.declared.once_cell.Maker.TheVariants.{Closure, Given}
-use Rattle.world_once_cell.specs.program.Program.{Place}
-use Rattle.sync_program.specs.declared.once_cell.Place.TheVariants.{Claim, ClaimListed, JoinActive, AskActive, LeaveToMake, Make, Fill, NotifyActive, NotifyPassive, Fail, FailNotify, LeaveFull, RefuseActive, Look, JoinPassive, LookListed, AskPassive, LeavePassive, RefusePassive, Try, TryFill, TryNotifyActive, TryNotifyPassive, CancelMake, CancelNotify, CancelLeave, Abandon}
-use Rattle.world_once_cell.specs.program.Program.{Position}
-use Rattle.sync_program.specs.declared.once_cell.Position.TheVariants.{Out, ToMake, WaitingToMake, Making, ToWait, Waiting, At}
-use Rattle.world_once_cell.specs.program.Program.{place_for, next_of}
-use Rattle.world_once_cell.specs.machine.Seats.{seat_of, seated, value_known, is_late, will_tell}
-use Rattle.world_once_cell.specs.machine.Machine.{knows, runs, is_polling, is_trying, is_cancelling, is_begun, goes_with, answer_by}
 use Rattle.world_once_cell.proofs.of_machine.laws.Kept.{after}
 
 abbrev pub the : Kind → Rest → Within
@@ -34,21 +9,21 @@ the k r = record { kind = k; was = r }
 
 -- The moves of a cell's parties: each call from where it may begin, and going on.
 pub record Moves (P : Stage → What → Within → Position → Place → Type 0) : Type 0 where
-  pub initialize : (r : Rest) (i : Inputs) → goes_with (Outside r) Out ≡ true → runs kind.FirstPoll r (Claim Closure false) ≡ true → P (Outside r) (Begin call.Initialize i) (the kind.FirstPoll r) Out (Claim Closure false)
-  pub set : (v : _) (r : Rest) (i : Inputs) → goes_with (Outside r) Out ≡ true → runs kind.FirstPoll r (Claim (Given v) false) ≡ true → P (Outside r) (Begin (call.Set v) i) (the kind.FirstPoll r) Out (Claim (Given v) false)
-  pub wait : (r : Rest) (i : Inputs) → goes_with (Outside r) Out ≡ true → runs kind.FirstPoll r (Look false) ≡ true → P (Outside r) (Begin call.Wait i) (the kind.FirstPoll r) Out (Look false)
-  pub try : (v : _) (r : Rest) (i : Inputs) → goes_with (Outside r) Out ≡ true → runs kind.Try r (Try v) ≡ true → P (Outside r) (Begin (call.TrySet v) i) (the kind.Try r) Out (Try v)
-  pub poll : (k : Maker) (i : Inputs) → P (Outside rest.Pending) (Begin call.Poll i) (the kind.LaterPoll rest.Pending) (ToMake k) (Claim k false)
-  pub poll_listed : (k : Maker) (i : Inputs) → P (Outside rest.Pending) (Begin call.Poll i) (the kind.LaterPoll rest.Pending) (WaitingToMake k) (AskActive k)
-  pub poll_maker : (k : Maker) (i : Inputs) → P (Outside rest.Pending) (Begin call.Poll i) (the kind.LaterPoll rest.Pending) (Making k) (Make k)
-  pub poll_wait : (i : Inputs) → P (Outside rest.Pending) (Begin call.Poll i) (the kind.LaterPoll rest.Pending) ToWait (Look false)
-  pub poll_waiting : (i : Inputs) → P (Outside rest.Pending) (Begin call.Poll i) (the kind.LaterPoll rest.Pending) Waiting AskPassive
-  pub cancel : (k : Maker) (i : Inputs) → P (Outside rest.Pending) (Begin call.Drop i) (the kind.Drop rest.Pending) (WaitingToMake k) (CancelLeave Active)
-  pub cancel_maker : (k : Maker) (i : Inputs) → P (Outside rest.Pending) (Begin call.Drop i) (the kind.Drop rest.Pending) (Making k) CancelMake
-  pub cancel_wait : (i : Inputs) → P (Outside rest.Pending) (Begin call.Drop i) (the kind.Drop rest.Pending) Waiting (CancelLeave Passive)
-  pub abandon : (k : Maker) (i : Inputs) → P (Outside rest.Pending) (Begin call.Drop i) (the kind.Drop rest.Pending) (ToMake k) Abandon
-  pub abandon_wait : (i : Inputs) → P (Outside rest.Pending) (Begin call.Drop i) (the kind.Drop rest.Pending) ToWait Abandon
-  pub drop_finished : (i : Inputs) → P (Outside rest.Finished) (Begin call.Drop i) (the kind.Drop rest.Finished) Out Abandon
+  pub initialize : (r : Rest) (i : Inputs) → goes_with (Outside r) Out ≡ true → runs Kind.FirstPoll r (Claim Closure false) ≡ true → P (Outside r) (Begin Call.Initialize i) (the Kind.FirstPoll r) Out (Claim Closure false)
+  pub set : (v : _) (r : Rest) (i : Inputs) → goes_with (Outside r) Out ≡ true → runs Kind.FirstPoll r (Claim (Given v) false) ≡ true → P (Outside r) (Begin (Call.Set v) i) (the Kind.FirstPoll r) Out (Claim (Given v) false)
+  pub wait : (r : Rest) (i : Inputs) → goes_with (Outside r) Out ≡ true → runs Kind.FirstPoll r (Look false) ≡ true → P (Outside r) (Begin Call.Wait i) (the Kind.FirstPoll r) Out (Look false)
+  pub try : (v : _) (r : Rest) (i : Inputs) → goes_with (Outside r) Out ≡ true → runs Kind.Try r (Try v) ≡ true → P (Outside r) (Begin (Call.TrySet v) i) (the Kind.Try r) Out (Try v)
+  pub poll : (k : Maker) (i : Inputs) → P (Outside Rest.Pending) (Begin Call.Poll i) (the Kind.LaterPoll Rest.Pending) (ToMake k) (Claim k false)
+  pub poll_listed : (k : Maker) (i : Inputs) → P (Outside Rest.Pending) (Begin Call.Poll i) (the Kind.LaterPoll Rest.Pending) (WaitingToMake k) (AskActive k)
+  pub poll_maker : (k : Maker) (i : Inputs) → P (Outside Rest.Pending) (Begin Call.Poll i) (the Kind.LaterPoll Rest.Pending) (Making k) (Make k)
+  pub poll_wait : (i : Inputs) → P (Outside Rest.Pending) (Begin Call.Poll i) (the Kind.LaterPoll Rest.Pending) ToWait (Look false)
+  pub poll_waiting : (i : Inputs) → P (Outside Rest.Pending) (Begin Call.Poll i) (the Kind.LaterPoll Rest.Pending) Waiting AskPassive
+  pub cancel : (k : Maker) (i : Inputs) → P (Outside Rest.Pending) (Begin Call.Drop i) (the Kind.Drop Rest.Pending) (WaitingToMake k) (CancelLeave Active)
+  pub cancel_maker : (k : Maker) (i : Inputs) → P (Outside Rest.Pending) (Begin Call.Drop i) (the Kind.Drop Rest.Pending) (Making k) CancelMake
+  pub cancel_wait : (i : Inputs) → P (Outside Rest.Pending) (Begin Call.Drop i) (the Kind.Drop Rest.Pending) Waiting (CancelLeave Passive)
+  pub abandon : (k : Maker) (i : Inputs) → P (Outside Rest.Pending) (Begin Call.Drop i) (the Kind.Drop Rest.Pending) (ToMake k) Abandon
+  pub abandon_wait : (i : Inputs) → P (Outside Rest.Pending) (Begin Call.Drop i) (the Kind.Drop Rest.Pending) ToWait Abandon
+  pub drop_finished : (i : Inputs) → P (Outside Rest.Finished) (Begin Call.Drop i) (the Kind.Drop Rest.Finished) Out Abandon
   pub go : (w : Within) (x : Place) (i : Inputs) → is_begun x ≡ true → runs w.kind w.was x ≡ true → P (Inside w) (Go i) w (At x) x
 
 -- where a move begins, and what is so there
@@ -62,25 +37,25 @@ module _ (P : Stage → What → Within → Position → Place → Type 0) (k : 
   begun s what v w x from starts e h = let Q : Within → Type 0 = λ u. P s what u x from in record { from = from; starts = starts; holds = subst Q (some_eq e) h }
 
   -- one stage after the other, since each case of a match over all of them at once would be told apart from all others
-  idle : (what : What) (w : Within) → call_at knows (Outside rest.Idle) what ≡ Some w → Turn P (Outside rest.Idle) what w Out
-  idle (Begin call.Initialize i) w e = begun _ _ _ w Out (Claim Closure false) refl e (k.initialize rest.Idle i refl refl)
-  idle (Begin (call.Set v) i) w e = begun _ _ _ w Out (Claim (Given v) false) refl e (k.set v rest.Idle i refl refl)
-  idle (Begin call.Wait i) w e = begun _ _ _ w Out (Look false) refl e (k.wait rest.Idle i refl refl)
-  idle (Begin (call.TrySet v) i) w e = begun _ _ _ w Out (Try v) refl e (k.try v rest.Idle i refl refl)
+  idle : (what : What) (w : Within) → call_at knows (Outside Rest.Idle) what ≡ Some w → Turn P (Outside Rest.Idle) what w Out
+  idle (Begin Call.Initialize i) w e = begun _ _ _ w Out (Claim Closure false) refl e (k.initialize Rest.Idle i refl refl)
+  idle (Begin (Call.Set v) i) w e = begun _ _ _ w Out (Claim (Given v) false) refl e (k.set v Rest.Idle i refl refl)
+  idle (Begin Call.Wait i) w e = begun _ _ _ w Out (Look false) refl e (k.wait Rest.Idle i refl refl)
+  idle (Begin (Call.TrySet v) i) w e = begun _ _ _ w Out (Try v) refl e (k.try v Rest.Idle i refl refl)
   idle (Begin _ i) w e = absurd (none_some e)
   idle (Go i) w e = absurd (none_some e)
 
-  finished : (what : What) (w : Within) → call_at knows (Outside rest.Finished) what ≡ Some w → polls_again (Outside rest.Finished) what ≡ false → Turn P (Outside rest.Finished) what w Out
-  finished (Begin call.Initialize i) w e n = begun _ _ _ w Out (Claim Closure false) refl e (k.initialize rest.Finished i refl refl)
-  finished (Begin (call.Set v) i) w e n = begun _ _ _ w Out (Claim (Given v) false) refl e (k.set v rest.Finished i refl refl)
-  finished (Begin call.Wait i) w e n = begun _ _ _ w Out (Look false) refl e (k.wait rest.Finished i refl refl)
-  finished (Begin (call.TrySet v) i) w e n = begun _ _ _ w Out (Try v) refl e (k.try v rest.Finished i refl refl)
-  finished (Begin call.Drop i) w e n = begun _ _ _ w Out Abandon refl e (k.drop_finished i)
-  finished (Begin call.Poll i) w e n = absurd (false≢true (sym n))
+  finished : (what : What) (w : Within) → call_at knows (Outside Rest.Finished) what ≡ Some w → polls_again (Outside Rest.Finished) what ≡ false → Turn P (Outside Rest.Finished) what w Out
+  finished (Begin Call.Initialize i) w e n = begun _ _ _ w Out (Claim Closure false) refl e (k.initialize Rest.Finished i refl refl)
+  finished (Begin (Call.Set v) i) w e n = begun _ _ _ w Out (Claim (Given v) false) refl e (k.set v Rest.Finished i refl refl)
+  finished (Begin Call.Wait i) w e n = begun _ _ _ w Out (Look false) refl e (k.wait Rest.Finished i refl refl)
+  finished (Begin (Call.TrySet v) i) w e n = begun _ _ _ w Out (Try v) refl e (k.try v Rest.Finished i refl refl)
+  finished (Begin Call.Drop i) w e n = begun _ _ _ w Out Abandon refl e (k.drop_finished i)
+  finished (Begin Call.Poll i) w e n = absurd (false≢true (sym n))
   finished (Begin _ i) w e n = absurd (none_some e)
   finished (Go i) w e n = absurd (none_some e)
 
-  polled : (i : Inputs) (w : Within) (x : Position) → goes_with (Outside rest.Pending) x ≡ true → call_at knows (Outside rest.Pending) (Begin call.Poll i) ≡ Some w → Turn P (Outside rest.Pending) (Begin call.Poll i) w x
+  polled : (i : Inputs) (w : Within) (x : Position) → goes_with (Outside Rest.Pending) x ≡ true → call_at knows (Outside Rest.Pending) (Begin Call.Poll i) ≡ Some w → Turn P (Outside Rest.Pending) (Begin Call.Poll i) w x
   polled i w (ToMake m) g e = begun _ _ _ w (ToMake m) (Claim m false) refl e (k.poll m i)
   polled i w (WaitingToMake m) g e = begun _ _ _ w (WaitingToMake m) (AskActive m) refl e (k.poll_listed m i)
   polled i w (Making m) g e = begun _ _ _ w (Making m) (Make m) refl e (k.poll_maker m i)
@@ -88,7 +63,7 @@ module _ (P : Stage → What → Within → Position → Place → Type 0) (k : 
   polled i w Waiting g e = begun _ _ _ w Waiting AskPassive refl e (k.poll_waiting i)
   polled i w _ g e = absurd (false≢true g)
 
-  dropped : (i : Inputs) (w : Within) (x : Position) → goes_with (Outside rest.Pending) x ≡ true → call_at knows (Outside rest.Pending) (Begin call.Drop i) ≡ Some w → Turn P (Outside rest.Pending) (Begin call.Drop i) w x
+  dropped : (i : Inputs) (w : Within) (x : Position) → goes_with (Outside Rest.Pending) x ≡ true → call_at knows (Outside Rest.Pending) (Begin Call.Drop i) ≡ Some w → Turn P (Outside Rest.Pending) (Begin Call.Drop i) w x
   dropped i w (ToMake m) g e = begun _ _ _ w (ToMake m) Abandon refl e (k.abandon m i)
   dropped i w (WaitingToMake m) g e = begun _ _ _ w (WaitingToMake m) (CancelLeave Active) refl e (k.cancel m i)
   dropped i w (Making m) g e = begun _ _ _ w (Making m) CancelMake refl e (k.cancel_maker m i)
@@ -96,16 +71,16 @@ module _ (P : Stage → What → Within → Position → Place → Type 0) (k : 
   dropped i w Waiting g e = begun _ _ _ w Waiting (CancelLeave Passive) refl e (k.cancel_wait i)
   dropped i w _ g e = absurd (false≢true g)
 
-  pending : (what : What) (w : Within) (x : Position) → goes_with (Outside rest.Pending) x ≡ true → call_at knows (Outside rest.Pending) what ≡ Some w → Turn P (Outside rest.Pending) what w x
-  pending (Begin call.Poll i) w x g e = polled i w x g e
-  pending (Begin call.Drop i) w x g e = dropped i w x g e
+  pending : (what : What) (w : Within) (x : Position) → goes_with (Outside Rest.Pending) x ≡ true → call_at knows (Outside Rest.Pending) what ≡ Some w → Turn P (Outside Rest.Pending) what w x
+  pending (Begin Call.Poll i) w x g e = polled i w x g e
+  pending (Begin Call.Drop i) w x g e = dropped i w x g e
   pending (Begin _ i) w x g e = absurd (none_some e)
   pending (Go i) w x g e = absurd (none_some e)
 
   resting : (r : Rest) (what : What) (w : Within) (x : Position) → goes_with (Outside r) x ≡ true → call_at knows (Outside r) what ≡ Some w → polls_again (Outside r) what ≡ false → Turn P (Outside r) what w x
-  resting rest.Idle what w Out g e n = idle what w e
-  resting rest.Finished what w Out g e n = finished what w e n
-  resting rest.Pending what w x g e n = pending what w x g e
+  resting Rest.Idle what w Out g e n = idle what w e
+  resting Rest.Finished what w Out g e n = finished what w e n
+  resting Rest.Pending what w x g e n = pending what w x g e
   resting _ what w _ g e n = absurd (false≢true g)
 
   pub turn : (s : Stage) (what : What) (w : Within) (x : Position) → goes_with s x ≡ true → call_at knows s what ≡ Some w → polls_again s what ≡ false → Turn P s what w x
@@ -150,7 +125,7 @@ fits = turn (λ s what w x from. Fits w x from) (record {
 -- ---- the stage after an action goes with where the party then stands
 
 abbrev pub Lands : Within → Place → Found → Type 0
-Lands w x f = goes_with (stage_after rest.Finished w (answer_by (next_of x f))) (after x f) ≡ true
+Lands w x f = goes_with (stage_after Rest.Finished w (answer_by (next_of x f))) (after x f) ≡ true
 
 module _ (w : Within) (inside : (x : Place) → is_begun x && is_polling x ≡ true → goes_with (Inside w) (At x) ≡ true) where
   polls : (x : Place) (f : Found) → is_polling x ≡ true → Lands w x f
@@ -189,7 +164,7 @@ module _ (w : Within) (inside : (x : Place) → is_begun x && is_polling x ≡ t
   polls RefusePassive f h = refl
   polls _ f h = absurd (false≢true h)
 
-tries : (r : Rest) → goes_with (Outside r) Out ≡ true → ((x : Place) → is_begun x && is_trying x ≡ true → goes_with (Inside (the kind.Try r)) (At x) ≡ true) → (x : Place) (f : Found) → is_trying x ≡ true → Lands (the kind.Try r) x f
+tries : (r : Rest) → goes_with (Outside r) Out ≡ true → ((x : Place) → is_begun x && is_trying x ≡ true → goes_with (Inside (the Kind.Try r)) (At x) ≡ true) → (x : Place) (f : Found) → is_trying x ≡ true → Lands (the Kind.Try r) x f
 tries r g inside (Try v) found.Empty h = inside (TryFill v) refl
 tries r g inside (Try v) _ h = g
 tries r g inside (TryFill v) f h = inside (TryNotifyActive v) refl
@@ -197,25 +172,25 @@ tries r g inside (TryNotifyActive v) f h = inside (TryNotifyPassive v) refl
 tries r g inside (TryNotifyPassive v) f h = g
 tries r g inside _ f h = absurd (false≢true h)
 
-cancels : (x : Place) (f : Found) → is_cancelling x ≡ true → Lands (the kind.Drop rest.Pending) x f
+cancels : (x : Place) (f : Found) → is_cancelling x ≡ true → Lands (the Kind.Drop Rest.Pending) x f
 cancels CancelMake f h = refl
 cancels CancelNotify f h = refl
 cancels (CancelLeave list) f h = refl
 cancels Abandon f h = refl
 cancels _ f h = absurd (false≢true h)
 
-abandons : (x : Place) (f : Found) → runs kind.Drop rest.Finished x ≡ true → Lands (the kind.Drop rest.Finished) x f
+abandons : (x : Place) (f : Found) → runs Kind.Drop Rest.Finished x ≡ true → Lands (the Kind.Drop Rest.Finished) x f
 abandons Abandon f h = refl
 abandons _ f h = absurd (false≢true h)
 
 by_kind : (k : Kind) (r : Rest) (x : Place) (f : Found) → runs k r x ≡ true → Lands (the k r) x f
-by_kind kind.FirstPoll rest.Idle x f h = polls (the kind.FirstPoll rest.Idle) (λ y p. p) x f h
-by_kind kind.FirstPoll rest.Finished x f h = polls (the kind.FirstPoll rest.Finished) (λ y p. p) x f h
-by_kind kind.LaterPoll rest.Pending x f h = polls (the kind.LaterPoll rest.Pending) (λ y p. p) x f h
-by_kind kind.Try rest.Idle x f h = tries rest.Idle refl (λ y p. p) x f h
-by_kind kind.Try rest.Finished x f h = tries rest.Finished refl (λ y p. p) x f h
-by_kind kind.Drop rest.Pending x f h = cancels x f h
-by_kind kind.Drop rest.Finished x f h = abandons x f h
+by_kind Kind.FirstPoll Rest.Idle x f h = polls (the Kind.FirstPoll Rest.Idle) (λ y p. p) x f h
+by_kind Kind.FirstPoll Rest.Finished x f h = polls (the Kind.FirstPoll Rest.Finished) (λ y p. p) x f h
+by_kind Kind.LaterPoll Rest.Pending x f h = polls (the Kind.LaterPoll Rest.Pending) (λ y p. p) x f h
+by_kind Kind.Try Rest.Idle x f h = tries Rest.Idle refl (λ y p. p) x f h
+by_kind Kind.Try Rest.Finished x f h = tries Rest.Finished refl (λ y p. p) x f h
+by_kind Kind.Drop Rest.Pending x f h = cancels x f h
+by_kind Kind.Drop Rest.Finished x f h = abandons x f h
 by_kind _ _ x f h = absurd (false≢true h)
 
 pub lands : (w : Within) (x : Place) (f : Found) → runs w.kind w.was x ≡ true → Lands w x f

@@ -1,9 +1,5 @@
 -- The World is at rest where its table is.
-use Rattle.std.proofs.Common.{ap, sym, ◌∙◌}
-use Rattle.world_base.proofs.of_table.Views.{rest_seen}
-use Rattle.world_once_cell.specs.machine.Seats.{verdict}
-use Rattle.world_once_cell.specs.machine.Machine.{position_at}
-use Rattle.world_once_cell.specs.Laws.{is_at_rest}
+use Rattle.world_once_cell.proofs.Prelude.{ap, sym, ◌∙◌, rest_seen, verdict, position_at, is_at_rest}
 use Rattle.world_once_cell.proofs.world.World.at_rest.Goals as goal
 
 pub returns : goal.returns

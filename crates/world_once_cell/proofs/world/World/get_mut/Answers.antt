@@ -1,11 +1,7 @@
 -- The value is lent by the World as by its table.
-use Rattle.std.proofs.Common.{ap, ◌∙◌, Some}
+use Rattle.world_once_cell.proofs.Prelude.{ap, ◌∙◌, Some, table_with, value_in, with_value, view_of}
 use borrow.Follows.Closed.{read_of}
 use Rattle.std.specs.Option.{ghost_name_of}
-use Rattle.world_base.specs.table.Lending.{table_with}
-use Rattle.world_once_cell.specs.program.Words.{value_in}
-use Rattle.world_once_cell.specs.machine.Machine.{with_value}
-use Rattle.world_once_cell.specs.View.{view_of}
 use Rattle.world_once_cell.proofs.table.Lent.{rests_there, put_here}
 use Rattle.world_once_cell.proofs.world.World.get_mut.Goals as goal
 

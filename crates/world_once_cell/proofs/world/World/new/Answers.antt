@@ -1,7 +1,5 @@
 -- A new table is seen as a new World.
-use Rattle.std.proofs.Common.{ap, ◌∙◌}
-use Rattle.world_base.specs.table.Tables.{new_table}
-use Rattle.world_once_cell.specs.View.{view_of}
+use Rattle.world_once_cell.proofs.Prelude.{ap, ◌∙◌, new_table, view_of}
 use Rattle.world_once_cell.proofs.step.Tellers.{none_fills}
 use Rattle.world_once_cell.proofs.table.Opening.{starts_new}
 use Rattle.world_once_cell.proofs.world.World.new.Goals as goal

@@ -1,8 +1,5 @@
 -- The value is taken from the World as from its table.
-use Rattle.std.proofs.Common.{ap, ◌∙◌, None}
-use Rattle.world_base.specs.table.Lending.{table_with}
-use Rattle.world_once_cell.specs.machine.Machine.{with_value}
-use Rattle.world_once_cell.specs.View.{view_of}
+use Rattle.world_once_cell.proofs.Prelude.{ap, ◌∙◌, None, table_with, with_value, view_of}
 use Rattle.world_once_cell.proofs.table.Lent.{rests_there, put_here}
 use Rattle.world_once_cell.proofs.world.World.take.Goals as goal
 

@@ -1,11 +1,6 @@
 -- An action of one party is one of its program, and keeps what always holds of the cell.
-use Rattle.std.proofs.Common.{◌≡◌, ◌<◌, length, ap, sym, ◌∙◌}
-use Rattle.std.proofs.Math.ListN.{set}
-use Rattle.world_base.specs.queue.Queues.{queue}
-use Rattle.world_once_cell.specs.program.Program.{action_of, position_after}
-use Rattle.world_once_cell.specs.program.Deeds.{Finds, deed_of, content_after, active_after, passive_after}
-use Rattle.world_once_cell.specs.machine.Machine.{answer_by, IsKept, Stands}
-use Rattle.world_once_cell.specs.program.Words.{content_of}
+use Rattle.world_once_cell.proofs.Prelude.{◌≡◌, ◌<◌, length, ap, sym, ◌∙◌, set, queue, action_of, position_after, Finds, deed_of, content_after, active_after, passive_after, answer_by, IsKept, content_of}
+use Rattle.world_once_cell.specs.machine.Machine.{Stands}
 use Rattle.world_once_cell.proofs.of_machine.laws.Kept.{after}
 use Rattle.world_once_cell.proofs.of_machine.laws.Locks.{began, locked, keeps}
 use Rattle.world_once_cell.proofs.of_machine.laws.Taken.{settled}

@@ -1,6 +1,5 @@
 -- What always holds of a cell holds with whatever value is left in it.
-use Rattle.std.proofs.Common.{◌≡◌, sym, ◌∙◌}
-use Rattle.world_once_cell.specs.program.Words.{content_of, kept_of}
+use Rattle.world_once_cell.proofs.Prelude.{◌≡◌, sym, ◌∙◌, content_of, kept_of}
 use Rattle.world_once_cell.proofs.of_machine.laws.Taken.{settled, put}
 use Rattle.world_once_cell.proofs.machine.cell.OnceCellValued.value_mut.Goals as goal
 

@@ -1,8 +1,5 @@
 -- Only an empty cell's value is begun to be made.
-use Rattle.std.proofs.Common.{sym, ap}
-use Rattle.world_once_cell.specs.program.Deeds.{claimed_after}
-use Rattle.world_once_cell.specs.program.Words.{content_of}
-use Rattle.world_once_cell.specs.program.Program.{Found}
+use Rattle.world_once_cell.proofs.Prelude.{sym, ap, claimed_after, content_of, Found}
 use Rattle.world_once_cell.proofs.program.words.Words.claim.Goals as goal
 
 pub returns-in-Empty-clause-content : goal.returns-in-Empty-clause-content
