@@ -1,40 +1,5 @@
 -- A whole poll of a pending party is one that the machine carries out alone.
-use Rattle.std.proofs.Common.{◌≡◌, ◌≢◌, ℕ, zero, suc, ◌<◌, Bool, true, [], ◌∷◌, ◌++◌, length, replicate, refl, sym, ap, ◌∙◌, subst, arith, get_or-set_same, length-set, set-set}
-use Rattle.std.proofs.Math.ListN.{set}
-use Rattle.lock_program.specs.declared.end.End.{End}
-use Rattle.lock_program.specs.declared.end.End.TheVariants as «end»
-use Rattle.lock_program.specs.declared.rwlock.Action.{Action}
-use Rattle.lock_program.specs.declared.rwlock.Place.{Place}
-use Rattle.world_rwlock.specs.declared.program.led.Next.{Next}
-use Rattle.world_rwlock.specs.declared.program.led.Next.TheVariants as next
-use Rattle.world_base.specs.declared.moves.Answer.{Answer}
-use Rattle.world_base.specs.declared.moves.Answer.TheVariants as answer
-use Rattle.world_base.specs.declared.moves.Call.TheVariants as call
-use Rattle.world_base.specs.declared.moves.Inputs.{Inputs}
-use Rattle.world_base.specs.declared.moves.Move.{Move}
-use Rattle.world_base.specs.declared.moves.What.{What}
-use Rattle.world_base.specs.declared.moves.What.TheVariants.{Begin, Go}
-use Rattle.world_base.specs.declared.standing.Kind.TheVariants as kind
-use Rattle.world_base.specs.declared.standing.Rest.TheVariants as rest
-use Rattle.world_base.specs.declared.standing.Stage.{Stage}
-use Rattle.world_base.specs.declared.standing.Stage.TheVariants.{Outside, Inside, Forgotten}
-use Rattle.world_base.specs.declared.standing.Within.{Within}
-use Rattle.world_base.specs.Accounts.{Account, accounts_after}
-use Rattle.world_base.specs.Standings.{inputs_of}
-use Rattle.world_base.specs.Whole.{going_on, moves_of, answers_of}
-use Rattle.world_base.proofs.Equations.{some_eq, is_some_and}
-use Rattle.world_base.specs.table.Stages.{stage_at, stage_after, call_at, polls_again}
-use Rattle.world_base.specs.table.Tables.{Table}
-use Rattle.world_rwlock.specs.program.Program.{start_of}
-use Rattle.world_rwlock.specs.machine.Machine.{place_at}
-use Rattle.world_rwlock.specs.machine.Acts.{Acts}
-use Rattle.world_rwlock.specs.machine.Solo.{GoesOnAlone, last, step, PollsAlone, at_once, begun, BeginsPoll}
-use Rattle.world_rwlock.specs.program.Calls.{knows_at}
-use Rattle.world_rwlock.specs.Guarded.{Guarded, answer_by}
-use Rattle.world_rwlock.specs.Stages.{Course, upgrades, course_of, is_on_course}
-use Rattle.world_rwlock.specs.State.{World}
-use Rattle.world_rwlock.specs.Steps.{Stands, Steps as Moved}
-use Rattle.world_rwlock.specs.Runs.{Runs}
+use Rattle.world_rwlock.proofs.Prelude.{◌≡◌, ◌≢◌, ℕ, zero, suc, ◌<◌, Bool, true, [], ◌∷◌, ◌++◌, length, replicate, refl, sym, ap, ◌∙◌, subst, arith, get_or-set_same, length-set, set-set, set, End, Action, Place, Next, Answer, Call, Inputs, Move, What, Begin, Go, Kind, Rest, Stage, Outside, Inside, Forgotten, Within, Account, accounts_after, inputs_of, going_on, moves_of, answers_of, some_eq, is_some_and, stage_at, stage_after, call_at, polls_again, Table, start_of, place_at, Acts, GoesOnAlone, last, step, PollsAlone, at_once, begun, BeginsPoll, knows_at, Guarded, answer_by, Course, upgrades, course_of, is_on_course, World, Stands, Moved, Runs}
 use Rattle.world_rwlock.proofs.step.Acting.{Acting, acting, fit}
 use Rattle.world_rwlock.proofs.table.Begun.{within}
 use Rattle.world_rwlock.proofs.step.Idle.{Laws}
@@ -44,33 +9,33 @@ use Rattle.world_rwlock.proofs.table.Stages.{stage_then}
 
 -- a later poll
 abbrev later : Within
-later = within kind.LaterPoll rest.Pending
+later = within Kind.LaterPoll Rest.Pending
 
 -- a poll goes on exactly if it is answered Stepped
-goes : (v : ℕ) (n : Next) → answer_by v n ≡ answer.Stepped → (a : Action) × (to : Place) × (n ≡ next.Do a to)
-goes v (next.Do a to) h = (a, to, refl)
-goes v (next.Wait to) h = absurd (cc)
-goes v (next.End «end».Got to) h = absurd (cc)
-goes v (next.End «end».Granted to) h = absurd (cc)
-goes v (next.End «end».Pending to) h = absurd (cc)
-goes v (next.End «end».NotFree to) h = absurd (cc)
-goes v (next.End «end».Waiting to) h = absurd (cc)
-goes v (next.End «end».GivenBack to) h = absurd (cc)
-goes v (next.End («end».Refused r) to) h = absurd (cc)
+goes : (v : ℕ) (n : Next) → answer_by v n ≡ Answer.Stepped → (a : Action) × (to : Place) × (n ≡ Next.Do a to)
+goes v (Next.Do a to) h = (a, to, refl)
+goes v (Next.Wait to) h = absurd (cc)
+goes v (Next.End End.Got to) h = absurd (cc)
+goes v (Next.End End.Granted to) h = absurd (cc)
+goes v (Next.End End.Pending to) h = absurd (cc)
+goes v (Next.End End.NotFree to) h = absurd (cc)
+goes v (Next.End End.Waiting to) h = absurd (cc)
+goes v (Next.End End.GivenBack to) h = absurd (cc)
+goes v (Next.End (End.Refused r) to) h = absurd (cc)
 
-not_upgrading : (c : Course) → is_on_course kind.LaterPoll rest.Pending c ≡ true → c ≡ upgrades → ⊥
-not_upgrading c on e = let never : is_on_course kind.LaterPoll rest.Pending upgrades ≡ true = sym (ap (is_on_course kind.LaterPoll rest.Pending) e) ∙ on in cc
+not_upgrading : (c : Course) → is_on_course Kind.LaterPoll Rest.Pending c ≡ true → c ≡ upgrades → ⊥
+not_upgrading c on e = let never : is_on_course Kind.LaterPoll Rest.Pending upgrades ≡ true = sym (ap (is_on_course Kind.LaterPoll Rest.Pending) e) ∙ on in cc
 
-ends : (v : ℕ) (c : Course) (n : Next) → is_on_course kind.LaterPoll rest.Pending c ≡ true → Keeps c n → answer_by v n ≢ answer.Stepped → (e : End) × (to : Place) × (n ≡ next.End e to)
-ends v c (next.Do a to) on k h = absurd (h refl)
-ends v c (next.Wait to) on k h = absurd (not_upgrading c on k.0)
-ends v c (next.End e to) on k h = (e, to, refl)
+ends : (v : ℕ) (c : Course) (n : Next) → is_on_course Kind.LaterPoll Rest.Pending c ≡ true → Keeps c n → answer_by v n ≢ Answer.Stepped → (e : End) × (to : Place) × (n ≡ Next.End e to)
+ends v c (Next.Do a to) on k h = absurd (h refl)
+ends v c (Next.Wait to) on k h = absurd (not_upgrading c on k.0)
+ends v c (Next.End e to) on k h = (e, to, refl)
 
 -- how a poll left the World that ended so
 pub record Ended (w : World) (p : ℕ) (a : Answer) (v : World) (e : End) : Type 0 where
   pub to : Place
-  pub answer : a ≡ answer_by w.behind.machine.value (next.End e to)
-  pub stages : v.behind.stages ≡ set w.behind.stages p (stage_then later w.behind.machine.value (next.End e to))
+  pub answer : a ≡ answer_by w.behind.machine.value (Next.End e to)
+  pub stages : v.behind.stages ≡ set w.behind.stages p (stage_then later w.behind.machine.value (Next.End e to))
   pub value : v.behind.machine.value ≡ w.behind.machine.value
   pub stands : Stands v
 
@@ -78,7 +43,7 @@ pub record Ended (w : World) (p : ℕ) (a : Answer) (v : World) (e : End) : Type
 record Onward (memory starving : Bool) (t : Table Guarded) (p : ℕ) (from : Place) (u : Table Guarded) : Type 0 where
   pub action : Action
   pub to : Place
-  pub acts : Acts memory starving p from (next.Do action to) t.machine.lock u.machine.lock
+  pub acts : Acts memory starving p from (Next.Do action to) t.machine.lock u.machine.lock
   pub stages : u.stages ≡ set t.stages p (Inside later)
   pub value : u.machine.value ≡ t.machine.value
 
@@ -94,32 +59,32 @@ module _ (p : ℕ) (i : Inputs) where
       subst A are (subst N is h)
 
   -- the step that ends a poll
-  ends_so : (w v : World) (what : What) (a : Answer) → inputs_of what ≡ i → a ≢ answer.Stepped → Moved w (record { party = p; what = what }) a v → (c : Acting w.behind v.behind (record { party = p; what = what }) a later)
-      → (e : End) × (to : Place) × Acts i.memory i.starving p c.from (next.End e to) w.behind.machine.lock v.behind.machine.lock × Ended w p a v e
+  ends_so : (w v : World) (what : What) (a : Answer) → inputs_of what ≡ i → a ≢ Answer.Stepped → Moved w (record { party = p; what = what }) a v → (c : Acting w.behind v.behind (record { party = p; what = what }) a later)
+      → (e : End) × (to : Place) × Acts i.memory i.starving p c.from (Next.End e to) w.behind.machine.lock v.behind.machine.lock × Ended w p a v e
   ends_so w v what a are not_stepped did c =
       let t = w.behind in
       let u = v.behind in
       let walk = walks (inputs_of what).memory (inputs_of what).starving p c.from c.next t.machine.lock u.machine.lock later c.acts (fit t u (record { party = p; what = what }) a later c) c.moves.course in
       let n = ends t.machine.value (course_of c.from) c.next c.moves.course walk.keeps (λ h. not_stepped (c.answer ∙ h)) in
-      let said : a ≡ answer_by t.machine.value (next.End n.0 n.1) = c.answer ∙ ap (answer_by t.machine.value) n.2 in (
+      let said : a ≡ answer_by t.machine.value (Next.End n.0 n.1) = c.answer ∙ ap (answer_by t.machine.value) n.2 in (
         n.0,
         n.1,
-        on_inputs what c.from c.next (next.End n.0 n.1) t u are n.2 c.acts,
-        record { to = n.1; answer = said; stages = c.stages ∙ ap (λ b. set t.stages p (stage_after rest.Holding later b)) said; value = c.value; stands = did.did.stands },
+        on_inputs what c.from c.next (Next.End n.0 n.1) t u are n.2 c.acts,
+        record { to = n.1; answer = said; stages = c.stages ∙ ap (λ b. set t.stages p (stage_after Rest.Holding later b)) said; value = c.value; stands = did.did.stands },
       )
 
-  goes_so : (t u : Table Guarded) (what : What) → inputs_of what ≡ i → (c : Acting t u (record { party = p; what = what }) answer.Stepped later) → Onward i.memory i.starving t p c.from u
+  goes_so : (t u : Table Guarded) (what : What) → inputs_of what ≡ i → (c : Acting t u (record { party = p; what = what }) Answer.Stepped later) → Onward i.memory i.starving t p c.from u
   goes_so t u what are c =
       let n = goes t.machine.value c.next (sym c.answer) in
-      record { action = n.0; to = n.1; acts = on_inputs what c.from c.next (next.Do n.0 n.1) t u are n.2 c.acts; stages = c.stages; value = c.value }
+      record { action = n.0; to = n.1; acts = on_inputs what c.from c.next (Next.Do n.0 n.1) t u are n.2 c.acts; stages = c.stages; value = c.value }
 
   -- what ended from a World that a step left ended from the one before
   ended_before : (w mid v : World) (a : Answer) (e : End) (s : Stage) → mid.behind.stages ≡ set w.behind.stages p s → mid.behind.machine.value ≡ w.behind.machine.value → Ended mid p a v e → Ended w p a v e
   ended_before w mid v a e s stages value k = record {
     to = k.to;
-    answer = k.answer ∙ ap (λ n. answer_by n (next.End e k.to)) value;
-    stages = k.stages ∙ (ap (λ n. set mid.behind.stages p (stage_then later n (next.End e k.to))) value
-        ∙ (ap (λ ss. set ss p (stage_then later w.behind.machine.value (next.End e k.to))) stages ∙ set-set w.behind.stages p s (stage_then later w.behind.machine.value (next.End e k.to))));
+    answer = k.answer ∙ ap (λ n. answer_by n (Next.End e k.to)) value;
+    stages = k.stages ∙ (ap (λ n. set mid.behind.stages p (stage_then later n (Next.End e k.to))) value
+        ∙ (ap (λ ss. set ss p (stage_then later w.behind.machine.value (Next.End e k.to))) stages ∙ set-set w.behind.stages p s (stage_then later w.behind.machine.value (Next.End e k.to))));
     value = k.value ∙ value;
     stands = k.stands;
   }
@@ -134,50 +99,50 @@ module _ (p : ℕ) (i : Inputs) where
       acting w.behind v.behind (going_on p i) a (laws w did.did.stood) (laws v did.did.stands) later (ap (λ s. call_at (knows_at x) s (Go i)) inside) (ap (λ s. polls_again s (Go i)) inside) refl did.did.step
 
   -- a poll that has begun goes on alone
-  goes_on : (known : ℕ → Account) (k : ℕ) (w v : World) (a : Answer) → a ≢ answer.Stepped → p < length w.behind.stages → stage_at w.behind.stages p ≡ Inside later
-      → Runs known w (going_on p i ∷ replicate k (going_on p i)) (replicate k answer.Stepped ++ a ∷ []) v → (e : End) × GoesOnAlone i.memory p e v.behind.machine.lock w.behind.machine.lock × Ended w p a v e
+  goes_on : (known : ℕ → Account) (k : ℕ) (w v : World) (a : Answer) → a ≢ Answer.Stepped → p < length w.behind.stages → stage_at w.behind.stages p ≡ Inside later
+      → Runs known w (going_on p i ∷ replicate k (going_on p i)) (replicate k Answer.Stepped ++ a ∷ []) v → (e : End) × GoesOnAlone i.memory p e v.behind.machine.lock w.behind.machine.lock × Ended w p a v e
   goes_on known zero w v a not_stepped here inside runs =
       let t = w.behind in
       let mid : World = runs.0 in
       let c = going w mid a inside runs.1 in
       let so = ends_so w mid (Go i) a refl not_stepped runs.1 c in
-      let F : Place → Type 0 = λ x. Acts i.memory i.starving p x (next.End so.0 so.1) t.machine.lock mid.behind.machine.lock in
+      let F : Place → Type 0 = λ x. Acts i.memory i.starving p x (Next.End so.0 so.1) t.machine.lock mid.behind.machine.lock in
       let P : World → Type 0 = λ x. (e : End) × GoesOnAlone i.memory p e x.behind.machine.lock t.machine.lock × Ended w p a x e in
       subst P (sym runs.3) (so.0, last t.machine.lock i.starving so.1 (subst F (sym (some_eq c.starts)) so.2), so.3)
   goes_on known (suc k) w v a not_stepped here inside runs =
       let t = w.behind in
       let mid : World = runs.0 in
-      let c = going w mid answer.Stepped inside runs.1 in
+      let c = going w mid Answer.Stepped inside runs.1 in
       let on = goes_so t mid.behind (Go i) refl c in
       let there = still_inside t mid.behind here on.stages in
-      let more = goes_on (accounts_after known (going_on p i) answer.Stepped) k mid v a not_stepped there.0 there.1 runs.3 in
-      let F : Place → Type 0 = λ x. Acts i.memory i.starving p x (next.Do on.action on.to) t.machine.lock mid.behind.machine.lock in
+      let more = goes_on (accounts_after known (going_on p i) Answer.Stepped) k mid v a not_stepped there.0 there.1 runs.3 in
+      let F : Place → Type 0 = λ x. Acts i.memory i.starving p x (Next.Do on.action on.to) t.machine.lock mid.behind.machine.lock in
       (more.0, step t.machine.lock mid.behind.machine.lock i.starving on.action on.to (subst F (sym (some_eq c.starts)) on.acts) more.1, ended_before w mid v a more.0 (Inside later) on.stages on.value more.2)
 
   abbrev first_move : Move
-  first_move = record { party = p; what = Begin call.Poll i }
+  first_move = record { party = p; what = Begin Call.Poll i }
 
-  beginning : (w v : World) (a : Answer) → stage_at w.behind.stages p ≡ Outside rest.Pending → Moved w first_move a v → Acting w.behind v.behind first_move a later
+  beginning : (w v : World) (a : Answer) → stage_at w.behind.stages p ≡ Outside Rest.Pending → Moved w first_move a v → Acting w.behind v.behind first_move a later
   beginning w v a pending did =
       let x = place_at w.behind.machine.lock.places p in
-      acting w.behind v.behind first_move a (laws w did.did.stood) (laws v did.did.stands) later (ap (λ s. call_at (knows_at x) s (Begin call.Poll i)) pending) (ap (λ s. polls_again s (Begin call.Poll i)) pending) refl did.did.step
+      acting w.behind v.behind first_move a (laws w did.did.stood) (laws v did.did.stands) later (ap (λ s. call_at (knows_at x) s (Begin Call.Poll i)) pending) (ap (λ s. polls_again s (Begin Call.Poll i)) pending) refl did.did.step
 
-  pub polls_alone : (known : ℕ → Account) (k : ℕ) (w v : World) (a : Answer) → a ≢ answer.Stepped → p < length w.behind.stages → stage_at w.behind.stages p ≡ Outside rest.Pending
-      → Runs known w (moves_of p call.Poll i k) (answers_of k a) v → (e : End) × PollsAlone i.memory p e v.behind.machine.lock w.behind.machine.lock × Ended w p a v e
+  pub polls_alone : (known : ℕ → Account) (k : ℕ) (w v : World) (a : Answer) → a ≢ Answer.Stepped → p < length w.behind.stages → stage_at w.behind.stages p ≡ Outside Rest.Pending
+      → Runs known w (moves_of p Call.Poll i k) (answers_of k a) v → (e : End) × PollsAlone i.memory p e v.behind.machine.lock w.behind.machine.lock × Ended w p a v e
   polls_alone known zero w v a not_stepped here pending runs =
       let t = w.behind in
       let mid : World = runs.0 in
       let c = beginning w mid a pending runs.1 in
-      let so = ends_so w mid (Begin call.Poll i) a refl not_stepped runs.1 c in
-      let begins : BeginsPoll i.memory i.starving p (next.End so.0 so.1) t.machine.lock mid.behind.machine.lock = is_some_and (λ from. Acts i.memory i.starving p from (next.End so.0 so.1) t.machine.lock mid.behind.machine.lock) (start_of call.Poll (place_at t.machine.lock.places p)) c.from c.starts so.2 in
+      let so = ends_so w mid (Begin Call.Poll i) a refl not_stepped runs.1 c in
+      let begins : BeginsPoll i.memory i.starving p (Next.End so.0 so.1) t.machine.lock mid.behind.machine.lock = is_some_and (λ from. Acts i.memory i.starving p from (Next.End so.0 so.1) t.machine.lock mid.behind.machine.lock) (start_of Call.Poll (place_at t.machine.lock.places p)) c.from c.starts so.2 in
       let P : World → Type 0 = λ x. (e : End) × PollsAlone i.memory p e x.behind.machine.lock t.machine.lock × Ended w p a x e in
       subst P (sym runs.3) (so.0, at_once t.machine.lock i.starving so.1 begins, so.3)
   polls_alone known (suc k) w v a not_stepped here pending runs =
       let t = w.behind in
       let mid : World = runs.0 in
-      let c = beginning w mid answer.Stepped pending runs.1 in
-      let on = goes_so t mid.behind (Begin call.Poll i) refl c in
-      let begins : BeginsPoll i.memory i.starving p (next.Do on.action on.to) t.machine.lock mid.behind.machine.lock = is_some_and (λ from. Acts i.memory i.starving p from (next.Do on.action on.to) t.machine.lock mid.behind.machine.lock) (start_of call.Poll (place_at t.machine.lock.places p)) c.from c.starts on.acts in
+      let c = beginning w mid Answer.Stepped pending runs.1 in
+      let on = goes_so t mid.behind (Begin Call.Poll i) refl c in
+      let begins : BeginsPoll i.memory i.starving p (Next.Do on.action on.to) t.machine.lock mid.behind.machine.lock = is_some_and (λ from. Acts i.memory i.starving p from (Next.Do on.action on.to) t.machine.lock mid.behind.machine.lock) (start_of Call.Poll (place_at t.machine.lock.places p)) c.from c.starts on.acts in
       let there = still_inside t mid.behind here on.stages in
-      let more = goes_on (accounts_after known first_move answer.Stepped) k mid v a not_stepped there.0 there.1 runs.3 in
+      let more = goes_on (accounts_after known first_move Answer.Stepped) k mid v a not_stepped there.0 there.1 runs.3 in
       (more.0, begun t.machine.lock mid.behind.machine.lock i.starving on.action on.to begins more.1, ended_before w mid v a more.0 (Inside later) on.stages on.value more.2)

@@ -1,56 +1,16 @@
 -- What a poll that is carried out alone does to a lock that is free for it, as callers see it.
-use Rattle.std.proofs.Common.{◌≡◌, ◌≢◌, ℕ, ◌<◌, ◌⊎◌, inl, inr, true, false, length, map, Option, refl, sym, ap, ◌∙◌, subst, arith}
-use Rattle.std.proofs.Math.ListN.{set}
-use Rattle.std.proofs.lemmas.List.{set-get_or}
-use Rattle.std.proofs.lemmas.Bool.{false≢true}
-use Rattle.std.specs.List.{list_all}
-use Rattle.lock_event.specs.Lists.{is_marked_at}
-use Rattle.world_base.specs.queue.Parties.{is_party, entries_of}
-use Rattle.world_base.specs.declared.moves.Answer.{Answer}
-use Rattle.world_base.specs.declared.moves.Answer.TheVariants as answer
-use Rattle.world_base.specs.declared.moves.Call.TheVariants as call
-use Rattle.world_base.specs.declared.moves.Got.TheVariants.{Value}
-use Rattle.world_base.specs.declared.moves.Inputs.{Inputs}
-use Rattle.lock_program.specs.declared.refusal.Refusal.TheVariants as refusal
-use Rattle.world_base.specs.declared.standing.Rest.TheVariants as rest
-use Rattle.world_base.specs.declared.standing.Stage.TheVariants.{Outside, Forgotten}
-use Rattle.world_base.specs.Rosters.{how_many}
-use Rattle.world_base.specs.Standings.{outside, is_outside_stage}
+use Rattle.world_rwlock.proofs.Prelude.{◌≡◌, ◌≢◌, ℕ, ◌<◌, ◌⊎◌, inl, inr, true, false, length, map, Option, refl, sym, ap, ◌∙◌, subst, arith, set, set-get_or, false≢true, list_all, is_marked_at, is_party, entries_of, Answer, Call, Value, Inputs, Refusal, Rest, Outside, Forgotten, how_many, outside, is_outside_stage, TurnCourse, listed, turn_at, IsStarved, holders, starved, holder_of, out_unlisted, holding_unlisted, gave_way, End, Next, Place, has_turn, in_no_writer, in_no_readers, fits_turn, place_at, IsRwLock, readers, PollsAlone, waits_to_read, looks_for_readers, waits_for_turn, IsCalledToTurn, Took, TookTurn, StandsBack, GaveTurnWay, HasEnough, SoloPolls, stage_at, is_future, goes_with, sought_at, Table, Guarded, answer_by, Account, moves_of, answers_of, Runs, IsRwLockTable, Stands, nobody, is_upgradable, waits_to_write as waits, World, standing_of, is_starved, is_upgrader, how_many_read, is_marked, is_at_rest, upgrading, waiting, writing, turn_as, share_of, turn_by, is_reading, is_upgrade, verdict, standing_at, view_of, IsSoloForTurn, IsToldOfTurn, IsToldToRead, IsSoloToWrite, TakesTurn, GivesTurnWay, SoloPollForTurn, TakesToRead, TakesToWrite, rest_seen, outside_stage, inside_or_past}
 use Rattle.world_base.proofs.Bounds.{marked_listed}
 use Rattle.world_base.proofs.Rests.{still_outside}
-use Rattle.world_mutex.specs.machine.Course.{Course as TurnCourse, bit, listed}
-use Rattle.world_mutex.specs.machine.Mutex.{course_at as turn_at, IsStarved, holders, starved, holder_of}
-use Rattle.world_mutex.proofs.of_machine.callers.Callers.{out_unlisted, holding_unlisted, gave_way}
+use Rattle.world_mutex.specs.machine.Course.{bit}
 use Rattle.world_mutex.proofs.of_machine.callers.Holders as sees
-use Rattle.lock_program.specs.declared.end.End.{End}
-use Rattle.lock_program.specs.declared.end.End.TheVariants as «end»
-use Rattle.world_rwlock.specs.declared.program.led.Next.TheVariants as next
-use Rattle.lock_program.specs.declared.rwlock.Place.{Place}
-use Rattle.lock_program.specs.declared.rwlock.Place.TheVariants as place
-use Rattle.world_rwlock.specs.machine.Roles.{has_turn, in_no_writer, in_no_readers, fits_turn}
-use Rattle.world_rwlock.specs.machine.Machine.{place_at}
-use Rattle.world_rwlock.specs.machine.Acts.{IsRwLock, readers}
-use Rattle.world_rwlock.specs.machine.Solo.{PollsAlone, waits_to_read, looks_for_readers, waits_for_turn, IsCalledToTurn, Took, TookTurn, StandsBack, GaveTurnWay, HasEnough, SoloPolls}
 use Rattle.world_rwlock.proofs.of_machine.solo_polls.Solo.{writer_at, solo_polls}
-use Rattle.world_base.specs.table.Stages.{stage_at}
-use Rattle.world_rwlock.specs.Stages.{is_future, goes_with, sought_at}
-use Rattle.world_base.specs.table.Tables.{Table}
-use Rattle.world_rwlock.specs.Guarded.{Guarded, answer_by}
-use Rattle.world_base.specs.Accounts.{Account}
-use Rattle.world_base.specs.Whole.{moves_of, answers_of}
-use Rattle.world_rwlock.specs.Runs.{Runs}
-use Rattle.world_rwlock.specs.Steps.{IsRwLockTable, Stands}
-use Rattle.world_rwlock.specs.State.{nobody, is_upgradable, waits_to_write as waits, writes, World, standing_of, is_starved, is_upgrader, how_many_read, is_marked}
-use Rattle.world_rwlock.specs.Laws.{is_at_rest}
-use Rattle.world_rwlock.specs.View.{upgrading, waiting, writing, turn_as, share_of, turn_by, is_reading, is_upgrade, verdict, standing_at, view_of}
-use Rattle.world_rwlock.specs.Bound.{IsSoloForTurn, IsToldOfTurn, IsToldToRead, IsSoloToWrite, TakesTurn, GivesTurnWay, SoloPollForTurn, TakesToRead, TakesToWrite}
+use Rattle.world_rwlock.specs.State.{writes}
 use Rattle.world_rwlock.proofs.table.Begun.{at_future}
 use Rattle.world_rwlock.proofs.bound.Alone.{Ended, polls_alone}
 use Rattle.world_rwlock.proofs.laws.Sound.{nobody_holds, bit_seen}
-use Rattle.world_base.proofs.of_table.Views.{rest_seen, outside_stage}
 use Rattle.world_rwlock.proofs.step.Idle.{sought_is}
 use Rattle.world_rwlock.proofs.step.Owns as owns
-use Rattle.world_base.proofs.of_table.Past.{inside_or_past}
 use Rattle.world_rwlock.proofs.table.Views as view
 
 -- ---- where a pending party stands that is listed
@@ -101,48 +61,48 @@ abbrev shown : World → World
 shown w = view_of w.behind
 
 module _ (w v : World) (p : ℕ) (a : Answer) where
-  ready_seen : (e : End) → e ≡ «end».Got → Ended w p a v e → a ≡ answer.Ready (Value (shown v).state.value)
-  ready_seen e is k = k.answer ∙ (ap (λ x. answer_by w.behind.machine.value (next.End x k.to)) is ∙ ap (λ v. answer.Ready (Value v)) (sym k.value))
+  ready_seen : (e : End) → e ≡ End.Got → Ended w p a v e → a ≡ Answer.Ready (Value (shown v).state.value)
+  ready_seen e is k = k.answer ∙ (ap (λ x. answer_by w.behind.machine.value (Next.End x k.to)) is ∙ ap (λ v. Answer.Ready (Value v)) (sym k.value))
 
   -- who has the turn then
   turn_seen : (e : End) (x : Place) → Ended w p a v e → place_at v.behind.machine.lock.places p ≡ x → has_turn x ≡ 1 → (shown v).state.turn ≡ turn_as p (share_of x)
   turn_seen e x k here has = let u = v.behind in owns.turn_at_place u.machine.lock u.stages u.opening u.machine.value k.stands.lock k.stands.fits p x here has
 
   takes_turn_seen : (e : End) → TookTurn p e v.behind.machine.lock → Ended w p a v e → TakesTurn (shown w) p a (shown v)
-  takes_turn_seen «end».Got (inl here) k =
-      let turn : (shown v).state.turn ≡ is_upgradable p = turn_seen «end».Got place.Upgradable k here refl in
-      record { has_turn = owns.has_as (shown v).state.turn p upgrading turn; kept = k.value; answered = inl (ready_seen «end».Got refl k, inl turn) }
-  takes_turn_seen «end».Got (inr here) k =
-      let turn : (shown v).state.turn ≡ writes p = turn_seen «end».Got place.Writing k here refl in
-      record { has_turn = owns.has_as (shown v).state.turn p writing turn; kept = k.value; answered = inl (ready_seen «end».Got refl k, inr turn) }
-  takes_turn_seen «end».Pending here k =
+  takes_turn_seen End.Got (inl here) k =
+      let turn : (shown v).state.turn ≡ is_upgradable p = turn_seen End.Got Place.Upgradable k here refl in
+      record { has_turn = owns.has_as (shown v).state.turn p upgrading turn; kept = k.value; answered = inl (ready_seen End.Got refl k, inl turn) }
+  takes_turn_seen End.Got (inr here) k =
+      let turn : (shown v).state.turn ≡ writes p = turn_seen End.Got Place.Writing k here refl in
+      record { has_turn = owns.has_as (shown v).state.turn p writing turn; kept = k.value; answered = inl (ready_seen End.Got refl k, inr turn) }
+  takes_turn_seen End.Pending here k =
       let at = writer_at (place_at v.behind.machine.lock.places p) here in
-      let turn : (shown v).state.turn ≡ waits p = turn_seen «end».Pending (place.AwaitNoReaders at.0) k at.1 refl in
+      let turn : (shown v).state.turn ≡ waits p = turn_seen End.Pending (Place.AwaitNoReaders at.0) k at.1 refl in
       record { has_turn = owns.has_as (shown v).state.turn p waiting turn; kept = k.value; answered = inr (k.answer, turn) }
   takes_turn_seen _ here k = absurd here
 
-  rests_seen : IsRwLockTable w.behind → IsRwLockTable v.behind → v.behind.stages ≡ set w.behind.stages p (Outside rest.Pending) → is_at_rest (shown w) ≡ true → is_at_rest (shown v) ≡ true
+  rests_seen : IsRwLockTable w.behind → IsRwLockTable v.behind → v.behind.stages ≡ set w.behind.stages p (Outside Rest.Pending) → is_at_rest (shown w) ≡ true → is_at_rest (shown v) ≡ true
   rests_seen tf uf is resting =
       let t = w.behind in
       let u = v.behind in
       let before : list_all is_outside_stage t.stages ≡ true = sym (rest_seen (verdicts t) t.stages) ∙ resting in
-      rest_seen (verdicts u) u.stages ∙ (ap (list_all is_outside_stage) is ∙ still_outside t.stages p (Outside rest.Pending) refl before)
+      rest_seen (verdicts u) u.stages ∙ (ap (list_all is_outside_stage) is ∙ still_outside t.stages p (Outside Rest.Pending) refl before)
 
   gives_way_seen : (e : End) → IsRwLockTable w.behind → 0 < entries_of p w.behind.machine.lock.turn.entries → starved w.behind.machine.lock.turn < w.behind.machine.lock.turn.limit → GaveTurnWay p w.behind.machine.lock e v.behind.machine.lock → StandsBack p w.behind.machine.lock e v.behind.machine.lock → Ended w p a v e → GivesTurnWay (shown w) p a (shown v)
-  gives_way_seen «end».Pending tf there below g back k =
+  gives_way_seen End.Pending tf there below g back k =
       let t = w.behind in
       let u = v.behind in
       record {
         free = ap (λ h. turn_by h u.machine.lock.places) (sees.none_held 0 u.machine.lock.turn.courses back.0.free);
         pending = k.answer;
         gave_way = gave_way p t.machine.lock.turn u.machine.lock.turn back.0 there;
-        readers = ap (map is_reading) (g.places ∙ (ap (set t.machine.lock.places p) back.1 ∙ set-get_or t.machine.lock.places p place.Out));
+        readers = ap (map is_reading) (g.places ∙ (ap (set t.machine.lock.places p) back.1 ∙ set-get_or t.machine.lock.places p Place.Out));
         rests = rests_seen tf k.stands.fits k.stages;
       }
-  gives_way_seen («end».Refused refusal.Starved) tf there below g back k = absurd (omega (arith, back.0.stands_back.2, below))
+  gives_way_seen (End.Refused Refusal.Starved) tf there below g back k = absurd (omega (arith, back.0.stands_back.2, below))
   gives_way_seen _ tf there below g back k = absurd back
 
-  reads_seen : (e : End) → Took p place.Reading e v.behind.machine.lock → Ended w p a v e → TakesToRead (shown w) p a (shown v)
+  reads_seen : (e : End) → Took p Place.Reading e v.behind.machine.lock → Ended w p a v e → TakesToRead (shown w) p a (shown v)
   reads_seen e took k =
       let u = v.behind in
       record {
@@ -151,26 +111,26 @@ module _ (w v : World) (p : ℕ) (a : Answer) where
         reads = owns.reads_as u.machine.lock u.stages u.opening u.machine.value k.stands.lock k.stands.fits p ∙ ap is_reading took.1;
       }
 
-  writes_seen : (e : End) → Took p place.Writing e v.behind.machine.lock → Ended w p a v e → TakesToWrite (shown w) p a (shown v)
+  writes_seen : (e : End) → Took p Place.Writing e v.behind.machine.lock → Ended w p a v e → TakesToWrite (shown w) p a (shown v)
   writes_seen e took k = record {
     ready = ready_seen e took.0 k;
     kept = k.value;
-    writes = turn_seen e place.Writing k took.1 refl;
+    writes = turn_seen e Place.Writing k took.1 refl;
   }
 
-module _ (w : World) (p : ℕ) (i : Inputs) (laws : IsRwLock w.behind.machine.lock) (tf : IsRwLockTable w.behind) (pending : standing_of (shown w) p ≡ outside rest.Pending) where
+module _ (w : World) (p : ℕ) (i : Inputs) (laws : IsRwLock w.behind.machine.lock) (tf : IsRwLockTable w.behind) (pending : standing_of (shown w) p ≡ outside Rest.Pending) where
   abbrev t : Table Guarded
   t = w.behind
 
   -- the party stands pending in the table
-  pub at_stage : (p < length w.behind.stages) × (stage_at w.behind.stages p ≡ Outside rest.Pending)
+  pub at_stage : (p < length w.behind.stages) × (stage_at w.behind.stages p ≡ Outside Rest.Pending)
   at_stage =
       let here : Place = place_at w.behind.machine.lock.places p in
       let there : TurnCourse = turn_at w.behind.machine.lock.turn.courses p in
       let stood : standing_of (shown w) p ≡ standing_at w.behind.machine.value (stage_at w.behind.stages p) here there = owns.stood w.behind.machine.lock w.behind.stages w.behind.opening w.behind.machine.value laws tf p in
-      elim (inside_or_past w.behind.stages p) as (λ _. (p < length w.behind.stages) × (stage_at w.behind.stages p ≡ Outside rest.Pending)) [
-        | inl known ↦ (known, outside_stage (verdict w.behind.machine.value here there) (stage_at w.behind.stages p) rest.Pending (sym stood ∙ pending))
-        | inr past ↦ (let never : standing_at w.behind.machine.value Forgotten here there ≡ outside rest.Pending = rw past.1 at (sym stood ∙ pending) in absurd (cc))
+      elim (inside_or_past w.behind.stages p) as (λ _. (p < length w.behind.stages) × (stage_at w.behind.stages p ≡ Outside Rest.Pending)) [
+        | inl known ↦ (known, outside_stage (verdict w.behind.machine.value here there) (stage_at w.behind.stages p) Rest.Pending (sym stood ∙ pending))
+        | inr past ↦ (let never : standing_at w.behind.machine.value Forgotten here there ≡ outside Rest.Pending = rw past.1 at (sym stood ∙ pending) in absurd (cc))
       ]
 
   pub future : is_future (place_at t.machine.lock.places p) ≡ true
@@ -238,12 +198,12 @@ module _ (w : World) (p : ℕ) (i : Inputs) (laws : IsRwLock w.behind.machine.lo
 
 -- ---- a solo poll that was carried out alone keeps its promise
 
-module _ (known : ℕ → Account) (w : World) (p : ℕ) (i : Inputs) (k : ℕ) (a : Answer) (v : World) (stood : Stands w) (runs : Runs known w (moves_of p call.Poll i k) (answers_of k a) v) (not_stepped : a ≢ answer.Stepped) where
+module _ (known : ℕ → Account) (w : World) (p : ℕ) (i : Inputs) (k : ℕ) (a : Answer) (v : World) (stood : Stands w) (runs : Runs known w (moves_of p Call.Poll i k) (answers_of k a) v) (not_stepped : a ≢ Answer.Stepped) where
   -- what is so of the World as it is seen is so of it
-  as_seen : (P : World → World → Type 0) → standing_of w p ≡ outside rest.Pending
+  as_seen : (P : World → World → Type 0) → standing_of w p ≡ outside Rest.Pending
       → ((e : End) → PollsAlone i.memory p e v.behind.machine.lock w.behind.machine.lock → Ended w p a v e → P (shown w) (shown v)) → P w v
   as_seen P pending gives =
-      let here = at_stage w p i stood.lock stood.fits (subst (λ x. standing_of x p ≡ outside rest.Pending) stood.seen pending) in
+      let here = at_stage w p i stood.lock stood.fits (subst (λ x. standing_of x p ≡ outside Rest.Pending) stood.seen pending) in
       let polls = polls_alone p i known k w v a not_stepped here.0 here.1 runs in
       let last : v ≡ shown v = polls.2.stands.seen in
       subst (λ x. P x v) (sym stood.seen) (subst (P (shown w)) (sym last) (gives polls.0 polls.1 polls.2))

@@ -1,20 +1,9 @@
 -- Solo polls in turn: each that passes a free turn over gives way, and none passes over what else is free.
-use Rattle.std.proofs.Common.{◌≡◌, ℕ, ◌<◌, ◌≤◌, ◌⊎◌, inl, inr, List, refl, arith}
-use Rattle.lock_event.specs.declared.event.Entry.{Entry}
-use Rattle.lock_event.specs.Lists.{marked_count, IsMarkedFirst}
-use Rattle.world_base.specs.queue.Parties.{entries_of}
-use Rattle.world_base.specs.declared.moves.Answer.{Answer}
-use Rattle.world_base.specs.declared.moves.Inputs.{Inputs}
+use Rattle.world_rwlock.proofs.Prelude.{◌≡◌, ℕ, ◌<◌, ◌≤◌, ◌⊎◌, inl, inr, List, refl, arith, Entry, marked_count, IsMarkedFirst, entries_of, Answer, Inputs, for_the_turn, for_no_readers, for_no_writer, nobody, World, standing_of, HasTurn, entries_in, IsSound, IsAwake, IsTurnWanted, IsReadingWanted, IsWritingWanted, Call, IsWholeCall, accounts_of, Promises, TakesTurn, GivesTurnWay, PassesTurnOver, IsTurnBounded, IsReadingBounded, IsWritingBounded}
 use Rattle.world_base.specs.Bounds.{GaveWay, SomeMarked}
 use Rattle.world_base.proofs.Bounds.{one_takes}
 use Rattle.world_base.proofs.of_table.Bounds.{first_marked}
-use Rattle.world_rwlock.specs.State.{for_the_turn, for_no_readers, for_no_writer, nobody, World, standing_of, HasTurn, entries_in}
-use Rattle.world_rwlock.specs.Laws.{IsSound, IsAwake, IsTurnWanted, IsReadingWanted, IsWritingWanted}
-use Rattle.world_base.specs.declared.moves.Call.TheVariants as call
-use Rattle.world_rwlock.specs.Whole.{IsWholeCall}
-use Rattle.world_rwlock.specs.Runs.{accounts_of}
 use Rattle.world_rwlock.proofs.laws.WorldLaws.{keeps_promise}
-use Rattle.world_rwlock.specs.Bound.{Promises, TakesTurn, GivesTurnWay, PassesTurnOver, IsTurnBounded, IsReadingBounded, IsWritingBounded}
 
 -- the first entry of a list with marked ones, whose party is pending or was
 some_marked : (w : World) → IsAwake w → (list : List (Entry ℕ)) → ((p : ℕ) → entries_of p list ≤ entries_in w p) → IsMarkedFirst list → 0 < marked_count list → SomeMarked (standing_of w) list
@@ -23,8 +12,8 @@ some_marked w awake list within in_order some =
     (found.0, found.1, awake.pending found.0 (omega (arith, within found.0, found.2)))
 
 -- a whole poll keeps its promises
-kept : (w : World) (p : ℕ) (inputs : Inputs) (a : Answer) (v : World) → IsWholeCall w p call.Poll inputs a v → Promises w p call.Poll inputs a v
-kept w p inputs a v whole = keeps_promise (accounts_of w) w p call.Poll inputs whole.more a v whole.runs whole.ended
+kept : (w : World) (p : ℕ) (inputs : Inputs) (a : Answer) (v : World) → IsWholeCall w p Call.Poll inputs a v → Promises w p Call.Poll inputs a v
+kept w p inputs a v whole = keeps_promise (accounts_of w) w p Call.Poll inputs whole.more a v whole.runs whole.ended
 
 -- ---- the turn
 

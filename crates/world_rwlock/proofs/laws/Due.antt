@@ -1,25 +1,5 @@
 -- Who has still to notify in a list, or to look, by the place at which a party stands.
-use Rattle.std.proofs.Common.{◌≡◌, ℕ, ◌<◌, true, false, Option, None, refl, arith, sym, ◌∙◌}
-use Rattle.std.proofs.lemmas.Bool.{false≢true}
-use Rattle.world_base.specs.declared.moves.Answer.{Answer}
-use Rattle.world_base.specs.declared.standing.Kind.{Kind}
-use Rattle.world_base.specs.declared.standing.Kind.TheVariants as kind
-use Rattle.world_base.specs.declared.standing.Rest.{Rest}
-use Rattle.world_base.specs.declared.standing.Rest.TheVariants as rest
-use Rattle.world_base.specs.declared.standing.Stage.{Stage}
-use Rattle.world_base.specs.declared.standing.Stage.TheVariants.{Outside, Inside, Forgotten}
-use Rattle.world_base.specs.declared.standing.Within.{Within}
-use Rattle.world_base.specs.Standings.{is_outside, is_outside_stage, is_decided}
-use Rattle.world_base.specs.table.Stages.{stands_as}
-use Rattle.world_mutex.specs.machine.Course.{Course as TurnCourse, out, holding, taking, releasing, undecided, called, counting, has_lock, gives_up, is_out, is_holding, is_waiting, is_cancelling, is_releasing, is_due, counted, listed}
-use Rattle.lock_program.specs.declared.rwlock.Ending.TheVariants as ending
-use Rattle.lock_program.specs.declared.rwlock.Place.{Place}
-use Rattle.lock_program.specs.declared.rwlock.Place.TheVariants as place
-use Rattle.lock_program.specs.declared.rwlock.Purpose.TheVariants as purpose
-use Rattle.world_rwlock.specs.machine.Roles.{in_no_writer, waits_no_writer, owes_no_writer, in_no_readers, waits_no_readers, owes_no_readers, fits_turn, is_resting}
-use Rattle.world_rwlock.specs.Stages.{sought_at, goes_with, is_on_course, drops}
-use Rattle.world_rwlock.specs.View.{standing_at}
-use Rattle.world_rwlock.specs.Laws.{is_due_for_turn, is_due_to_readers, is_due_to_writer, is_drop_kind}
+use Rattle.world_rwlock.proofs.Prelude.{◌≡◌, ℕ, ◌<◌, true, false, Option, None, refl, arith, sym, ◌∙◌, false≢true, Answer, Kind, Rest, Stage, Outside, Inside, Forgotten, Within, is_outside, is_outside_stage, is_decided, stands_as, TurnCourse, out, holding, taking, releasing, undecided, called, counting, has_lock, giving_up as gives_up, is_out, is_holding, is_waiting, is_cancelling, is_releasing, is_due, counted, listed, Ending, Place, Purpose, in_no_writer, waits_no_writer, owes_no_writer, in_no_readers, waits_no_readers, owes_no_readers, fits_turn, is_resting, sought_at, goes_with, is_on_course, drops, standing_at, is_due_for_turn, is_due_to_readers, is_due_to_writer, is_drop_kind}
 
 -- a party that stands outside does so at its stage
 pub outside_stage : (s : Stage) (d : Option Answer) → is_outside (stands_as d s) ≡ true → is_outside_stage s ≡ true
@@ -30,53 +10,53 @@ outside_stage (Inside w) d h = absurd (cc h)
 -- ---- who rests
 
 pub rest_waits_writer : (x : Place) → is_resting x ≡ true → waits_no_writer x ≡ in_no_writer x
-rest_waits_writer place.AskNoWriter h = refl
-rest_waits_writer place.Out h = refl
-rest_waits_writer (place.Made w) h = refl
-rest_waits_writer place.Reading h = refl
-rest_waits_writer place.Upgradable h = refl
-rest_waits_writer place.Writing h = refl
-rest_waits_writer (place.WaitTurn p) h = refl
-rest_waits_writer (place.AwaitNoReaders u) h = refl
-rest_waits_writer (place.LookUnlisted true) h = refl
-rest_waits_writer (place.LookUnlisted false) h = absurd (cc h)
+rest_waits_writer Place.AskNoWriter h = refl
+rest_waits_writer Place.Out h = refl
+rest_waits_writer (Place.Made w) h = refl
+rest_waits_writer Place.Reading h = refl
+rest_waits_writer Place.Upgradable h = refl
+rest_waits_writer Place.Writing h = refl
+rest_waits_writer (Place.WaitTurn p) h = refl
+rest_waits_writer (Place.AwaitNoReaders u) h = refl
+rest_waits_writer (Place.LookUnlisted true) h = refl
+rest_waits_writer (Place.LookUnlisted false) h = absurd (cc h)
 rest_waits_writer _ h = absurd (cc h)
 
 pub rest_waits_readers : (x : Place) → is_resting x ≡ true → waits_no_readers x ≡ in_no_readers x
-rest_waits_readers place.AskNoWriter h = refl
-rest_waits_readers place.Out h = refl
-rest_waits_readers (place.Made w) h = refl
-rest_waits_readers place.Reading h = refl
-rest_waits_readers place.Upgradable h = refl
-rest_waits_readers place.Writing h = refl
-rest_waits_readers (place.WaitTurn p) h = refl
-rest_waits_readers (place.AwaitNoReaders u) h = refl
-rest_waits_readers (place.LookUnlisted true) h = refl
-rest_waits_readers (place.LookUnlisted false) h = absurd (cc h)
+rest_waits_readers Place.AskNoWriter h = refl
+rest_waits_readers Place.Out h = refl
+rest_waits_readers (Place.Made w) h = refl
+rest_waits_readers Place.Reading h = refl
+rest_waits_readers Place.Upgradable h = refl
+rest_waits_readers Place.Writing h = refl
+rest_waits_readers (Place.WaitTurn p) h = refl
+rest_waits_readers (Place.AwaitNoReaders u) h = refl
+rest_waits_readers (Place.LookUnlisted true) h = refl
+rest_waits_readers (Place.LookUnlisted false) h = absurd (cc h)
 rest_waits_readers _ h = absurd (cc h)
 
 rest_owes_writer : (x : Place) → is_resting x ≡ true → owes_no_writer x ≡ 0
-rest_owes_writer place.AskNoWriter h = refl
-rest_owes_writer place.Out h = refl
-rest_owes_writer (place.Made w) h = refl
-rest_owes_writer place.Reading h = refl
-rest_owes_writer place.Upgradable h = refl
-rest_owes_writer place.Writing h = refl
-rest_owes_writer (place.WaitTurn p) h = refl
-rest_owes_writer (place.AwaitNoReaders u) h = refl
-rest_owes_writer (place.LookUnlisted u) h = refl
+rest_owes_writer Place.AskNoWriter h = refl
+rest_owes_writer Place.Out h = refl
+rest_owes_writer (Place.Made w) h = refl
+rest_owes_writer Place.Reading h = refl
+rest_owes_writer Place.Upgradable h = refl
+rest_owes_writer Place.Writing h = refl
+rest_owes_writer (Place.WaitTurn p) h = refl
+rest_owes_writer (Place.AwaitNoReaders u) h = refl
+rest_owes_writer (Place.LookUnlisted u) h = refl
 rest_owes_writer _ h = absurd (cc h)
 
 rest_owes_readers : (x : Place) → is_resting x ≡ true → owes_no_readers x ≡ 0
-rest_owes_readers place.AskNoWriter h = refl
-rest_owes_readers place.Out h = refl
-rest_owes_readers (place.Made w) h = refl
-rest_owes_readers place.Reading h = refl
-rest_owes_readers place.Upgradable h = refl
-rest_owes_readers place.Writing h = refl
-rest_owes_readers (place.WaitTurn p) h = refl
-rest_owes_readers (place.AwaitNoReaders u) h = refl
-rest_owes_readers (place.LookUnlisted u) h = refl
+rest_owes_readers Place.AskNoWriter h = refl
+rest_owes_readers Place.Out h = refl
+rest_owes_readers (Place.Made w) h = refl
+rest_owes_readers Place.Reading h = refl
+rest_owes_readers Place.Upgradable h = refl
+rest_owes_readers Place.Writing h = refl
+rest_owes_readers (Place.WaitTurn p) h = refl
+rest_owes_readers (Place.AwaitNoReaders u) h = refl
+rest_owes_readers (Place.LookUnlisted u) h = refl
 rest_owes_readers _ h = absurd (cc h)
 
 -- who rests in the turn's list waits there
@@ -89,15 +69,15 @@ listed_holding holding h = refl
 listed_holding _ h = absurd (cc h)
 
 pub rest_waits_turn : (x : Place) (t : TurnCourse) → is_resting x ≡ true → fits_turn x t ≡ true → 0 < listed t → is_waiting t ≡ true
-rest_waits_turn (place.WaitTurn p) t h f some = f
-rest_waits_turn place.AskNoWriter t h f some = absurd (omega (arith, some, listed_out t f))
-rest_waits_turn place.Out t h f some = absurd (omega (arith, some, listed_out t f))
-rest_waits_turn (place.Made w) t h f some = absurd (omega (arith, some, listed_out t f))
-rest_waits_turn place.Reading t h f some = absurd (omega (arith, some, listed_out t f))
-rest_waits_turn place.Upgradable t h f some = absurd (omega (arith, some, listed_holding t f))
-rest_waits_turn place.Writing t h f some = absurd (omega (arith, some, listed_holding t f))
-rest_waits_turn (place.AwaitNoReaders u) t h f some = absurd (omega (arith, some, listed_holding t f))
-rest_waits_turn (place.LookUnlisted u) t h f some = absurd (omega (arith, some, listed_holding t f))
+rest_waits_turn (Place.WaitTurn p) t h f some = f
+rest_waits_turn Place.AskNoWriter t h f some = absurd (omega (arith, some, listed_out t f))
+rest_waits_turn Place.Out t h f some = absurd (omega (arith, some, listed_out t f))
+rest_waits_turn (Place.Made w) t h f some = absurd (omega (arith, some, listed_out t f))
+rest_waits_turn Place.Reading t h f some = absurd (omega (arith, some, listed_out t f))
+rest_waits_turn Place.Upgradable t h f some = absurd (omega (arith, some, listed_holding t f))
+rest_waits_turn Place.Writing t h f some = absurd (omega (arith, some, listed_holding t f))
+rest_waits_turn (Place.AwaitNoReaders u) t h f some = absurd (omega (arith, some, listed_holding t f))
+rest_waits_turn (Place.LookUnlisted u) t h f some = absurd (omega (arith, some, listed_holding t f))
 rest_waits_turn _ t h f some = absurd (cc h)
 
 -- ---- who is due for the turn
@@ -114,46 +94,46 @@ due_moves (taking progress s l b) h = record { not_out = refl; not_holding = ref
 due_moves releasing h = record { not_out = refl; not_holding = refl; not_waiting = refl; not_cancelling = refl }
 due_moves _ h = absurd (cc h)
 
-polls_due : (v : ℕ) (w : Within) (p : _) (t : TurnCourse) → is_due t ≡ true → is_waiting t ≡ false → is_due_for_turn (standing_at v (Inside w) (place.TakeTurn p) t) (sought_at (place.TakeTurn p)) ≡ true
-polls_due v w purpose.UpgradableRead (taking undecided s l b) h n = refl
-polls_due v w purpose.UpgradableRead (taking called s l b) h n = refl
-polls_due v w purpose.UpgradableRead (taking counting s l b) h n = refl
-polls_due v w purpose.UpgradableRead (taking (gives_up r) s l b) h n = refl
-polls_due v w purpose.UpgradableRead (taking has_lock s l b) h n = absurd (cc h)
-polls_due v w purpose.UpgradableRead releasing h n = refl
-polls_due v w purpose.UpgradableRead _ h n = absurd (cc h)
-polls_due v w purpose.Write (taking undecided s l b) h n = refl
-polls_due v w purpose.Write (taking called s l b) h n = refl
-polls_due v w purpose.Write (taking counting s l b) h n = refl
-polls_due v w purpose.Write (taking (gives_up r) s l b) h n = refl
-polls_due v w purpose.Write (taking has_lock s l b) h n = absurd (cc h)
-polls_due v w purpose.Write releasing h n = refl
-polls_due v w purpose.Write _ h n = absurd (cc h)
+polls_due : (v : ℕ) (w : Within) (p : _) (t : TurnCourse) → is_due t ≡ true → is_waiting t ≡ false → is_due_for_turn (standing_at v (Inside w) (Place.TakeTurn p) t) (sought_at (Place.TakeTurn p)) ≡ true
+polls_due v w Purpose.UpgradableRead (taking undecided s l b) h n = refl
+polls_due v w Purpose.UpgradableRead (taking called s l b) h n = refl
+polls_due v w Purpose.UpgradableRead (taking counting s l b) h n = refl
+polls_due v w Purpose.UpgradableRead (taking (gives_up r) s l b) h n = refl
+polls_due v w Purpose.UpgradableRead (taking has_lock s l b) h n = absurd (cc h)
+polls_due v w Purpose.UpgradableRead releasing h n = refl
+polls_due v w Purpose.UpgradableRead _ h n = absurd (cc h)
+polls_due v w Purpose.Write (taking undecided s l b) h n = refl
+polls_due v w Purpose.Write (taking called s l b) h n = refl
+polls_due v w Purpose.Write (taking counting s l b) h n = refl
+polls_due v w Purpose.Write (taking (gives_up r) s l b) h n = refl
+polls_due v w Purpose.Write (taking has_lock s l b) h n = absurd (cc h)
+polls_due v w Purpose.Write releasing h n = refl
+polls_due v w Purpose.Write _ h n = absurd (cc h)
 
 due_inside : (v : ℕ) (w : Within) (x : Place) (t : TurnCourse) → fits_turn x t ≡ true → is_due t ≡ true → Moves t → is_due_for_turn (standing_at v (Inside w) x t) (sought_at x) ≡ true
-due_inside v w (place.TakeTurn p) t f h m = polls_due v w p t h m.not_waiting
-due_inside v w (place.ReleasingTurn ending.GivenBack) t f h m = refl
-due_inside v w (place.ReleasingTurn (ending.NotFree p)) t f h m = refl
-due_inside v w (place.ReleasingTurn ending.RefuseReaders) t f h m = refl
-due_inside v w (place.ReleasingTurn ending.RefuseMemory) t f h m = refl
-due_inside v w (place.ReleasingTurn ending.Reading) t f h m = refl
-due_inside v w (place.ReleasingTurn ending.NotifyReaders) t f h m = refl
-due_inside v w (place.WaitTurn p) t f h m = absurd (false≢true (sym m.not_waiting ∙ f))
-due_inside v w place.CancelTurn t f h m = absurd (false≢true (sym m.not_waiting ∙ f))
-due_inside v w place.CancellingTurn t f h m = absurd (false≢true (sym m.not_cancelling ∙ f))
+due_inside v w (Place.TakeTurn p) t f h m = polls_due v w p t h m.not_waiting
+due_inside v w (Place.ReleasingTurn Ending.GivenBack) t f h m = refl
+due_inside v w (Place.ReleasingTurn (Ending.NotFree p)) t f h m = refl
+due_inside v w (Place.ReleasingTurn Ending.RefuseReaders) t f h m = refl
+due_inside v w (Place.ReleasingTurn Ending.RefuseMemory) t f h m = refl
+due_inside v w (Place.ReleasingTurn Ending.Reading) t f h m = refl
+due_inside v w (Place.ReleasingTurn Ending.NotifyReaders) t f h m = refl
+due_inside v w (Place.WaitTurn p) t f h m = absurd (false≢true (sym m.not_waiting ∙ f))
+due_inside v w Place.CancelTurn t f h m = absurd (false≢true (sym m.not_waiting ∙ f))
+due_inside v w Place.CancellingTurn t f h m = absurd (false≢true (sym m.not_cancelling ∙ f))
 due_inside v w _ t f h m = absurd (cc (f, m.not_out, m.not_holding))
 
 -- who rests isn't due there
 rest_undue : (x : Place) (t : TurnCourse) → is_resting x ≡ true → fits_turn x t ≡ true → Moves t → ⊥
-rest_undue (place.WaitTurn p) t h f m = false≢true (sym m.not_waiting ∙ f)
-rest_undue place.AskNoWriter t h f m = false≢true (sym m.not_out ∙ f)
-rest_undue place.Out t h f m = false≢true (sym m.not_out ∙ f)
-rest_undue (place.Made w) t h f m = false≢true (sym m.not_out ∙ f)
-rest_undue place.Reading t h f m = false≢true (sym m.not_out ∙ f)
-rest_undue place.Upgradable t h f m = false≢true (sym m.not_holding ∙ f)
-rest_undue place.Writing t h f m = false≢true (sym m.not_holding ∙ f)
-rest_undue (place.AwaitNoReaders u) t h f m = false≢true (sym m.not_holding ∙ f)
-rest_undue (place.LookUnlisted u) t h f m = false≢true (sym m.not_holding ∙ f)
+rest_undue (Place.WaitTurn p) t h f m = false≢true (sym m.not_waiting ∙ f)
+rest_undue Place.AskNoWriter t h f m = false≢true (sym m.not_out ∙ f)
+rest_undue Place.Out t h f m = false≢true (sym m.not_out ∙ f)
+rest_undue (Place.Made w) t h f m = false≢true (sym m.not_out ∙ f)
+rest_undue Place.Reading t h f m = false≢true (sym m.not_out ∙ f)
+rest_undue Place.Upgradable t h f m = false≢true (sym m.not_holding ∙ f)
+rest_undue Place.Writing t h f m = false≢true (sym m.not_holding ∙ f)
+rest_undue (Place.AwaitNoReaders u) t h f m = false≢true (sym m.not_holding ∙ f)
+rest_undue (Place.LookUnlisted u) t h f m = false≢true (sym m.not_holding ∙ f)
 rest_undue _ t h f m = cc h
 
 pub due_at : (v : ℕ) (s : Stage) (x : Place) (t : TurnCourse) → (is_outside_stage s ≡ true → is_resting x ≡ true) → fits_turn x t ≡ true → is_due t ≡ true → is_due_for_turn (standing_at v s x t) (sought_at x) ≡ true
@@ -184,7 +164,7 @@ undecided_so (Inside w) h = cc h
 undecided_so (Outside r) h = cc h
 undecided_so Forgotten h = cc h
 
-polls_unlisted : (v : ℕ) (s : Stage) (p : _) (t : TurnCourse) → is_due t ≡ true → is_decided (standing_at v s (place.TakeTurn p) t) ≡ true → listed t ≡ 0
+polls_unlisted : (v : ℕ) (s : Stage) (p : _) (t : TurnCourse) → is_due t ≡ true → is_decided (standing_at v s (Place.TakeTurn p) t) ≡ true → listed t ≡ 0
 polls_unlisted v s p (taking undecided c l b) h d = absurd (undecided_so s d)
 polls_unlisted v s p (taking called c l b) h d = absurd (undecided_so s d)
 polls_unlisted v s p (taking counting c l b) h d = absurd (undecided_so s d)
@@ -195,11 +175,11 @@ polls_unlisted v s p releasing h d = refl
 polls_unlisted v s p _ h d = absurd (cc h)
 
 decided_by : (v : ℕ) (s : Stage) (x : Place) (t : TurnCourse) → fits_turn x t ≡ true → is_due t ≡ true → Moves t → is_decided (standing_at v s x t) ≡ true → listed t ≡ 0
-decided_by v s (place.TakeTurn p) t f h m d = polls_unlisted v s p t h d
-decided_by v s (place.ReleasingTurn e) t f h m d = listed_releasing t f
-decided_by v s (place.WaitTurn p) t f h m d = absurd (false≢true (sym m.not_waiting ∙ f))
-decided_by v s place.CancelTurn t f h m d = absurd (false≢true (sym m.not_waiting ∙ f))
-decided_by v s place.CancellingTurn t f h m d = absurd (false≢true (sym m.not_cancelling ∙ f))
+decided_by v s (Place.TakeTurn p) t f h m d = polls_unlisted v s p t h d
+decided_by v s (Place.ReleasingTurn e) t f h m d = listed_releasing t f
+decided_by v s (Place.WaitTurn p) t f h m d = absurd (false≢true (sym m.not_waiting ∙ f))
+decided_by v s Place.CancelTurn t f h m d = absurd (false≢true (sym m.not_waiting ∙ f))
+decided_by v s Place.CancellingTurn t f h m d = absurd (false≢true (sym m.not_cancelling ∙ f))
 decided_by v s _ t f h m d = absurd (cc (f, m.not_out, m.not_holding))
 
 pub decided_unlisted : (v : ℕ) (s : Stage) (x : Place) (t : TurnCourse) → fits_turn x t ≡ true → is_due t ≡ true → is_decided (standing_at v s x t) ≡ true → listed t ≡ 0
@@ -208,16 +188,16 @@ decided_unlisted v s x t f h d = decided_by v s x t f h (due_moves t h) d
 -- ---- who is due to readers, and to the writer
 
 reads_due : (v : ℕ) (w : Within) (x : Place) (t : TurnCourse) → 0 < owes_no_writer x → is_due_to_readers (standing_at v (Inside w) x t) (sought_at x) ≡ true
-reads_due v w place.PassOn t some = refl
-reads_due v w (place.RefuseNotify r) t some = refl
-reads_due v w (place.ReleaseTurn ending.NotifyReaders) t some = refl
-reads_due v w (place.ReleasingTurn ending.NotifyReaders) t some = refl
-reads_due v w (place.ReleaseTurn _) t some = absurd (omega arith)
-reads_due v w (place.ReleasingTurn _) t some = absurd (omega arith)
-reads_due v w (place.UnmarkNotify true) t some = refl
-reads_due v w (place.UnmarkNotify false) t some = refl
-reads_due v w place.DownNotify t some = refl
-reads_due v w place.DowngradeNotify t some = refl
+reads_due v w Place.PassOn t some = refl
+reads_due v w (Place.RefuseNotify r) t some = refl
+reads_due v w (Place.ReleaseTurn Ending.NotifyReaders) t some = refl
+reads_due v w (Place.ReleasingTurn Ending.NotifyReaders) t some = refl
+reads_due v w (Place.ReleaseTurn _) t some = absurd (omega arith)
+reads_due v w (Place.ReleasingTurn _) t some = absurd (omega arith)
+reads_due v w (Place.UnmarkNotify true) t some = refl
+reads_due v w (Place.UnmarkNotify false) t some = refl
+reads_due v w Place.DownNotify t some = refl
+reads_due v w Place.DowngradeNotify t some = refl
 reads_due v w _ t some = absurd (omega arith)
 
 pub due_to_readers : (v : ℕ) (s : Stage) (x : Place) (t : TurnCourse) → (is_outside_stage s ≡ true → is_resting x ≡ true) → 0 < owes_no_writer x → is_due_to_readers (standing_at v s x t) (sought_at x) ≡ true
@@ -226,26 +206,26 @@ due_to_readers v (Outside r) x t rests some = let none = rest_owes_writer x (res
 due_to_readers v Forgotten x t rests some = let none = rest_owes_writer x (rests refl) in absurd (omega (arith, some, none))
 
 pub unlisted_to_readers : (x : Place) → 0 < owes_no_writer x → in_no_writer x ≡ 0
-unlisted_to_readers (place.LookNoWriter told) some = absurd (omega arith)
-unlisted_to_readers (place.RefuseLeave told) some = absurd (omega arith)
-unlisted_to_readers place.AskNoWriter some = absurd (omega arith)
-unlisted_to_readers place.LeaveNoWriter some = absurd (omega arith)
-unlisted_to_readers place.CancelRead some = absurd (omega arith)
+unlisted_to_readers (Place.LookNoWriter told) some = absurd (omega arith)
+unlisted_to_readers (Place.RefuseLeave told) some = absurd (omega arith)
+unlisted_to_readers Place.AskNoWriter some = absurd (omega arith)
+unlisted_to_readers Place.LeaveNoWriter some = absurd (omega arith)
+unlisted_to_readers Place.CancelRead some = absurd (omega arith)
 unlisted_to_readers _ some = refl
 
 drops_kind : (k : Kind) (r : Rest) → is_on_course k r drops ≡ true → is_drop_kind k ≡ true
-drops_kind kind.Drop r h = refl
-drops_kind kind.FirstPoll rest.Idle h = absurd (cc h)
-drops_kind kind.LaterPoll rest.Pending h = absurd (cc h)
-drops_kind kind.Try rest.Idle h = absurd (cc h)
-drops_kind kind.Downgrade rest.Holding h = absurd (cc h)
-drops_kind kind.Upgrade rest.Holding h = absurd (cc h)
-drops_kind kind.TryUpgrade rest.Holding h = absurd (cc h)
+drops_kind Kind.Drop r h = refl
+drops_kind Kind.FirstPoll Rest.Idle h = absurd (cc h)
+drops_kind Kind.LaterPoll Rest.Pending h = absurd (cc h)
+drops_kind Kind.Try Rest.Idle h = absurd (cc h)
+drops_kind Kind.Downgrade Rest.Holding h = absurd (cc h)
+drops_kind Kind.Upgrade Rest.Holding h = absurd (cc h)
+drops_kind Kind.TryUpgrade Rest.Holding h = absurd (cc h)
 drops_kind _ r h = absurd (cc h)
 
 writes_due : (v : ℕ) (w : Within) (x : Place) (t : TurnCourse) → goes_with (Inside w) x ≡ true → 0 < owes_no_readers x → is_due_to_writer (standing_at v (Inside w) x t) ≡ true
-writes_due v w place.DropReadNotify t g some = drops_kind w.kind w.was g
-writes_due v w place.DropUpgradableNotify t g some = drops_kind w.kind w.was g
+writes_due v w Place.DropReadNotify t g some = drops_kind w.kind w.was g
+writes_due v w Place.DropUpgradableNotify t g some = drops_kind w.kind w.was g
 writes_due v w _ t g some = absurd (omega arith)
 
 pub due_to_writer : (v : ℕ) (s : Stage) (x : Place) (t : TurnCourse) → goes_with s x ≡ true → (is_outside_stage s ≡ true → is_resting x ≡ true) → 0 < owes_no_readers x → is_due_to_writer (standing_at v s x t) ≡ true
@@ -254,6 +234,6 @@ due_to_writer v (Outside r) x t g rests some = let none = rest_owes_readers x (r
 due_to_writer v Forgotten x t g rests some = let none = rest_owes_readers x (rests refl) in absurd (omega (arith, some, none))
 
 pub unlisted_to_writer : (x : Place) → 0 < owes_no_readers x → in_no_readers x ≡ 0
-unlisted_to_writer place.DropReadNotify some = refl
-unlisted_to_writer place.DropUpgradableNotify some = refl
+unlisted_to_writer Place.DropReadNotify some = refl
+unlisted_to_writer Place.DropUpgradableNotify some = refl
 unlisted_to_writer _ some = absurd (omega arith)

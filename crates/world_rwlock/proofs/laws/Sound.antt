@@ -1,98 +1,65 @@
 -- What always holds of a read-write lock's World, and that no notification is lost at rest.
-use Rattle.std.proofs.Common.{◌≡◌, ℕ, ◌<◌, ◌≤◌, ◌⊎◌, inl, inr, Bool, true, false, List, [], ◌∷◌, length, zero, suc, Option, Some, None, refl, arith, ap, sym, ◌∙◌, subst}
-use Rattle.std.specs.List.{list_all, sum_by}
-use Rattle.std.proofs.lemmas.List.Sums.{sum_by-cons}
-use Rattle.lock_event.specs.Lists.{IsMarkedFirst}
-use Rattle.world_base.specs.queue.Parties.{entries_of}
-use Rattle.world_base.specs.declared.standing.Rest.TheVariants as rest
-use Rattle.world_base.specs.declared.standing.Stage.{Stage}
-use Rattle.world_base.specs.declared.standing.Stage.TheVariants.{Outside, Inside, Forgotten}
-use Rattle.world_base.specs.Standings.{outside, forgotten, is_outside_stage}
-use Rattle.world_base.specs.Rights.{Right, read, upgradable, write, wait_to_write, excludes}
-use Rattle.world_mutex.specs.machine.Course.{Course as TurnCourse, counted, is_resting as rests_in_turn}
-use Rattle.world_mutex.specs.machine.Mutex.{course_at as turn_at, is_counted, holder_of}
+use Rattle.world_rwlock.proofs.Prelude.{◌≡◌, ℕ, ◌<◌, ◌≤◌, ◌⊎◌, inl, inr, Bool, true, false, List, [], ◌∷◌, length, zero, suc, Option, Some, None, refl, arith, ap, sym, ◌∙◌, subst, list_all, sum_by, sum_by-cons, IsMarkedFirst, entries_of, Rest, Stage, Outside, Inside, Forgotten, outside, forgotten, is_outside_stage, Right, read, upgradable, write, wait_to_write, excludes, TurnCourse, counted, rests_in_turn, turn_at, is_counted, holder_of, Ending, Place, bit, reads, marks, has_turn, is_resting, RwLock, place_at, IsRwLock, IsAtRest, writers, marked, stage_at, goes_with, Table, ListName, for_the_turn, for_no_readers, for_no_writer, list_of, nobody, passes, is_upgradable, waits_to_write, World, standing_of, is_marked, entries_in, HasTurn, HasItsOwn, HasRight, IsSound, is_at_rest, IsAwake, Guarded, with_value, IsRwLockTable, verdict_of, Share, passing, upgrading, waiting, writing, turn_as, share_of, turn_by, is_reading, standing_at, view_of, rest_seen, outside_at, inside_or_past, marked_count, is_outside, is_decided, listed, is_due, waits_no_writer, owes_no_writer, waits_no_readers, owes_no_readers, readers, is_due_for_turn, is_due_to_readers, is_due_to_writer, IsDueForTurn, IsDueToReaders, IsDueToWriter}
 use Rattle.world_mutex.specs.machine.Mutex as lock
 use Rattle.world_mutex.proofs.of_machine.callers.Holders as sees
-use Rattle.lock_program.specs.declared.rwlock.Ending.TheVariants as ending
-use Rattle.lock_program.specs.declared.rwlock.Place.{Place}
-use Rattle.lock_program.specs.declared.rwlock.Place.TheVariants as place
 use Rattle.world_rwlock.proofs.step.Owed.{owes_outside}
-use Rattle.world_rwlock.specs.machine.Roles.{bit, reads, marks, has_turn, is_resting}
 use Rattle.world_rwlock.specs.machine.Roles as roles
-use Rattle.world_rwlock.specs.machine.Machine.{RwLock, place_at}
-use Rattle.world_rwlock.specs.machine.Acts.{IsRwLock, IsAtRest, writers, marked}
 use Rattle.world_rwlock.proofs.of_machine.laws.Places.{share as share_in}
 use Rattle.world_rwlock.proofs.of_machine.laws.Laws.{rests_t}
-use Rattle.world_base.specs.table.Stages.{stage_at}
-use Rattle.world_rwlock.specs.Stages.{goes_with}
-use Rattle.world_base.specs.table.Tables.{Table}
 use Rattle.world_rwlock.specs.State as state
-use Rattle.world_rwlock.specs.State.{ListName, for_the_turn, for_no_readers, for_no_writer, list_of, Turn, nobody, passes, is_upgradable, waits_to_write, writes, World, standing_of, is_marked, entries_in, HasTurn}
-use Rattle.world_rwlock.specs.Legal.{HasItsOwn}
-use Rattle.world_rwlock.specs.Laws.{HasRight, IsSound, is_at_rest, IsAwake}
+use Rattle.world_rwlock.specs.State.{Turn, writes}
 use Rattle.world_rwlock.specs.Lending.{world_with}
 use Rattle.world_base.specs.table.Lending.{table_with}
 use Rattle.world_rwlock.specs.Stays.{future_rests, guard_rests}
-use Rattle.world_rwlock.specs.Guarded.{Guarded, with_value}
-use Rattle.world_rwlock.specs.Steps.{IsRwLockTable}
-use Rattle.world_rwlock.specs.View.{verdict_of, Share, passing, upgrading, waiting, writing, turn_as, share_of, turn_by, is_reading, standing_at, view_of}
 use Rattle.world_rwlock.proofs.table.Begun.{at_out}
 use Rattle.world_base.proofs.of_table.Lending.{lent_seen}
-use Rattle.world_base.proofs.of_table.Views.{rest_seen, outside_at}
-use Rattle.world_base.proofs.of_table.Past.{inside_or_past}
 use Rattle.world_rwlock.proofs.table.Views as view
 use Rattle.world_rwlock.proofs.table.Views.{Fits}
 use Rattle.world_rwlock.proofs.step.Owns as owns
 use Rattle.world_rwlock.proofs.rights.Inside as calls
-use Rattle.lock_event.specs.Lists.{marked_count}
-use Rattle.world_base.specs.Standings.{is_outside, is_decided}
 use Rattle.world_base.proofs.Owing.{marked_or_owed}
 use Rattle.world_base.proofs.of_table.Acting as acting
-use Rattle.world_mutex.specs.machine.Course.{listed, is_due}
-use Rattle.world_rwlock.specs.machine.Roles.{waits_no_writer, owes_no_writer, waits_no_readers, owes_no_readers}
-use Rattle.world_rwlock.specs.machine.Acts.{readers}
-use Rattle.world_rwlock.specs.Laws.{is_due_for_turn, is_due_to_readers, is_due_to_writer, IsDueForTurn, IsDueToReaders, IsDueToWriter}
 use Rattle.world_rwlock.proofs.laws.Due as due
 
 -- ---- rights
 
 -- a party with the turn for a right, and what its place says then
 upgrades_there : (x : Place) → share_of x ≡ upgrading → is_reading x ≡ true
-upgrades_there place.Upgradable e = refl
-upgrades_there place.TryUpgrade e = refl
-upgrades_there place.Upgrade e = refl
-upgrades_there place.DropUpgradable e = refl
-upgrades_there (place.ReleaseTurn ending.Reading) e = refl
-upgrades_there place.DownNotify e = refl
+upgrades_there Place.Upgradable e = refl
+upgrades_there Place.TryUpgrade e = refl
+upgrades_there Place.Upgrade e = refl
+upgrades_there Place.DropUpgradable e = refl
+upgrades_there (Place.ReleaseTurn Ending.Reading) e = refl
+upgrades_there Place.DownNotify e = refl
 upgrades_there _ e = absurd (cc)
 
 writes_there : (x : Place) → share_of x ≡ writing → roles.writes x ≡ 1
-writes_there place.Writing e = refl
-writes_there place.LeaveNoReaders e = refl
-writes_there place.DropWrite e = refl
-writes_there (place.Down keeps) e = refl
-writes_there (place.ReleaseTurn ending.Reading) e = absurd (cc)
+writes_there Place.Writing e = refl
+writes_there Place.LeaveNoReaders e = refl
+writes_there Place.DropWrite e = refl
+writes_there (Place.Down keeps) e = refl
+writes_there (Place.ReleaseTurn Ending.Reading) e = absurd (cc)
 writes_there _ e = absurd (cc)
 
 pub marks_there : (x : Place) → (share_of x ≡ waiting) ⊎ (share_of x ≡ writing) → marks x ≡ 1
 marks_there x (inl e) = waits_mark x e where
   waits_mark : (x : Place) → share_of x ≡ waiting → marks x ≡ 1
-  waits_mark (place.JoinNoReaders u) e = refl
-  waits_mark (place.LookNoReaders u) e = refl
-  waits_mark (place.AskNoReaders u) e = refl
-  waits_mark (place.AwaitNoReaders u) e = refl
-  waits_mark (place.LookUnlisted u) e = refl
-  waits_mark place.CancelAwait e = refl
-  waits_mark (place.Unmark r) e = refl
-  waits_mark (place.ReleaseTurn ending.Reading) e = absurd (cc)
+  waits_mark (Place.JoinNoReaders u) e = refl
+  waits_mark (Place.LookNoReaders u) e = refl
+  waits_mark (Place.AskNoReaders u) e = refl
+  waits_mark (Place.AwaitNoReaders u) e = refl
+  waits_mark (Place.LookUnlisted u) e = refl
+  waits_mark Place.CancelAwait e = refl
+  waits_mark (Place.Unmark r) e = refl
+  waits_mark (Place.ReleaseTurn Ending.Reading) e = absurd (cc)
   waits_mark _ e = absurd (cc)
 marks_there x (inr e) = writes_mark x e where
   writes_mark : (x : Place) → share_of x ≡ writing → marks x ≡ 1
-  writes_mark place.Writing e = refl
-  writes_mark place.LeaveNoReaders e = refl
-  writes_mark place.DropWrite e = refl
-  writes_mark (place.Down keeps) e = refl
-  writes_mark (place.ReleaseTurn ending.Reading) e = absurd (cc)
+  writes_mark Place.Writing e = refl
+  writes_mark Place.LeaveNoReaders e = refl
+  writes_mark Place.DropWrite e = refl
+  writes_mark (Place.Down keeps) e = refl
+  writes_mark (Place.ReleaseTurn Ending.Reading) e = absurd (cc)
   writes_mark _ e = absurd (cc)
 
 as_up : (q p : ℕ) (s : Share) → turn_as q s ≡ is_upgradable p → (q ≡ p) × (s ≡ upgrading)
@@ -159,14 +126,14 @@ excluded w alone p q _ s a b e = absurd a
 true_one : (b : Bool) (n : ℕ) → bit b ≡ n → b ≡ true → n ≡ 1
 true_one b n e h = sym e ∙ ap bit h
 
-past_out : (xs : List Place) (p : ℕ) → (p < length xs) ⊎ (place_at xs p ≡ place.Out)
+past_out : (xs : List Place) (p : ℕ) → (p < length xs) ⊎ (place_at xs p ≡ Place.Out)
 past_out [] p = inr refl
 past_out (x ∷ xs) zero = inl (omega arith)
-past_out (x ∷ xs) (suc p) = elim (past_out xs p) as (λ _. (suc p < length (x ∷ xs)) ⊎ (place_at xs p ≡ place.Out)) [ inl h ↦ inl (omega arith) | inr h ↦ inr h ]
+past_out (x ∷ xs) (suc p) = elim (past_out xs p) as (λ _. (suc p < length (x ∷ xs)) ⊎ (place_at xs p ≡ Place.Out)) [ inl h ↦ inl (omega arith) | inr h ↦ inr h ]
 
 -- nobody waits to write or writes where nobody is seen to
 marks_bit : (x : Place) → marks x ≤ 1
-marks_bit place.Writing = omega arith
+marks_bit Place.Writing = omega arith
 marks_bit _ = omega arith
 
 first_or_more : (x : Place) (xs : List Place) (n : ℕ) → marks x ≡ n → 0 < sum_by marks (x ∷ xs) → (0 < sum_by marks xs → (p : ℕ) × (marks (place_at xs p) ≡ 1)) → (p : ℕ) × (marks (place_at (x ∷ xs) p) ≡ 1)
@@ -178,17 +145,17 @@ marking_place [] h = absurd (omega arith)
 marking_place (x ∷ xs) h = first_or_more x xs (marks x) refl h (marking_place xs)
 
 marks_share : (x : Place) → marks x ≡ 1 → (share_of x ≡ waiting) ⊎ (share_of x ≡ writing)
-marks_share (place.JoinNoReaders u) e = inl refl
-marks_share (place.LookNoReaders u) e = inl refl
-marks_share (place.AskNoReaders u) e = inl refl
-marks_share (place.AwaitNoReaders u) e = inl refl
-marks_share (place.LookUnlisted u) e = inl refl
-marks_share place.CancelAwait e = inl refl
-marks_share (place.Unmark r) e = inl refl
-marks_share place.Writing e = inr refl
-marks_share place.LeaveNoReaders e = inr refl
-marks_share place.DropWrite e = inr refl
-marks_share (place.Down keeps) e = inr refl
+marks_share (Place.JoinNoReaders u) e = inl refl
+marks_share (Place.LookNoReaders u) e = inl refl
+marks_share (Place.AskNoReaders u) e = inl refl
+marks_share (Place.AwaitNoReaders u) e = inl refl
+marks_share (Place.LookUnlisted u) e = inl refl
+marks_share Place.CancelAwait e = inl refl
+marks_share (Place.Unmark r) e = inl refl
+marks_share Place.Writing e = inr refl
+marks_share Place.LeaveNoReaders e = inr refl
+marks_share Place.DropWrite e = inr refl
+marks_share (Place.Down keeps) e = inr refl
 marks_share _ e = absurd (omega arith)
 
 marked_as : (p : ℕ) (s : Share) → (s ≡ waiting) ⊎ (s ≡ writing) → is_marked (turn_as p s) ≡ true
@@ -202,17 +169,17 @@ as_marked p waiting e = inl refl
 as_marked p writing e = inr refl
 
 has_marks : (x : Place) → marks x ≡ 1 → has_turn x ≡ 1
-has_marks (place.JoinNoReaders u) e = refl
-has_marks (place.LookNoReaders u) e = refl
-has_marks (place.AskNoReaders u) e = refl
-has_marks (place.AwaitNoReaders u) e = refl
-has_marks (place.LookUnlisted u) e = refl
-has_marks place.CancelAwait e = refl
-has_marks (place.Unmark r) e = refl
-has_marks place.Writing e = refl
-has_marks place.LeaveNoReaders e = refl
-has_marks place.DropWrite e = refl
-has_marks (place.Down keeps) e = refl
+has_marks (Place.JoinNoReaders u) e = refl
+has_marks (Place.LookNoReaders u) e = refl
+has_marks (Place.AskNoReaders u) e = refl
+has_marks (Place.AwaitNoReaders u) e = refl
+has_marks (Place.LookUnlisted u) e = refl
+has_marks Place.CancelAwait e = refl
+has_marks (Place.Unmark r) e = refl
+has_marks Place.Writing e = refl
+has_marks Place.LeaveNoReaders e = refl
+has_marks Place.DropWrite e = refl
+has_marks (Place.Down keeps) e = refl
 has_marks _ e = absurd (omega arith)
 
 zero_or : (n : ℕ) → (n ≡ 0) ⊎ (0 < n)
@@ -250,10 +217,10 @@ nobody_holds (Some p) xs e = absurd (by_share (share_of (place_at xs p)) e) wher
 
 -- a party that is outside every call rests
 rests : (s : Stage) (x : Place) → goes_with s x ≡ true → is_outside_stage s ≡ true → is_resting x ≡ true
-rests (Outside rest.Idle) x g o = at_out (λ x. is_resting x ≡ true) refl x g
-rests (Outside rest.Pending) x g o = future_rests x g
-rests (Outside rest.Holding) x g o = guard_rests x g
-rests (Outside rest.Finished) x g o = absurd (cc)
+rests (Outside Rest.Idle) x g o = at_out (λ x. is_resting x ≡ true) refl x g
+rests (Outside Rest.Pending) x g o = future_rests x g
+rests (Outside Rest.Holding) x g o = guard_rests x g
+rests (Outside Rest.Finished) x g o = absurd (cc)
 rests (Inside u) x g o = absurd (cc)
 rests Forgotten x g o = g
 
@@ -274,7 +241,7 @@ module _ (t : Table Guarded) (laws : IsRwLock t.machine.lock) (fits : IsRwLockTa
   stood : (q : ℕ) → standing_of w q ≡ standing_at t.machine.value (stage_at t.stages q) (place_at l.places q) (turn_at l.turn.courses q)
   stood q = acting.stood verdict_of t q
 
-  in_table : (q : ℕ) → (place_at l.places q ≡ place.Out → ⊥) → q < length l.places
+  in_table : (q : ℕ) → (place_at l.places q ≡ Place.Out → ⊥) → q < length l.places
   in_table q some = elim (past_out l.places q) as (λ _. q < length l.places) [ inl h ↦ h | inr e ↦ absurd (some e) ]
 
   rests_there : (q : ℕ) → is_outside_stage (stage_at t.stages q) ≡ true → is_resting (place_at l.places q) ≡ true
@@ -305,7 +272,7 @@ module _ (t : Table Guarded) (laws : IsRwLock t.machine.lock) (fits : IsRwLockTa
   reading_due free q out some =
       let waits : 0 < waits_no_writer (place_at l.places q) = omega (arith, some, laws.owners_no_writer q, due.rest_waits_writer (place_at l.places q) (rests_outside q out)) in
       let there : q < length l.places = in_table q (λ e. (let none : waits_no_writer (place_at l.places q) ≡ 0 = ap waits_no_writer e in absurd (omega (arith, waits, none)))) in
-      elim (marked_or_owed place.Out (marked l ≡ 0) waits_no_writer owes_no_writer l.places (marked_count l.no_writer) q laws.owed_no_writer (bit_seen l t.stages t.opening t.machine.value laws fits free) there waits) [
+      elim (marked_or_owed Place.Out (marked l ≡ 0) waits_no_writer owes_no_writer l.places (marked_count l.no_writer) q laws.owed_no_writer (bit_seen l t.stages t.opening t.machine.value laws fits free) there waits) [
         | inl marked ↦ inl marked
         | inr one ↦ inr (
           one.0,
@@ -321,7 +288,7 @@ module _ (t : Table Guarded) (laws : IsRwLock t.machine.lock) (fits : IsRwLockTa
   writing_due free q out some =
       let waits : 0 < waits_no_readers (place_at l.places q) = omega (arith, some, laws.owners_no_readers q, due.rest_waits_readers (place_at l.places q) (rests_outside q out)) in
       let there : q < length l.places = in_table q (λ e. (let none : waits_no_readers (place_at l.places q) ≡ 0 = ap waits_no_readers e in absurd (omega (arith, waits, none)))) in
-      elim (marked_or_owed place.Out (readers l ≡ 0) waits_no_readers owes_no_readers l.places (marked_count l.no_readers) q laws.owed_no_readers (sym (view.how_many-read l.places) ∙ free) there waits) [
+      elim (marked_or_owed Place.Out (readers l ≡ 0) waits_no_readers owes_no_readers l.places (marked_count l.no_readers) q laws.owed_no_readers (sym (view.how_many-read l.places) ∙ free) there waits) [
         | inl marked ↦ inl marked
         | inr one ↦ inr (
           one.0,
@@ -376,11 +343,11 @@ module _ (t : Table Guarded) (laws : IsRwLock t.machine.lock) (fits : IsRwLockTa
 
   -- a listed party that is outside every call is pending, or was
   pends : (p : ℕ) (s : Stage) → standing_of seen_as p ≡ standing_at t.machine.value s (place_at t.machine.lock.places p) (turn_at t.machine.lock.turn.courses p) → is_outside_stage s ≡ true → 0 < entries_in seen_as p → HasItsOwn seen_as p (standing_of seen_as p)
-      → (standing_of seen_as p ≡ outside rest.Pending) ⊎ (standing_of seen_as p ≡ forgotten)
-  pends p (Outside rest.Idle) e o some own = let k : HasItsOwn seen_as p (outside rest.Idle) = rw e at own in absurd (omega (arith, k.0.0, some))
-  pends p (Outside rest.Pending) e o some own = inl e
-  pends p (Outside rest.Holding) e o some own = let k : HasItsOwn seen_as p (outside rest.Holding) = rw e at own in absurd (omega (arith, k.0.0, some))
-  pends p (Outside rest.Finished) e o some own = let k : HasItsOwn seen_as p (outside rest.Finished) = rw e at own in absurd (omega (arith, k.0.0, some))
+      → (standing_of seen_as p ≡ outside Rest.Pending) ⊎ (standing_of seen_as p ≡ forgotten)
+  pends p (Outside Rest.Idle) e o some own = let k : HasItsOwn seen_as p (outside Rest.Idle) = rw e at own in absurd (omega (arith, k.0.0, some))
+  pends p (Outside Rest.Pending) e o some own = inl e
+  pends p (Outside Rest.Holding) e o some own = let k : HasItsOwn seen_as p (outside Rest.Holding) = rw e at own in absurd (omega (arith, k.0.0, some))
+  pends p (Outside Rest.Finished) e o some own = let k : HasItsOwn seen_as p (outside Rest.Finished) = rw e at own in absurd (omega (arith, k.0.0, some))
   pends p (Inside u) e o some own = absurd (cc)
   pends p Forgotten e o some own = inr e
 
@@ -394,7 +361,7 @@ module _ (t : Table Guarded) (laws : IsRwLock t.machine.lock) (fits : IsRwLockTa
         turn_marked = λ free. laws.wakes_turn quiet (sees.none_holds 0 t.machine.lock.turn.courses (nobody_holds (holder_of t.machine.lock.turn) t.machine.lock.places free.0)) free.1;
         reading_marked = λ free. laws.wakes_no_writer quiet (bit_seen t.machine.lock t.stages t.opening t.machine.value laws fits free.0) free.1;
         writing_marked = λ free. laws.wakes_no_readers quiet (sym (view.how_many-read t.machine.lock.places) ∙ free.0) free.1;
-        pending = λ p some. elim (inside_or_past t.stages p) as (λ _. (standing_of seen_as p ≡ outside rest.Pending) ⊎ (standing_of seen_as p ≡ forgotten)) [
+        pending = λ p some. elim (inside_or_past t.stages p) as (λ _. (standing_of seen_as p ≡ outside Rest.Pending) ⊎ (standing_of seen_as p ≡ forgotten)) [
           | inl known ↦ pends p (stage_at t.stages p) (stood p) (outside_at t.stages out p) some (each p)
           | inr past ↦ inr (stood p ∙ ap (λ s. standing_at t.machine.value s (place_at t.machine.lock.places p) (turn_at t.machine.lock.turn.courses p)) past.1)
         ];

@@ -1,24 +1,6 @@
 -- The laws of a read-write lock's World: what follows from one step that its table did.
-use Rattle.std.proofs.Common.{◌≡◌, ◌≢◌, ℕ, ◌+◌, ◌<◌, ◌≤◌, true, refl, sym, subst}
-use Rattle.world_base.specs.Accounts.{Account, accounts_after}
-use Rattle.world_base.specs.declared.moves.Answer.{Answer}
-use Rattle.world_base.specs.declared.moves.Answer.TheVariants as answer
-use Rattle.world_base.specs.declared.moves.Call.{Call}
-use Rattle.world_base.specs.declared.moves.Inputs.{Inputs}
-use Rattle.world_base.specs.declared.moves.Move.{Move}
-use Rattle.world_base.specs.declared.standing.Rest.TheVariants.{Holding}
-use Rattle.world_base.specs.Standings.{is_outside, is_possible}
-use Rattle.world_base.specs.Whole.{going_on, moves_of, answers_of}
-use Rattle.world_base.specs.any_world.Steps.{StepsWell, left_by, beginning}
+use Rattle.world_rwlock.proofs.Prelude.{◌≡◌, ◌≢◌, ℕ, ◌+◌, ◌<◌, ◌≤◌, true, refl, sym, subst, Account, accounts_after, Answer, Call, Inputs, Move, Holding, is_outside, is_possible, going_on, moves_of, answers_of, StepsWell, left_by, beginning, first_of, World, standing_of, Stands, Moved as Steps, IsSound, IsAwake, is_at_rest, knows_of, Runs, HoldsWell, TellsRights, accounts_of, most_steps_of, steps_left_of, Promises}
 use Rattle.world_base.proofs.of_any_world.Endings.{ends_outside as outside_at_end}
-use Rattle.world_base.proofs.of_any_world.Runs.{first_of}
-use Rattle.world_rwlock.specs.State.{World, standing_of}
-use Rattle.world_rwlock.specs.Steps.{Stands, Steps}
-use Rattle.world_rwlock.specs.Laws.{IsSound, IsAwake, is_at_rest}
-use Rattle.world_rwlock.specs.Legal.{knows_of}
-use Rattle.world_rwlock.specs.Runs.{Runs, HoldsWell, TellsRights, accounts_of}
-use Rattle.world_rwlock.specs.Whole.{most_steps_of, steps_left_of}
-use Rattle.world_rwlock.specs.Bound.{Promises}
 use Rattle.world_rwlock.proofs.step.Acting.{Way, way}
 use Rattle.world_rwlock.proofs.bound.Alone.{laws}
 use Rattle.world_rwlock.proofs.laws.Sound.{sound, awake}
@@ -54,10 +36,10 @@ begins w p c i a v s = whole.first w.behind v.behind p c i a (way_of w (beginnin
 pub falls : (w : World) (p : ℕ) (i : Inputs) (a : Answer) (v : World) → Steps w (going_on p i) a v → left_by a (steps_left_of v p) < steps_left_of w p
 falls w p i a v s = whole.onward w.behind v.behind p i a s.did.stood.lock (way_of w (going_on p i) a v s)
 
-pub ends_outside : (w : World) (m : Move) (a : Answer) (v : World) → Steps w m a v → a ≢ answer.Stepped → is_possible a ≡ true → is_outside (standing_of v m.party) ≡ true
+pub ends_outside : (w : World) (m : Move) (a : Answer) (v : World) → Steps w m a v → a ≢ Answer.Stepped → is_possible a ≡ true → is_outside (standing_of v m.party) ≡ true
 ends_outside w m a v s = outside_at_end standing_of knows_of Holding w m a v s.legal.possible s.legal.ends_properly
 
-pub keeps_promise : (known : ℕ → Account) (w : World) (p : ℕ) (c : Call) (i : Inputs) (n : ℕ) (a : Answer) (v : World) → Runs known w (moves_of p c i n) (answers_of n a) v → a ≢ answer.Stepped → Promises w p c i a v
+pub keeps_promise : (known : ℕ → Account) (w : World) (p : ℕ) (c : Call) (i : Inputs) (n : ℕ) (a : Answer) (v : World) → Runs known w (moves_of p c i n) (answers_of n a) v → a ≢ Answer.Stepped → Promises w p c i a v
 keeps_promise known w p c i n a v runs ended =
     let stood : Stands w = (first_of Steps accounts_after HoldsWell known w (beginning p c i) _ (answers_of n a) v runs).2.did.stood in
     let R : Call → Type 0 = λ x. Runs known w (moves_of p x i n) (answers_of n a) v in

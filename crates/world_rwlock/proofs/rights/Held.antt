@@ -1,17 +1,6 @@
 -- The rights that parties have in the state are those that their accounts tell of.
-use Rattle.std.proofs.Common.{◌≡◌, ◌≢◌, ℕ, ◌==◌, if◌then◌else◌, inl, inr, Bool, true, false, List, [], ◌∷◌, Option, Some, None, is_some, zero, suc, refl, arith, ap, sym, ◌∙◌, subst}
-use Rattle.std.proofs.lemmas.Bool.Decides.{nat_tests}
-use Rattle.world_base.specs.declared.standing.Rest.TheVariants as rest
-use Rattle.world_base.specs.Accounts.{Account, HasByAnswers}
-use Rattle.world_base.specs.Rights.{Right, read, upgradable, write}
-use Rattle.world_base.specs.Rosters.{is_on, how_many}
-use Rattle.world_base.specs.Standings.{is_outside, Standing, outside, inside, forgotten}
-use Rattle.world_rwlock.specs.State.{Turn, nobody, passes, is_upgradable, waits_to_write, writes, World, standing_of, sought_by, reads, HasTurn}
-use Rattle.world_rwlock.specs.Legal.{HasJust, HasItsOwn}
-use Rattle.world_rwlock.specs.Laws.{HasRight, IsSound}
-use Rattle.world_base.proofs.Equations.{same_test}
-use Rattle.world_base.specs.table.Rights.{account_by}
-use Rattle.world_rwlock.specs.Runs.{right_by, right_in, accounts_of, HasJustItsRights, HasItsRights}
+use Rattle.world_rwlock.proofs.Prelude.{◌≡◌, ◌≢◌, ℕ, ◌==◌, if◌then◌else◌, inl, inr, Bool, true, false, List, [], ◌∷◌, Option, Some, None, is_some, zero, suc, refl, arith, ap, sym, ◌∙◌, subst, nat_tests, Rest, Account, HasByAnswers, Right, read, upgradable, write, is_on, how_many, is_outside, Standing, outside, inside, forgotten, nobody, passes, is_upgradable, waits_to_write, World, standing_of, sought_by, HasTurn, HasJust, HasItsOwn, HasRight, IsSound, same_test, account_by, right_by, right_in, accounts_of, HasJustItsRights, HasItsRights}
+use Rattle.world_rwlock.specs.State.{Turn, writes, reads}
 
 is_same : (p q : ℕ) → (p == q) ≡ true → p ≡ q
 is_same p q e = grind (arith, nat_tests)
@@ -121,16 +110,16 @@ told_of w sound p = by_standing (standing_of w p) (sound.each p) where
   told_just k _ h s own = absurd own
 
   by_standing : (s : Standing) → HasItsOwn w p s → (is_outside s ≡ true → (o : Option Right) × Tells (account_by s (sought_by w p) (right_in w p)) o × HasJustThis o w.state.turn (reads w p) p) × ((r : Right) → HasByAnswers (account_by s (sought_by w p) (right_in w p)) r → is_outside s ≡ true)
-  by_standing (outside rest.Idle) own = ((λ out. told_none _ refl own.1.0 (λ e. own.1.1 (has_turn w.state.turn (is_upgradable p) p e refl)) (λ e. own.1.1 (has_turn w.state.turn (writes p) p e refl))), (λ r h. refl))
-  by_standing (outside rest.Finished) own = ((λ out. told_none _ refl own.1.0 (λ e. own.1.1 (has_turn w.state.turn (is_upgradable p) p e refl)) (λ e. own.1.1 (has_turn w.state.turn (writes p) p e refl))), (λ r h. refl))
-  by_standing (outside rest.Pending) own = (
+  by_standing (outside Rest.Idle) own = ((λ out. told_none _ refl own.1.0 (λ e. own.1.1 (has_turn w.state.turn (is_upgradable p) p e refl)) (λ e. own.1.1 (has_turn w.state.turn (writes p) p e refl))), (λ r h. refl))
+  by_standing (outside Rest.Finished) own = ((λ out. told_none _ refl own.1.0 (λ e. own.1.1 (has_turn w.state.turn (is_upgradable p) p e refl)) (λ e. own.1.1 (has_turn w.state.turn (writes p) p e refl))), (λ r h. refl))
+  by_standing (outside Rest.Pending) own = (
     (λ out. elim own.1 [
       | inl w ↦ (let e = w.0 in told_none _ refl own.0 (λ h. absurd (cc (sym h ∙ e))) (λ h. absurd (cc (sym h ∙ e))))
       | inr n ↦ told_none _ refl own.0 (λ e. n.0 (has_turn w.state.turn (is_upgradable p) p e refl)) (λ e. n.0 (has_turn w.state.turn (writes p) p e refl))
     ]),
     (λ r h. refl),
   )
-  by_standing (outside rest.Holding) own = ((λ out. told_just _ own.1.0 refl own.1.1 own.1.2), (λ r h. refl))
+  by_standing (outside Rest.Holding) own = ((λ out. told_just _ own.1.0 refl own.1.1 own.1.2), (λ r h. refl))
   by_standing (inside u d) own = ((λ out. absurd (cc)), (λ r h. absurd (cc (h.0))))
   by_standing forgotten own = ((λ out. (right_in w p, record { has = refl; seeks = λ h. refl }, right_here w sound p)), (λ r h. refl))
 

@@ -1,20 +1,8 @@
 -- A move leaves the rights of other parties as they are.
-use Rattle.std.proofs.Common.{◌≡◌, ◌≢◌, ℕ, ◌⊎◌, if◌then◌else◌, inl, inr, Bool, true, false, List, Some, None, refl, ap, sym, ◌∙◌, subst, get_or}
+use Rattle.world_rwlock.proofs.Prelude.{◌≡◌, ◌≢◌, ℕ, ◌⊎◌, if◌then◌else◌, inl, inr, Bool, true, false, List, Some, None, refl, ap, sym, ◌∙◌, subst, get_or, Answer, Move, sought_after, read, is_on, Deed, changes, nobody, passes, is_upgradable, waits_to_write, World, standing_of, sought_by, HasTurn, turn_after, readers_after, IsAllowed, ListName, Legal, other_test, account_by, right_by, right_in, accounts_of}
 use Rattle.std.proofs.lemmas.List.{get_or-set_other}
-use Rattle.world_base.specs.declared.moves.Answer.{Answer}
-use Rattle.world_base.specs.declared.moves.Move.{Move}
-use Rattle.world_base.specs.Accounts.{sought_after}
-use Rattle.world_base.specs.Rights.{read}
-use Rattle.world_base.specs.Rosters.{is_on}
-use Rattle.world_base.specs.Steps.{Deed, changes}
-use Rattle.world_rwlock.specs.State.{Turn, nobody, passes, is_upgradable, waits_to_write, writes, World, standing_of, sought_by, reads, HasTurn}
+use Rattle.world_rwlock.specs.State.{Turn, writes, reads}
 use Rattle.world_rwlock.specs.Changes
-use Rattle.world_rwlock.specs.Changes.{turn_after, readers_after, IsAllowed}
-use Rattle.world_rwlock.specs.State.{ListName}
-use Rattle.world_rwlock.specs.Legal.{Legal}
-use Rattle.world_base.proofs.Equations.{other_test}
-use Rattle.world_base.specs.table.Rights.{account_by}
-use Rattle.world_rwlock.specs.Runs.{right_by, right_in, accounts_of}
 
 -- the turn is nobody's, or this party's
 abbrev IsAt : ℕ → Turn → Type 0

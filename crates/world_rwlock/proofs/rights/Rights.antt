@@ -1,27 +1,7 @@
 -- After each step the rights by the answers are the state's.
-use Rattle.std.proofs.Common.{◌≡◌, ◌≢◌, ℕ, ◌<◌, Bool, true, false, List, [], ◌∷◌, Option, Some, None, is_some, zero, suc, length, refl, arith, ap, sym, ◌∙◌, subst, get_or}
+use Rattle.world_rwlock.proofs.Prelude.{◌≡◌, ◌≢◌, ℕ, ◌<◌, Bool, true, false, List, [], ◌∷◌, Option, Some, None, is_some, zero, suc, length, refl, arith, ap, sym, ◌∙◌, subst, get_or, Answer, Call, Value, Inputs, Move, What, Begin, Go, Rest, Within, Account, sought_after, has_after, account_after, accounts_after, HasByAnswers, is_poll_after_ready, put_in, Right, Standing, outside, inside, forgotten, call_in, is_possible, StandsAfter, World, standing_of, sought_by, knows, call_of, HasItsOwn, Legal, IsSound, IsAwake, is_at_rest, account_by, TellsAccounts, right_in, accounts_of, HasJustItsRights, HasItsRights, HoldsWell}
 use Rattle.std.proofs.lemmas.List.{get_or-set_same}
-use Rattle.world_base.specs.declared.moves.Answer.{Answer}
-use Rattle.world_base.specs.declared.moves.Answer.TheVariants as answer
-use Rattle.world_base.specs.declared.moves.Call.{Call}
-use Rattle.world_base.specs.declared.moves.Got.TheVariants.{Value}
-use Rattle.world_base.specs.declared.moves.Inputs.{Inputs}
-use Rattle.world_base.specs.declared.moves.Move.{Move}
-use Rattle.world_base.specs.declared.moves.What.{What}
-use Rattle.world_base.specs.declared.moves.What.TheVariants.{Begin, Go}
-use Rattle.world_base.specs.declared.standing.Rest.{Rest}
-use Rattle.world_base.specs.declared.standing.Rest.TheVariants as rest
-use Rattle.world_base.specs.declared.standing.Within.{Within}
-use Rattle.world_base.specs.Accounts.{Account, sought_after, has_after, account_after, accounts_after, HasByAnswers}
-use Rattle.world_base.specs.Frame.{is_poll_after_ready, put_in}
-use Rattle.world_base.specs.Rights.{Right}
-use Rattle.world_base.specs.Standings.{Standing, outside, inside, forgotten, call_in, is_possible, StandsAfter}
-use Rattle.world_rwlock.specs.State.{World, standing_of, sought_by}
-use Rattle.world_rwlock.specs.Legal.{knows, call_of, HasItsOwn, Legal}
-use Rattle.world_rwlock.specs.Laws.{IsSound, IsAwake, is_at_rest}
-use Rattle.world_base.specs.table.Rights.{account_by, TellsAccounts}
 use Rattle.world_base.proofs.of_table.Rights.{tells_on}
-use Rattle.world_rwlock.specs.Runs.{right_in, accounts_of, HasJustItsRights, HasItsRights, HoldsWell}
 use Rattle.world_rwlock.proofs.rights.Held.{state_rights, holds_by}
 use Rattle.world_rwlock.proofs.rights.Moved.{has_standing, account, Beginning, begun, from_outside, from_inside}
 use Rattle.world_rwlock.proofs.rights.Others.{others}
@@ -37,26 +17,26 @@ same_account s t g h es eh = ap (λ x. account x g) es ∙ ap (account t) eh
 
 -- the account of a party that isn't forgotten
 of_standing : (s : Standing) (o x : Option Right) → s ≢ forgotten → account_by s o x ≡ account o (has_standing s)
-of_standing (outside rest.Idle) o x n = refl
-of_standing (outside rest.Pending) o x n = refl
-of_standing (outside rest.Holding) o x n = refl
-of_standing (outside rest.Finished) o x n = refl
+of_standing (outside Rest.Idle) o x n = refl
+of_standing (outside Rest.Pending) o x n = refl
+of_standing (outside Rest.Holding) o x n = refl
+of_standing (outside Rest.Finished) o x n = refl
 of_standing (inside u d) o x n = refl
 of_standing forgotten o x n = absurd (n refl)
 
 -- whoever was in a call or began one isn't forgotten
-stands_on : (u : Within) (a : Answer) (t : Standing) → StandsAfter rest.Holding u a t → t ≢ forgotten
-stands_on u answer.Stepped t s e = absurd (cc (sym s.1 ∙ e))
+stands_on : (u : Within) (a : Answer) (t : Standing) → StandsAfter Rest.Holding u a t → t ≢ forgotten
+stands_on u Answer.Stepped t s e = absurd (cc (sym s.1 ∙ e))
 stands_on u _ t s e = absurd (cc (sym s.1 ∙ e))
 
 module _ (w : World) (m : Move) (a : Answer) (v : World) (sound : IsSound w) (legal : Legal w m a v) (then_sound : IsSound v) where
-  refused_move : call_of w m ≡ None → a ≡ answer.NotPossible
+  refused_move : call_of w m ≡ None → a ≡ Answer.NotPossible
   refused_move none = legal.possible.exactly.1 none
 
   is_possible_move : (u : Within) → call_of w m ≡ Some u → is_possible a ≡ true
   is_possible_move u e = possible_but a (λ n. let none = legal.possible.exactly.0 n in absurd (cc)) where
-    possible_but : (b : Answer) → (b ≡ answer.NotPossible → ⊥) → is_possible b ≡ true
-    possible_but answer.NotPossible h = absurd (h refl)
+    possible_but : (b : Answer) → (b ≡ Answer.NotPossible → ⊥) → is_possible b ≡ true
+    possible_but Answer.NotPossible h = absurd (h refl)
     possible_but _ h = refl
 
   -- what the moving party seeks then
@@ -67,16 +47,16 @@ module _ (w : World) (m : Move) (a : Answer) (v : World) (sound : IsSound w) (le
       ap (λ l. get_or l m.party None) legal.one_change.sought ∙ get_or-set_same w.sought m.party (sought_after (sought_by w m.party) m.what a) None few
 
   -- whoever has a right then seeks it
-  seeks_some : standing_of v m.party ≡ outside rest.Holding → is_some (sought_by v m.party) ≡ true
+  seeks_some : standing_of v m.party ≡ outside Rest.Holding → is_some (sought_by v m.party) ≡ true
   seeks_some e =
       let P : Standing → Type 0 = λ s. HasItsOwn v m.party s in
-      let own : HasItsOwn v m.party (outside rest.Holding) = subst P e (then_sound.each m.party) in
+      let own : HasItsOwn v m.party (outside Rest.Holding) = subst P e (then_sound.each m.party) in
       ap is_some own.1.1
 
   begins : (r : Rest) (c : Call) (i : Inputs) (u : Within) → standing_of w m.party ≡ outside r → m.what ≡ Begin c i → call_in (knows (sought_by w m.party)) (outside r) (Begin c i) ≡ Some u → Beginning (sought_by w m.party) r c i a (standing_of v m.party)
   begins r c i u se we e =
       let same : call_of w m ≡ Some u = ap (λ s. call_in (knows (sought_by w m.party)) s m.what) se ∙ (ap (call_in (knows (sought_by w m.party)) (outside r)) we ∙ e) in
-      let S : Within → Type 0 = λ u. StandsAfter rest.Holding u a (standing_of v m.party) in
+      let S : Within → Type 0 = λ u. StandsAfter Rest.Holding u a (standing_of v m.party) in
       record {
         stands = subst S (begun (sought_by w m.party) r c i u e).2 (legal.ends_properly.stands u same);
         after_ready = λ h. legal.refused_for_cause.after_ready.1 (ap (λ s. is_poll_after_ready s m.what) se ∙ (ap (is_poll_after_ready (outside r)) we ∙ h));

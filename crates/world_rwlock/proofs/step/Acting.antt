@@ -1,45 +1,7 @@
 -- An action of a party is a legal step, as callers see it.
-use Rattle.std.proofs.Common.{◌≡◌, ℕ, ◌<◌, inl, inr, Bool, true, false, List, length, Option, Some, None, refl, ap, sym, ◌∙◌, subst}
-use Rattle.std.proofs.Math.ListN.{set}
-use Rattle.std.proofs.lemmas.Bool.{false≢true, cases_Bool}
-use Rattle.world_base.specs.declared.moves.Answer.{Answer}
-use Rattle.world_base.specs.declared.moves.Answer.TheVariants as answer
-use Rattle.world_base.specs.declared.moves.Call.{Call}
-use Rattle.world_base.specs.declared.moves.Got.TheVariants.{Value}
-use Rattle.world_base.specs.declared.moves.Move.{Move}
-use Rattle.world_base.specs.declared.moves.What.{What}
-use Rattle.world_base.specs.declared.moves.What.TheVariants.{Begin, Go}
-use Rattle.lock_program.specs.declared.refusal.Refusal.TheVariants as refusal
-use Rattle.world_base.specs.declared.standing.Kind.TheVariants as kind
-use Rattle.world_base.specs.declared.standing.Rest.TheVariants as rest
-use Rattle.world_base.specs.declared.standing.Stage.{Stage}
-use Rattle.world_base.specs.declared.standing.Stage.TheVariants.{Forgotten}
-use Rattle.world_base.specs.declared.standing.Within.{Within}
-use Rattle.world_base.specs.Frame.{put_in, is_poll_after_ready}
-use Rattle.world_base.specs.Standings.{inputs_of, refused}
-use Rattle.world_base.proofs.Equations.{some_eq, none_some}
-use Rattle.world_base.specs.table.Stages.{stage_at, call_at, polls_again, stage_after}
-use Rattle.world_base.specs.table.Tables.{Table}
-use Rattle.world_base.proofs.of_table.Calls.{call_seen, again_seen}
+use Rattle.world_rwlock.proofs.Prelude.{◌≡◌, ℕ, ◌<◌, inl, inr, Bool, true, false, List, length, Option, Some, None, refl, ap, sym, ◌∙◌, subst, set, false≢true, cases_Bool, Answer, Call, Value, Move, What, Begin, Go, Refusal, Kind, Rest, Stage, Forgotten, Within, put_in, is_poll_after_ready, inputs_of, refused, some_eq, none_some, stage_at, call_at, polls_again, stage_after, Table, call_seen, again_seen, TurnCourse, turn_at, Next, Place, action_of, next_of, place_after, fits_turn, OnTurn, RwLock, place_at, Acts, knows, call_of, Legal, knows_at, Guarded, with_value, knows_there, answer_by, place_for, Does, MovesThere, sought_at, standing_of, TableSteps, verdict, view_of, set_same, inside_or_past, is_counting, DecidesOn, seen}
 use Rattle.world_base.proofs.of_table.Ways as ways
-use Rattle.world_mutex.specs.machine.Course.{Course as TurnCourse}
-use Rattle.world_mutex.specs.machine.Mutex.{course_at as turn_at}
-use Rattle.world_rwlock.specs.declared.program.led.Next.{Next}
-use Rattle.lock_program.specs.declared.rwlock.Place.{Place}
-use Rattle.lock_program.specs.declared.rwlock.Place.TheVariants as place
-use Rattle.world_rwlock.specs.program.Program.{action_of, next_of, place_after}
-use Rattle.world_rwlock.specs.machine.Roles.{fits_turn}
-use Rattle.world_rwlock.specs.program.Turns.{OnTurn}
-use Rattle.world_rwlock.specs.machine.Machine.{RwLock, place_at}
-use Rattle.world_rwlock.specs.machine.Acts.{Acts}
 use Rattle.world_rwlock.proofs.of_machine.stages.Leads.{led, steps_in_turn}
-use Rattle.world_rwlock.specs.Legal.{knows, call_of, Legal}
-use Rattle.world_rwlock.specs.program.Calls.{knows_at}
-use Rattle.world_rwlock.specs.Guarded.{Guarded, with_value, knows as knows_there, answer_by, place_for, Does, Moves as MovesThere}
-use Rattle.world_rwlock.specs.Stages.{sought_at}
-use Rattle.world_rwlock.specs.State.{standing_of}
-use Rattle.world_rwlock.specs.Steps.{TableSteps}
-use Rattle.world_rwlock.specs.View.{verdict, view_of}
 use Rattle.world_rwlock.proofs.table.Begun.{within, known_at}
 use Rattle.world_rwlock.proofs.table.Calls.{Moves, moving}
 use Rattle.world_rwlock.proofs.step.Facts as word
@@ -49,12 +11,7 @@ use Rattle.world_rwlock.proofs.table.Kept.{walks, put_is}
 use Rattle.world_rwlock.proofs.step.Legals as legals
 use Rattle.world_rwlock.proofs.table.Stages.{strays_not, stage_then}
 use Rattle.world_rwlock.proofs.step.TurnFacts.{on_turn}
-use Rattle.world_base.proofs.of_table.Mapped.{set_same}
-use Rattle.world_base.proofs.of_table.Past.{inside_or_past}
 use Rattle.world_rwlock.proofs.table.Views.{Fits}
-use Rattle.world_mutex.specs.machine.Course.{is_counting}
-use Rattle.world_rwlock.specs.Legal.{DecidesOn}
-use Rattle.world_rwlock.specs.View.{seen}
 
 module _ (t u : Table Guarded) (m : Move) (a : Answer) (w : Within) where
   abbrev p : ℕ
@@ -83,15 +40,15 @@ module _ (t u : Table Guarded) (m : Move) (a : Answer) (w : Within) where
     pub acts : Acts (inputs_of m.what).memory (inputs_of m.what).starving p from next t.machine.lock u.machine.lock
     pub answer : a ≡ answer_by t.machine.value next
     pub value : u.machine.value ≡ t.machine.value
-    pub stages : u.stages ≡ set t.stages p (stage_after rest.Holding w a)
+    pub stages : u.stages ≡ set t.stages p (stage_after Rest.Holding w a)
     pub opening : u.opening ≡ t.opening
     pub moves : Moves t.machine.value y s m.what x w from
 
 -- How a move came about: it isn't possible, polls a future that has been ready, puts a value, or is carried out by the lock.
 pub data Way (t u : Table Guarded) (m : Move) (a : Answer) : Type 0 where
-  impossible : call_of (view_of t) m ≡ None → a ≡ answer.NotPossible → u ≡ t → Way t u m a
-  over : (w : Within) → call_of (view_of t) m ≡ Some w → polls_again (stage_at t.stages m.party) m.what ≡ true → a ≡ refused refusal.Finished → u ≡ t → Way t u m a
-  puts : (w : Within) (v : ℕ) → m.party < length t.stages → put_in m.what ≡ Some v → call_at (knows_at (place_at t.machine.lock.places m.party)) (stage_at t.stages m.party) m.what ≡ Some w → a ≡ answer.Granted (Value v)
+  impossible : call_of (view_of t) m ≡ None → a ≡ Answer.NotPossible → u ≡ t → Way t u m a
+  over : (w : Within) → call_of (view_of t) m ≡ Some w → polls_again (stage_at t.stages m.party) m.what ≡ true → a ≡ refused Refusal.Finished → u ≡ t → Way t u m a
+  puts : (w : Within) (v : ℕ) → m.party < length t.stages → put_in m.what ≡ Some v → call_at (knows_at (place_at t.machine.lock.places m.party)) (stage_at t.stages m.party) m.what ≡ Some w → a ≡ Answer.Granted (Value v)
       → u ≡ record { machine = with_value t.machine v; stages = t.stages; opening = t.opening } → Way t u m a
   acts : (w : Within) → Acting t u m a w → Way t u m a
 
@@ -124,12 +81,12 @@ module _ (t u : Table Guarded) (m : Move) (a : Answer) (old : Laws t) (new : Law
   again_is = ap (λ z. is_poll_after_ready z m.what) (stood t m.party old) ∙ again_seen (verdict t.machine.value here (turn_at t.machine.lock.turn.courses m.party)) stage m.what
 
   pub way : TableSteps t m a u → Way t u m a
-  way step = ways.by_way knows_there rest.Holding MovesThere t u m a (λ b x. Way t x m b)
+  way step = ways.by_way knows_there Rest.Holding MovesThere t u m a (λ b x. Way t x m b)
       (λ e. impossible (call_is ∙ e) refl refl)
       (λ w e f. over w (call_is ∙ e) f refl refl)
       (λ w e f d. by_put w (put_in m.what) e f refl d.inside d.stages d.opening d.acts)
-      (ways.way knows_there rest.Holding MovesThere t u m a step) where
-        by_put : (w : Within) (o : Option ℕ) → call_at (knows_at here) stage m.what ≡ Some w → polls_again stage m.what ≡ false → put_in m.what ≡ o → m.party < length t.stages → u.stages ≡ set t.stages m.party (stage_after rest.Holding w a) → u.opening ≡ t.opening
+      (ways.way knows_there Rest.Holding MovesThere t u m a step) where
+        by_put : (w : Within) (o : Option ℕ) → call_at (knows_at here) stage m.what ≡ Some w → polls_again stage m.what ≡ false → put_in m.what ≡ o → m.party < length t.stages → u.stages ≡ set t.stages m.party (stage_after Rest.Holding w a) → u.opening ≡ t.opening
             → Does o t.machine m.party m.what a u.machine → Way t u m a
         by_put w None e f o inside stages opening d =
             let turned = moving t.machine.value (turn_at t.machine.lock.turn.courses m.party) stage m.what here w (old.fits.stands m.party inside) e f o in
@@ -154,8 +111,8 @@ module _ (t u : Table Guarded) (m : Move) (a : Answer) (old : Laws t) (new : Law
             })
         by_put w (Some v) e f o inside stages opening d =
             let put = put_is stage m.what v w here o e in
-            let S : Within → Type 0 = λ y. u.stages ≡ set t.stages m.party (stage_after rest.Holding y a) in
-            let B : Answer → Type 0 = λ b. u.stages ≡ set t.stages m.party (stage_after rest.Holding (within kind.Put rest.Holding) b) in
+            let S : Within → Type 0 = λ y. u.stages ≡ set t.stages m.party (stage_after Rest.Holding y a) in
+            let B : Answer → Type 0 = λ b. u.stages ≡ set t.stages m.party (stage_after Rest.Holding (within Kind.Put Rest.Holding) b) in
             let stay : u.stages ≡ t.stages = subst B d.0 (subst S put.call stages) ∙ set_same t.stages m.party Forgotten _ put.stage inside in
             puts w v inside o e d.0 (table_eq _ _ _ _ _ _ d.1 stay opening)
 
@@ -171,14 +128,14 @@ module _ (t u : Table Guarded) (m : Move) (a : Answer) (old : Laws t) (new : Law
 -- ---- a step of a call
 
 still : (memory starving : Bool) (p : ℕ) (x : Place) (f : _) (l k : _) → OnTurn memory starving p (action_of x) f l k → steps_in_turn x ≡ false → k ≡ l
-still memory starving p (place.EnterTurn q) f l k e h = absurd (cc)
-still memory starving p (place.WaitTurn q) f l k e h = absurd (cc)
-still memory starving p (place.TakeTurn q) f l k e h = absurd (cc)
-still memory starving p (place.TryTurn q) f l k e h = absurd (cc)
-still memory starving p place.CancelTurn f l k e h = absurd (cc)
-still memory starving p place.CancellingTurn f l k e h = absurd (cc)
-still memory starving p (place.ReleaseTurn q) f l k e h = absurd (cc)
-still memory starving p (place.ReleasingTurn q) f l k e h = absurd (cc)
+still memory starving p (Place.EnterTurn q) f l k e h = absurd (cc)
+still memory starving p (Place.WaitTurn q) f l k e h = absurd (cc)
+still memory starving p (Place.TakeTurn q) f l k e h = absurd (cc)
+still memory starving p (Place.TryTurn q) f l k e h = absurd (cc)
+still memory starving p Place.CancelTurn f l k e h = absurd (cc)
+still memory starving p Place.CancellingTurn f l k e h = absurd (cc)
+still memory starving p (Place.ReleaseTurn q) f l k e h = absurd (cc)
+still memory starving p (Place.ReleasingTurn q) f l k e h = absurd (cc)
 still memory starving p _ f l k e h = e
 
 module _ (t u : Table Guarded) (m : Move) (a : Answer) (w : Within) (c : Acting t u m a w) where
@@ -210,7 +167,7 @@ module _ (t u : Table Guarded) (m : Move) (a : Answer) (w : Within) (c : Acting 
   ts = set t.stages m.party (stage_then w v n)
 
   stages_then : u.stages ≡ ts
-  stages_then = c.stages ∙ ap (λ b. set t.stages m.party (stage_after rest.Holding w b)) says
+  stages_then = c.stages ∙ ap (λ b. set t.stages m.party (stage_after Rest.Holding w b)) says
 
   known : legals.Known m l k t.stages t.opening v c.from n w
   known =
@@ -254,7 +211,7 @@ module _ (t u : Table Guarded) (m : Move) (a : Answer) (w : Within) (c : Acting 
   legal = rw (says, stages_then, c.opening, c.value) (legals.step_legal m l k t.stages t.opening v c.from n w known)
 
   -- who is refused for too many starved parties was about to be counted
-  pub counts : DecidesOn (view_of t) m a (view_of u) (refused refusal.Starved) → is_counting (turn_at l.turn.courses m.party) ≡ true
+  pub counts : DecidesOn (view_of t) m a (view_of u) (refused Refusal.Starved) → is_counting (turn_at l.turn.courses m.party) ≡ true
   counts y = legals.counts m l k t.stages t.opening v c.from n w known (same y) where
-    same : DecidesOn (view_of t) m a (view_of u) (refused refusal.Starved) → DecidesOn (view_of t) m (answer_by v n) (seen k ts t.opening v) (refused refusal.Starved)
+    same : DecidesOn (view_of t) m a (view_of u) (refused Refusal.Starved) → DecidesOn (view_of t) m (answer_by v n) (seen k ts t.opening v) (refused Refusal.Starved)
     same = rw (says, stages_then, c.value) (λ z. z)

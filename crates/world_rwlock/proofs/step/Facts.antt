@@ -1,82 +1,44 @@
 -- What one action does, as callers see it: its deed, that the deed is allowed, and why the call is decided. Here for the actions on the word and on the two lists.
-use Rattle.std.proofs.Common.{◌≡◌, ◌≢◌, ℕ, ◌+◌, ◌<◌, ◌≤◌, ◌==◌, ◌⊎◌, inl, inr, Bool, true, false, List, map, length, Option, Some, None, refl, arith, ap, sym, ◌∙◌, subst, get_or-set_same, get_or-set_other}
-use Rattle.std.proofs.Math.ListN.{set}
-use Rattle.std.proofs.Math.Decide.{ℕ_discrete}
+use Rattle.world_rwlock.proofs.Prelude.{◌≡◌, ◌≢◌, ℕ, ◌+◌, ◌<◌, ◌≤◌, ◌==◌, ◌⊎◌, inl, inr, Bool, true, false, List, map, length, Option, Some, None, refl, arith, ap, sym, ◌∙◌, subst, get_or-set_same, get_or-set_other, set, ℕ_discrete, map-set, entries_of, Answer, Value, Move, Refusal, Stage, number_of, Right, read, upgradable, how_many, inputs_of, Deed, nothing, changes, does, listed, turn_at, holder_of, starved_of, out_unlisted, holding_unlisted, out_free, Found, No, Next, Place, action_of, next_of, place_after, has_turn, in_no_writer, in_no_readers, fits_turn, OnNoWriter, OnNoReaders, RwLock, SameRoles, place_at, IsRwLock, Finds, Change, takes_turn, leaves_turn, starves, recovers, begins_to_read, stops_reading, becomes_upgradable, stops_upgradable, begins_to_wait, begins_to_write, upgrades_at_once, unmarks, downgrades_to_upgradable, puts, turn_after, readers_after, starved_after, value_after, IsAllowed, gives_back, entries_after, ListName, for_the_turn, for_no_readers, for_no_writer, World, list_of, told_in, entries_in, how_many_read, MayMeet, IsCause, answer_by, strays, course_of, sought_at, Share, passing, upgrading, waiting, writing, turn_as, share_of, turn_by, is_reading, verdict, seen, notifies, notifies_additionally, is_starved, is_counting}
 use Rattle.std.proofs.Math.Seq.{map-set_same}
-use Rattle.std.proofs.lemmas.List.{map-set}
-use Rattle.lock_event.specs.declared.event.Mark.TheVariants as mark
-use Rattle.world_base.specs.queue.Parties.{entries_of}
+use Rattle.lock_event.specs.declared.event.Mark.{Mark}
 use Rattle.world_base.proofs.of_queue.Told.{waits_at}
-use Rattle.world_base.specs.declared.moves.Answer.{Answer}
-use Rattle.world_base.specs.declared.moves.Answer.TheVariants as answer
-use Rattle.world_base.specs.declared.moves.Got.TheVariants.{Value}
-use Rattle.world_base.specs.declared.moves.Move.{Move}
-use Rattle.lock_program.specs.declared.refusal.Refusal.{Refusal}
-use Rattle.lock_program.specs.declared.refusal.Refusal.TheVariants as refusal
-use Rattle.world_base.specs.declared.standing.Stage.{Stage}
-use Rattle.lock_program.specs.Refusals.{number_of}
-use Rattle.world_base.specs.Rights.{Right, read, upgradable}
-use Rattle.world_base.specs.Rosters.{how_many}
-use Rattle.world_base.specs.Standings.{inputs_of}
-use Rattle.world_base.specs.Steps.{Deed, nothing, changes, does}
-use Rattle.world_mutex.specs.machine.Course.{listed}
-use Rattle.world_mutex.specs.machine.Mutex.{course_at as turn_at, holder_of, starved_of}
-use Rattle.world_mutex.proofs.of_machine.callers.Callers.{out_unlisted, holding_unlisted, out_free}
-use Rattle.lock_program.specs.declared.rwlock.Found.{Found}
-use Rattle.lock_program.specs.declared.rwlock.Found.TheVariants.{No}
-use Rattle.world_rwlock.specs.declared.program.led.Next.{Next}
-use Rattle.lock_program.specs.declared.rwlock.Place.{Place}
-use Rattle.lock_program.specs.declared.rwlock.Place.TheVariants as place
-use Rattle.world_rwlock.specs.program.Program.{action_of, next_of, place_after}
-use Rattle.world_rwlock.specs.machine.Roles.{has_turn, in_no_writer, in_no_readers, fits_turn}
-use Rattle.world_rwlock.specs.program.Parties.{OnNoWriter, OnNoReaders}
-use Rattle.world_rwlock.specs.machine.Machine.{RwLock, SameRoles, place_at}
-use Rattle.world_rwlock.specs.machine.Acts.{IsRwLock, Finds}
 use Rattle.world_rwlock.proofs.of_machine.stages.Leads.{steps_in_turn}
-use Rattle.world_rwlock.specs.Changes.{Change, takes_turn, leaves_turn, starves, recovers, begins_to_read, stops_reading, becomes_upgradable, stops_upgradable, begins_to_wait, begins_to_write, upgrades, upgrades_at_once, unmarks, downgrades, downgrades_to_upgradable, puts, turn_after, readers_after, starved_after, value_after, IsAllowed, gives_back, entries_after}
+use Rattle.world_rwlock.specs.Changes.{upgrades, downgrades}
 use Rattle.world_rwlock.specs.State as state
-use Rattle.world_rwlock.specs.State.{ListName, for_the_turn, for_no_readers, for_no_writer}
-use Rattle.world_rwlock.specs.State.{World, list_of, told_in, entries_in, how_many_read}
-use Rattle.world_rwlock.specs.Legal.{MayMeet, IsCause}
-use Rattle.world_rwlock.specs.Guarded.{answer_by}
-use Rattle.world_rwlock.specs.Stages.{strays, course_of, sought_at}
-use Rattle.world_rwlock.specs.View.{Share, passing, upgrading, waiting, writing, turn_as, share_of, turn_by, is_reading, verdict, seen}
 use Rattle.world_rwlock.proofs.step.Rows.{deed_at, verdict_then, is_after_ready, Reads, Shares, Finding, is_got, WaitsAt, JoinsAt, MeetsReaders, Refuses, Reason, Judged, Room, keeps_what_it_has, lacks_memory, KeepsUpgrade, RefusedAt, Row, row}
 use Rattle.world_rwlock.proofs.step.Owns as owns
 use Rattle.world_rwlock.proofs.laws.Sound.{none_marked}
 use Rattle.world_rwlock.proofs.table.Views as view
 use Rattle.world_rwlock.proofs.table.Views.{Fits}
-use Rattle.world_base.specs.Steps.{notifies, notifies_additionally}
-use Rattle.world_rwlock.specs.State.{is_starved}
-use Rattle.world_mutex.specs.machine.Course.{is_counting}
 
 -- a party waits in the list of the place where it stands
 abbrev pub WaitsIn : RwLock → ℕ → Place → Type 0
-WaitsIn k p place.AskNoWriter = told_in k.no_writer p ≡ Some mark.Waiting
-WaitsIn k p (place.AwaitNoReaders u) = told_in k.no_readers p ≡ Some mark.Waiting
-WaitsIn k p (place.WaitTurn q) = told_in k.turn.entries p ≡ Some mark.Waiting
+WaitsIn k p Place.AskNoWriter = told_in k.no_writer p ≡ Some Mark.Waiting
+WaitsIn k p (Place.AwaitNoReaders u) = told_in k.no_readers p ≡ Some Mark.Waiting
+WaitsIn k p (Place.WaitTurn q) = told_in k.turn.entries p ≡ Some Mark.Waiting
 WaitsIn k p _ = ⊥
 
 -- why a call is refused, but that it takes what there is a limit for; and that one that is refused as starved was about to be counted
 abbrev pub CauseAs : Move → World → World → Refusal → Type 0
-CauseAs m old new refusal.Memory = IsCause old m new refusal.Memory
-CauseAs m old new refusal.Starved = (how_many old.state.starved ≡ old.starved_limit) × (is_starved old m.party ≡ false) × (is_counting (turn_at old.behind.machine.lock.turn.courses m.party) ≡ true)
-CauseAs m old new refusal.Readers = old.readers_limit ≤ how_many_read old
+CauseAs m old new Refusal.Memory = IsCause old m new Refusal.Memory
+CauseAs m old new Refusal.Starved = (how_many old.state.starved ≡ old.starved_limit) × (is_starved old m.party ≡ false) × (is_counting (turn_at old.behind.machine.lock.turn.courses m.party) ≡ true)
+CauseAs m old new Refusal.Readers = old.readers_limit ≤ how_many_read old
 CauseAs m old new _ = ⊥
 
 -- a refusal for memory, or since too many are starved, does nothing else, and comes from a join, or from within a call on the turn; and whoever meets a limit takes what it is for
 abbrev pub Fitting : World → ℕ → Place → Place → Deed Change ListName → Refusal → Type 0
-Fitting old p x to d refusal.Memory = (d ≡ nothing) × (lacks_memory x ≡ true)
-Fitting old p x to d refusal.Readers = MayMeet (sought_at to) old p refusal.Readers
-Fitting old p x to d refusal.Starved = (d ≡ nothing) × (lacks_memory x ≡ true) × MayMeet (sought_at to) old p refusal.Starved
+Fitting old p x to d Refusal.Memory = (d ≡ nothing) × (lacks_memory x ≡ true)
+Fitting old p x to d Refusal.Readers = MayMeet (sought_at to) old p Refusal.Readers
+Fitting old p x to d Refusal.Starved = (d ≡ nothing) × (lacks_memory x ≡ true) × MayMeet (sought_at to) old p Refusal.Starved
 Fitting old p x to d _ = Unit {0}
 
 -- why a call is decided on an answer
 abbrev pub ReasonAs : Move → World → RwLock → World → ℕ → Place → Place → Deed Change ListName → Answer → Type 0
-ReasonAs m old k new v x to d answer.Pending = WaitsIn k m.party to
-ReasonAs m old k new v x to d (answer.Ready got) = (got ≡ Value v) × (is_got to ≡ true)
-ReasonAs m old k new v x to d (answer.Granted got) = (got ≡ Value v) × (is_got to ≡ true)
-ReasonAs m old k new v x to d (answer.Refused n) = (r : Refusal) × (n ≡ number_of r) × CauseAs m old new r × Fitting old m.party x to d r
+ReasonAs m old k new v x to d Answer.Pending = WaitsIn k m.party to
+ReasonAs m old k new v x to d (Answer.Ready got) = (got ≡ Value v) × (is_got to ≡ true)
+ReasonAs m old k new v x to d (Answer.Granted got) = (got ≡ Value v) × (is_got to ≡ true)
+ReasonAs m old k new v x to d (Answer.Refused n) = (r : Refusal) × (n ≡ number_of r) × CauseAs m old new r × Fitting old m.party x to d r
 ReasonAs m old k new v x to d _ = Unit {0}
 
 abbrev pub JudgedAs : Move → World → RwLock → World → ℕ → Place → Place → Deed Change ListName → Option Answer → Option Answer → Type 0
@@ -112,24 +74,24 @@ readers_by (changes stops_reading) p xs to h = map-set is_reading xs p to ∙ ap
 readers_by (changes stops_upgradable) p xs to h = map-set is_reading xs p to ∙ ap (set (map is_reading xs) p) h
 readers_by (changes upgrades) p xs to h = map-set is_reading xs p to ∙ ap (set (map is_reading xs) p) h
 readers_by (changes upgrades_at_once) p xs to h = map-set is_reading xs p to ∙ ap (set (map is_reading xs) p) h
-readers_by (changes takes_turn) p xs to h = map-set_same is_reading xs p to place.Out h
-readers_by (changes leaves_turn) p xs to h = map-set_same is_reading xs p to place.Out h
-readers_by (changes starves) p xs to h = map-set_same is_reading xs p to place.Out h
-readers_by (changes recovers) p xs to h = map-set_same is_reading xs p to place.Out h
-readers_by (changes begins_to_wait) p xs to h = map-set_same is_reading xs p to place.Out h
-readers_by (changes begins_to_write) p xs to h = map-set_same is_reading xs p to place.Out h
-readers_by (changes unmarks) p xs to h = map-set_same is_reading xs p to place.Out h
-readers_by (changes (puts u)) p xs to h = map-set_same is_reading xs p to place.Out h
-readers_by nothing p xs to h = map-set_same is_reading xs p to place.Out h
-readers_by (does list g) p xs to h = map-set_same is_reading xs p to place.Out h
+readers_by (changes takes_turn) p xs to h = map-set_same is_reading xs p to Place.Out h
+readers_by (changes leaves_turn) p xs to h = map-set_same is_reading xs p to Place.Out h
+readers_by (changes starves) p xs to h = map-set_same is_reading xs p to Place.Out h
+readers_by (changes recovers) p xs to h = map-set_same is_reading xs p to Place.Out h
+readers_by (changes begins_to_wait) p xs to h = map-set_same is_reading xs p to Place.Out h
+readers_by (changes begins_to_write) p xs to h = map-set_same is_reading xs p to Place.Out h
+readers_by (changes unmarks) p xs to h = map-set_same is_reading xs p to Place.Out h
+readers_by (changes (puts u)) p xs to h = map-set_same is_reading xs p to Place.Out h
+readers_by nothing p xs to h = map-set_same is_reading xs p to Place.Out h
+readers_by (does list g) p xs to h = map-set_same is_reading xs p to Place.Out h
 
 -- who has the turn for what, where one party goes on to a place of the same share
 pub turn_kept : (h : Option ℕ) (xs : List Place) (p : ℕ) (to : Place) → p < length xs → share_of to ≡ share_of (place_at xs p) → turn_by h (set xs p to) ≡ turn_by h xs
 turn_kept None xs p to known e = refl
 turn_kept (Some q) xs p to known e = elim (ℕ_discrete q p) as (λ _. turn_by (Some q) (set xs p to) ≡ turn_by (Some q) xs) [
   | yes same ↦ (let P : ℕ → Type 0 = λ j. turn_by (Some j) (set xs p to) ≡ turn_by (Some j) xs in
-      subst P (sym same) (ap (λ y. turn_as p (share_of y)) (get_or-set_same xs p to place.Out known) ∙ ap (turn_as p) e))
-  | no apart ↦ ap (λ y. turn_as q (share_of y)) (get_or-set_other xs p q to place.Out apart)
+      subst P (sym same) (ap (λ y. turn_as p (share_of y)) (get_or-set_same xs p to Place.Out known) ∙ ap (turn_as p) e))
+  | no apart ↦ ap (λ y. turn_as q (share_of y)) (get_or-set_other xs p q to Place.Out apart)
 ]
 
 pub record Known (m : Move) (l k : RwLock) (ss : List Stage) (v : ℕ) (x : Place) (f : Found) : Type 0 where
@@ -200,7 +162,7 @@ module _ (m : Move) (l k : RwLock) (ss : List Stage) (opening : ℕ) (ts : List 
     turned (inl h) =
         let holder = owns.holder_is l ss opening v c.laws c.fits p (has_here h.0) in
         let P : Option ℕ → Type 0 = λ o. turn_by o (set l.places p to) ≡ turn_after p (deed_at x f) (turn_by o l.places) in
-        subst P (sym holder) (ap (λ y. turn_as p (share_of y)) (get_or-set_same l.places p to place.Out there) ∙ (sym (h.1 p) ∙ ap (λ s. turn_after p (deed_at x f) (turn_as p s)) c.share))
+        subst P (sym holder) (ap (λ y. turn_as p (share_of y)) (get_or-set_same l.places p to Place.Out there) ∙ (sym (h.1 p) ∙ ap (λ s. turn_after p (deed_at x f) (turn_as p s)) c.share))
     turned (inr h) = turn_kept (holder_of l.turn) l.places p to there (h.1 ∙ c.share) ∙ sym (h.0 p (turn_by (holder_of l.turn) l.places))
 
     unlisted : in_no_writer x + in_no_readers x ≡ 0 → JoinsAt x (turn_at l.turn.courses p) → entries_in (seen l ss opening v) p ≡ 0
@@ -216,51 +178,51 @@ module _ (m : Move) (l k : RwLock) (ss : List Stage) (opening : ℕ) (ts : List 
     joins_apart (inr h) e = let turn = turn_here waiting h.1 h.2 in absurd (cc)
 
     cause : (q : Refusal) → Refuses memory l x f q → CauseAs m (seen l ss opening v) (seen k ts opening v) q
-    cause refusal.Memory h = (h.0, unlisted h.1 (h.3 (turn_at l.turn.courses p) fit), by_list, joins_apart (h.3 (turn_at l.turn.courses p) fit)) where
+    cause Refusal.Memory h = (h.0, unlisted h.1 (h.3 (turn_at l.turn.courses p) fit), by_list, joins_apart (h.3 (turn_at l.turn.courses p) fit)) where
       by_list : (list : ListName) → list_of (seen k ts opening v) list ≡ list_of (seen l ss opening v) list
       by_list for_the_turn = ap (λ t. t.entries) still
       by_list for_no_readers = r.no_readers p l.no_readers k.no_readers c.no_readers ∙ ap (λ (d : Deed Change ListName). entries_after p d for_no_readers l.no_readers) h.2
       by_list for_no_writer = r.no_writer p l.no_writer k.no_writer c.no_writer ∙ ap (λ (d : Deed Change ListName). entries_after p d for_no_writer l.no_writer) h.2
-    cause refusal.Readers h = omega (arith, view.how_many-read l.places, h.0)
-    cause refusal.Starved h = absurd h
-    cause refusal.Permits h = absurd h
-    cause refusal.Generations h = absurd h
-    cause refusal.Finished h = absurd h
+    cause Refusal.Readers h = omega (arith, view.how_many-read l.places, h.0)
+    cause Refusal.Starved h = absurd h
+    cause Refusal.Permits h = absurd h
+    cause Refusal.Generations h = absurd h
+    cause Refusal.Finished h = absurd h
 
     waits_here : (y : Place) (g : Found) → OnNoWriter p (action_of y) g l.no_writer k.no_writer → OnNoReaders p (action_of y) g l.no_readers k.no_readers → in_no_writer y ≡ entries_of p l.no_writer → in_no_readers y ≡ entries_of p l.no_readers → WaitsAt y g → WaitsIn k p (place_after (next_of y g))
-    waits_here place.AskNoWriter g ow or ew er h =
-        let ow2 : OnNoWriter p (action_of place.AskNoWriter) No l.no_writer k.no_writer = rw h at ow in
-        let P : Found → Type 0 = λ g. WaitsIn k p (place_after (next_of place.AskNoWriter g)) in
+    waits_here Place.AskNoWriter g ow or ew er h =
+        let ow2 : OnNoWriter p (action_of Place.AskNoWriter) No l.no_writer k.no_writer = rw h at ow in
+        let P : Found → Type 0 = λ g. WaitsIn k p (place_after (next_of Place.AskNoWriter g)) in
         subst P (sym h) (rw (ow2.1) (waits_at p l.no_writer (sym ew) ow2.0))
-    waits_here (place.AskNoReaders u) g ow or ew er h =
-        let or2 : OnNoReaders p (action_of (place.AskNoReaders u)) No l.no_readers k.no_readers = rw h at or in
-        let P : Found → Type 0 = λ g. WaitsIn k p (place_after (next_of (place.AskNoReaders u) g)) in
+    waits_here (Place.AskNoReaders u) g ow or ew er h =
+        let or2 : OnNoReaders p (action_of (Place.AskNoReaders u)) No l.no_readers k.no_readers = rw h at or in
+        let P : Found → Type 0 = λ g. WaitsIn k p (place_after (next_of (Place.AskNoReaders u) g)) in
         subst P (sym h) (rw (or2.1) (waits_at p l.no_readers (sym er) or2.0))
     waits_here _ g ow or ew er h = absurd h
 
-    meets_readers : (o : Option Right) → MeetsReaders l x o → MayMeet o (seen l ss opening v) p refusal.Readers
+    meets_readers : (o : Option Right) → MeetsReaders l x o → MayMeet o (seen l ss opening v) p Refusal.Readers
     meets_readers (Some read) h = none_marked l h
     meets_readers (Some upgradable) h = owns.has_as (turn_by (holder_of l.turn) l.places) p (share_of x) (turn_here (share_of x) h refl)
     meets_readers _ h = absurd h
 
     fitting : (q : Refusal) → Refuses memory l x f q → Fitting (seen l ss opening v) p x to (deed_at x f) q
-    fitting refusal.Memory h = (h.2, h.4)
-    fitting refusal.Readers h = meets_readers (sought_at to) h.1
-    fitting refusal.Starved h = absurd h
-    fitting refusal.Permits h = tt
-    fitting refusal.Generations h = tt
-    fitting refusal.Finished h = tt
+    fitting Refusal.Memory h = (h.2, h.4)
+    fitting Refusal.Readers h = meets_readers (sought_at to) h.1
+    fitting Refusal.Starved h = absurd h
+    fitting Refusal.Permits h = tt
+    fitting Refusal.Generations h = tt
+    fitting Refusal.Finished h = tt
 
     reasons : (b : Answer) → Reason memory l v x f b → ReasonAs m (seen l ss opening v) k (seen k ts opening v) v x to (deed_at x f) b
-    reasons answer.Pending h = waits_here x f c.no_writer c.no_readers (c.same.standing_w ∙ sym (c.laws.owners_no_writer p)) (c.same.standing_r ∙ sym (c.laws.owners_no_readers p)) h
-    reasons (answer.Ready got) h = h
-    reasons (answer.Granted got) h = h
-    reasons (answer.Refused n) h = (h.0, h.1, cause h.0 h.2, fitting h.0 h.2)
-    reasons answer.Stepped h = tt
-    reasons answer.None h = tt
-    reasons answer.GivenBack h = tt
-    reasons answer.Waiting h = tt
-    reasons answer.NotPossible h = tt
+    reasons Answer.Pending h = waits_here x f c.no_writer c.no_readers (c.same.standing_w ∙ sym (c.laws.owners_no_writer p)) (c.same.standing_r ∙ sym (c.laws.owners_no_readers p)) h
+    reasons (Answer.Ready got) h = h
+    reasons (Answer.Granted got) h = h
+    reasons (Answer.Refused n) h = (h.0, h.1, cause h.0 h.2, fitting h.0 h.2)
+    reasons Answer.Stepped h = tt
+    reasons Answer.None h = tt
+    reasons Answer.GivenBack h = tt
+    reasons Answer.Waiting h = tt
+    reasons Answer.NotPossible h = tt
 
     judges : (was now : Option Answer) → Judged memory l v x f was now → JudgedAs m (seen l ss opening v) k (seen k ts opening v) v x to (deed_at x f) was now
     judges (Some b) o h = h

@@ -1,75 +1,22 @@
 -- Each move is answered at once where it should be, as callers see it.
-use Rattle.std.proofs.Common.{◌≡◌, ℕ, ◌<◌, ◌==◌, ◌&&◌, ◌↔◌, if◌then◌else◌, Bool, true, false, List, length, nat_lt, Option, Some, None, refl, arith, ap, sym, ◌∙◌, subst, get_or-set_same}
+use Rattle.world_rwlock.proofs.Prelude.{◌≡◌, ℕ, ◌<◌, ◌==◌, ◌&&◌, ◌↔◌, if◌then◌else◌, Bool, true, false, List, length, nat_lt, Option, Some, None, refl, arith, ap, sym, ◌∙◌, subst, get_or-set_same, set, nat_tests, false≢true, eqb-true, eq-eqb, ltb-true, lt-ltb, Answer, Call, Value, Inputs, Move, What, Begin, Rest, Outside, Forgotten, Within, Right, read, upgradable, write, how_many, Standing, outside, inside, inputs_of, call_in, some_eq, some_none, TurnCourse, listed, turn_at, holder_of, holders, starved, waiting_listed, Found, Place, Purpose, action_of, next_of, place_after, only_turns, fits_turn, SameRoles, place_at, Finds, readers, marked, OnTurn, World, standing_of, sought_by, is_upgrader, how_many_read, is_marked, is_nobody, is_turn_free, entries_in, knows, call_of, may_read, granted_if, is_try_for_turn, is_first_poll, AnswersAtOnce, stage_at, stage_after, stands_as, decided_after, decision_seen, sought_at, Table, Guarded, answer_by, Share, passing, upgrading, waiting, writing, turn_as, share_of, turn_by, is_reading, verdict, standing_at, view_of, Entry, entries_of, AsksIn, TellsOnRelease, is_drop, is_outside, is_on, zero, suc, [], ◌∷◌, notified, is_for_turn, is_starved, HasTurn, ◌⊎◌, inl, inr, OnNoWriter, OnNoReaders, LeavesLists}
 use Rattle.std.specs.Prelude.{not}
-use Rattle.std.proofs.Math.ListN.{set}
-use Rattle.std.proofs.lemmas.Bool.Decides.{nat_tests}
-use Rattle.std.proofs.lemmas.Bool.{false≢true}
-use Rattle.std.proofs.lemmas.Bool.{eqb-true, eq-eqb, ltb-true, lt-ltb}
-use Rattle.world_base.specs.declared.moves.Answer.{Answer}
-use Rattle.world_base.specs.declared.moves.Answer.TheVariants as answer
-use Rattle.world_base.specs.declared.moves.Call.TheVariants as call
-use Rattle.world_base.specs.declared.moves.Got.TheVariants.{Value}
-use Rattle.world_base.specs.declared.moves.Inputs.{Inputs}
-use Rattle.world_base.specs.declared.moves.Move.{Move}
-use Rattle.world_base.specs.declared.moves.What.{What}
-use Rattle.world_base.specs.declared.moves.What.TheVariants.{Begin}
-use Rattle.world_base.specs.declared.standing.Rest.{Rest}
-use Rattle.world_base.specs.declared.standing.Rest.TheVariants as rest
-use Rattle.world_base.specs.declared.standing.Stage.TheVariants.{Outside, Forgotten}
-use Rattle.world_base.specs.declared.standing.Within.{Within}
-use Rattle.world_base.specs.Rights.{Right, read, upgradable, write}
-use Rattle.world_base.specs.Rosters.{how_many}
-use Rattle.world_base.specs.Standings.{Standing, outside, inside, inputs_of, decision, call_in}
-use Rattle.world_base.proofs.Equations.{some_eq, some_none}
-use Rattle.world_mutex.specs.machine.Course.{Course as TurnCourse, listed}
-use Rattle.world_mutex.specs.machine.Mutex.{course_at as turn_at, holder_of, holders, starved}
-use Rattle.world_mutex.proofs.of_machine.callers.Callers.{waiting_listed}
+use Rattle.world_base.specs.Standings.{decision}
 use Rattle.world_mutex.proofs.of_machine.callers.Holders as sees
-use Rattle.lock_program.specs.declared.rwlock.Found.{Found}
-use Rattle.lock_program.specs.declared.rwlock.Place.{Place}
-use Rattle.lock_program.specs.declared.rwlock.Place.TheVariants as place
-use Rattle.lock_program.specs.declared.rwlock.Purpose.{Purpose}
-use Rattle.lock_program.specs.declared.rwlock.Purpose.TheVariants as purpose
-use Rattle.world_rwlock.specs.program.Program.{action_of, next_of, place_after}
-use Rattle.world_rwlock.specs.machine.Roles.{only_turns, fits_turn}
-use Rattle.world_rwlock.specs.machine.Machine.{SameRoles, place_at}
-use Rattle.world_rwlock.specs.machine.Acts.{Finds, readers, marked}
-use Rattle.world_rwlock.specs.program.Turns.{OnTurn}
 use Rattle.world_rwlock.proofs.of_machine.stages.Leads.{Led, led, steps_in_turn}
 use Rattle.world_rwlock.proofs.of_machine.laws.Places.{share as share_in}
 use Rattle.world_rwlock.specs.State as state
-use Rattle.world_rwlock.specs.State.{Turn, World, standing_of, sought_by, is_upgrader, how_many_read, is_marked, is_nobody, is_turn_free, entries_in}
-use Rattle.world_rwlock.specs.Legal.{knows, call_of, may_read, granted_if, is_try_for_turn, is_first_poll, AnswersAtOnce}
-use Rattle.world_base.specs.table.Stages.{stage_at, stage_after, stands_as}
-use Rattle.world_base.proofs.of_table.Calls.{decided_after, decision_seen}
-use Rattle.world_rwlock.specs.Stages.{sought_at}
-use Rattle.world_base.specs.table.Tables.{Table}
-use Rattle.world_rwlock.specs.Guarded.{Guarded, answer_by}
-use Rattle.world_rwlock.specs.View.{Share, passing, upgrading, waiting, writing, turn_as, share_of, turn_by, is_reading, verdict, standing_at, view_of}
+use Rattle.world_rwlock.specs.State.{Turn}
 use Rattle.world_rwlock.proofs.step.Rows.{verdict_then, turn_row}
 use Rattle.world_rwlock.proofs.laws.Sound.{none_marked, nobody_holds, bit_seen}
 use Rattle.world_rwlock.proofs.step.Acting.{Acting, fit, says}
 use Rattle.world_rwlock.proofs.step.Idle.{Laws, stood, sought_is}
 use Rattle.world_rwlock.proofs.step.AtOnce.{waits_for_turn, is_try_turn, Lists, Firsts, firsts, try_reads, first_reads, first_readies, try_upgrades, try_adds, added, try_writes, try_written, turn_tries, try_open, turn_enters}
 use Rattle.world_rwlock.proofs.table.Views as view
-use Rattle.lock_event.specs.declared.event.Entry.{Entry}
-use Rattle.world_base.specs.queue.Parties.{entries_of}
-use Rattle.world_rwlock.specs.Legal.{AsksIn}
 use Rattle.world_rwlock.proofs.step.Asked as asked
 use Rattle.world_rwlock.proofs.step.Refusing as refusing
 use Rattle.world_rwlock.proofs.step.Owed.{owes_outside}
 use Rattle.world_rwlock.proofs.step.Owing as owing
-use Rattle.world_rwlock.specs.Legal.{TellsOnRelease}
-use Rattle.world_base.specs.Frame.{is_drop}
-use Rattle.world_base.specs.Standings.{is_outside}
-use Rattle.world_base.specs.Rosters.{is_on}
-use Rattle.std.proofs.Common.{zero, suc, [], ◌∷◌}
-use Rattle.lock_event.specs.Lists.{notified}
-use Rattle.world_rwlock.specs.Legal.{is_for_turn}
-use Rattle.world_rwlock.specs.State.{is_starved, HasTurn}
-use Rattle.std.proofs.Common.{◌⊎◌, inl, inr}
-use Rattle.world_rwlock.specs.program.Parties.{OnNoWriter, OnNoReaders}
-use Rattle.world_rwlock.specs.Legal.{LeavesLists}
 
 -- ---- tests
 
@@ -157,7 +104,7 @@ module _ (t u : Table Guarded) (m : Move) (a : Answer) where
 
   -- where a party that acted stands then
   lands : (x : Place) (y : Acted t u m a x) → place_at u.machine.lock.places p ≡ place_after (next_of x y.found)
-  lands x y = ap (λ xs. place_at xs p) y.places ∙ get_or-set_same t.machine.lock.places p (place_after (next_of x y.found)) place.Out y.known
+  lands x y = ap (λ xs. place_at xs p) y.places ∙ get_or-set_same t.machine.lock.places p (place_after (next_of x y.found)) Place.Out y.known
 
   -- whoever has the turn finds no mark but its own
   unmarked : (x : Place) → Acted t u m a x → only_turns x ≡ 1 → marked t.machine.lock ≡ 0
@@ -174,71 +121,71 @@ module _ (t u : Table Guarded) (m : Move) (a : Answer) where
 
   -- ---- each action that is answered at once
 
-  at_try_read : Acted t u m a place.TryRead → a ≡ granted_if (may_read old) old
+  at_try_read : Acted t u m a Place.TryRead → a ≡ granted_if (may_read old) old
   at_try_read y = y.answer ∙ try_reads memory t.machine.lock t.machine.value y.found y.finds (may_read old) enters_is (enters_says y.laws)
 
-  at_try_upgrade : Acted t u m a place.TryUpgrade → a ≡ granted_if (how_many_read old == 1) old
-  at_try_upgrade y = y.answer ∙ try_upgrades memory t.machine.lock t.machine.value y.found y.finds (unmarked place.TryUpgrade y refl) (how_many_read old == 1) (λ e. eq-eqb (how_many_read old) 1 (reading ∙ e)) (λ h. sym reading ∙ eqb-true (how_many_read old) 1 h)
+  at_try_upgrade : Acted t u m a Place.TryUpgrade → a ≡ granted_if (how_many_read old == 1) old
+  at_try_upgrade y = y.answer ∙ try_upgrades memory t.machine.lock t.machine.value y.found y.finds (unmarked Place.TryUpgrade y refl) (how_many_read old == 1) (λ e. eq-eqb (how_many_read old) 1 (reading ∙ e)) (λ h. sym reading ∙ eqb-true (how_many_read old) 1 h)
 
   abbrev TakesTurn : Type 0
   TakesTurn = (new.state.turn ≡ state.passes p) ↔ (is_turn_free old.state ≡ true)
 
-  at_try_turn : (q : Purpose) → Acted t u m a (place.TryTurn q) → (a ≡ (if is_turn_free old.state then answer.Stepped else answer.None)) × TakesTurn
+  at_try_turn : (q : Purpose) → Acted t u m a (Place.TryTurn q) → (a ≡ (if is_turn_free old.state then Answer.Stepped else Answer.None)) × TakesTurn
   at_try_turn q y =
       let r = turn_tries memory starving p t.machine.value t.machine.lock.turn u.machine.lock.turn q y.found y.turn y.leads (is_turn_free old.state) free_is free_says in
-      (y.answer ∙ r.0, ((λ h. r.1.0 (holds_then h)), (λ h. passes_then (place.TryTurn q) y refl (r.1.1 h))))
+      (y.answer ∙ r.0, ((λ h. r.1.0 (holds_then h)), (λ h. passes_then (Place.TryTurn q) y refl (r.1.1 h))))
 
-  at_enter_turn : (q : Purpose) → Acted t u m a (place.EnterTurn q) → TakesTurn
+  at_enter_turn : (q : Purpose) → Acted t u m a (Place.EnterTurn q) → TakesTurn
   at_enter_turn q y =
       let r = turn_enters memory starving p t.machine.lock.turn u.machine.lock.turn y.found y.turn in (
         (λ h. let b = r.0 (holds_then h) in free_is b.0 b.1),
-        (λ h. passes_then (place.EnterTurn q) y refl (r.1 (free_says h))),
+        (λ h. passes_then (Place.EnterTurn q) y refl (r.1 (free_says h))),
       )
 
-  at_enter_read : Acted t u m a (place.EnterRead false) → (state.reads new p ≡ true) ↔ (may_read old ≡ true)
+  at_enter_read : Acted t u m a (Place.EnterRead false) → (state.reads new p ≡ true) ↔ (may_read old ≡ true)
   at_enter_read y =
       let r = first_reads memory t.machine.lock y.found y.finds in
-      let now : state.reads new p ≡ is_reading (place_after (next_of (place.EnterRead false) y.found)) = view.reads_at u.machine.lock.places p ∙ ap is_reading (lands (place.EnterRead false) y) in (
+      let now : state.reads new p ≡ is_reading (place_after (next_of (Place.EnterRead false) y.found)) = view.reads_at u.machine.lock.places p ∙ ap is_reading (lands (Place.EnterRead false) y) in (
         (λ h. let b = r.0 (sym now ∙ h) in enters_is b.0 b.1),
         (λ h. let b = enters_says y.laws h in now ∙ r.1 b.0 b.1),
       )
 
-  at_enter_ready : Acted t u m a (place.EnterRead false) → may_read old ≡ true → a ≡ answer.Ready (Value old.state.value)
+  at_enter_ready : Acted t u m a (Place.EnterRead false) → may_read old ≡ true → a ≡ Answer.Ready (Value old.state.value)
   at_enter_ready y h = let b = enters_says y.laws h in y.answer ∙ first_readies memory t.machine.lock t.machine.value y.found y.finds b.0 b.1
 
-  at_added : Acted t u m a (place.Add true) → decision a (standing_of new p) ≡ Some (granted_if (nat_lt (how_many_read old) old.readers_limit) old)
+  at_added : Acted t u m a (Place.Add true) → decision a (standing_of new p) ≡ Some (granted_if (nat_lt (how_many_read old) old.readers_limit) old)
   at_added y =
       y.decides ∙ added memory t.machine.lock t.machine.value (turn_at u.machine.lock.turn.courses p) y.found y.finds (nat_lt (how_many_read old) t.machine.lock.limit)
       (λ h. lt-ltb (how_many_read old) t.machine.lock.limit (omega (arith, reading, h)))
       (λ h. omega (arith, reading, ltb-true (how_many_read old) t.machine.lock.limit h))
 
-  at_try_written : Acted t u m a place.TryWrite → decision a (standing_of new p) ≡ Some (granted_if (how_many_read old == 0) old)
+  at_try_written : Acted t u m a Place.TryWrite → decision a (standing_of new p) ≡ Some (granted_if (how_many_read old == 0) old)
   at_try_written y =
-      y.decides ∙ try_written memory t.machine.lock t.machine.value (turn_at u.machine.lock.turn.courses p) y.found (unmarked place.TryWrite y refl) y.finds (how_many_read old == 0)
+      y.decides ∙ try_written memory t.machine.lock t.machine.value (turn_at u.machine.lock.turn.courses p) y.found (unmarked Place.TryWrite y refl) y.finds (how_many_read old == 0)
       (λ h. eq-eqb (how_many_read old) 0 (reading ∙ h))
       (λ h. sym reading ∙ eqb-true (how_many_read old) 0 h)
 
-  at_add : Acted t u m a (place.Add true) → (a ≡ answer.Granted (Value old.state.value)) ↔ (how_many_read old < old.readers_limit)
+  at_add : Acted t u m a (Place.Add true) → (a ≡ Answer.Granted (Value old.state.value)) ↔ (how_many_read old < old.readers_limit)
   at_add y =
       let r = try_adds memory t.machine.lock t.machine.value y.found y.finds in (
         (λ h. omega (arith, reading, r.0 (sym y.answer ∙ h))),
         (λ h. y.answer ∙ r.1 (omega (arith, reading, h))),
       )
 
-  at_try_write : Acted t u m a place.TryWrite → (a ≡ answer.Granted (Value old.state.value)) ↔ (how_many_read old ≡ 0)
+  at_try_write : Acted t u m a Place.TryWrite → (a ≡ Answer.Granted (Value old.state.value)) ↔ (how_many_read old ≡ 0)
   at_try_write y =
-      let r = try_writes memory t.machine.lock t.machine.value y.found (unmarked place.TryWrite y refl) y.finds in (
+      let r = try_writes memory t.machine.lock t.machine.value y.found (unmarked Place.TryWrite y refl) y.finds in (
         (λ h. reading ∙ r.0 (sym y.answer ∙ h)),
         (λ h. y.answer ∙ r.1 (sym reading ∙ h)),
       )
 
-  tries_turn : (x : Place) → is_try_turn x ≡ true → Acted t u m a x → (a ≡ (if is_turn_free old.state then answer.Stepped else answer.None)) × TakesTurn
-  tries_turn (place.TryTurn q) h y = at_try_turn q y
+  tries_turn : (x : Place) → is_try_turn x ≡ true → Acted t u m a x → (a ≡ (if is_turn_free old.state then Answer.Stepped else Answer.None)) × TakesTurn
+  tries_turn (Place.TryTurn q) h y = at_try_turn q y
   tries_turn _ h y = absurd (cc)
 
   goes_on : (x : Place) → is_try_turn x ≡ true → Acted t u m a x → is_turn_free old.state ≡ true → decision a (standing_of new p) ≡ None
-  goes_on (place.TryTurn q) h y free =
-      let stepped : a ≡ answer.Stepped = (at_try_turn q y).0 ∙ ap (λ b. if b then answer.Stepped else answer.None) free in
+  goes_on (Place.TryTurn q) h y free =
+      let stepped : a ≡ Answer.Stepped = (at_try_turn q y).0 ∙ ap (λ b. if b then Answer.Stepped else Answer.None) free in
       y.decides ∙ try_open t.machine.value (turn_at u.machine.lock.turn.courses p) q y.found y.leads (sym y.answer ∙ stepped)
   goes_on _ h y free = absurd (cc h)
 
@@ -248,7 +195,7 @@ Begins old m from = Firsts (standing_of old m.party) (sought_by old m.party) m.w
 
 -- what a poll asks in a list of the party that stands there
 abbrev Asking : (World → List (Entry ℕ)) → World → Move → Answer → World → Type 0
-Asking list old m a new = (i : Inputs) → m.what ≡ Begin call.Poll i → standing_of old m.party ≡ outside rest.Pending → 0 < entries_of m.party (list old) → AsksIn m.party (list old) a (list new)
+Asking list old m a new = (i : Inputs) → m.what ≡ Begin Call.Poll i → standing_of old m.party ≡ outside Rest.Pending → 0 < entries_of m.party (list old) → AsksIn m.party (list old) a (list new)
 
 -- what an action at this place does in the lists and to the turn
 record InLists (t u : Table Guarded) (m : Move) (from : Place) : Type 0 where
@@ -258,16 +205,16 @@ record InLists (t u : Table Guarded) (m : Move) (from : Place) : Type 0 where
   pub no_readers : OnNoReaders m.party (action_of from) found t.machine.lock.no_readers u.machine.lock.no_readers
 
 -- a look does nothing there
-looks_at : (t u : Table Guarded) (m : Move) (x : Place) → (x ≡ place.TryRead) ⊎ ((x ≡ place.TryUpgrade) ⊎ (x ≡ place.EnterRead false)) → InLists t u m x → LeavesLists (view_of t) (view_of u)
-looks_at t u m place.TryRead at k = record { turn_list = ap (λ l. l.entries) k.turn; no_writer = k.no_writer; no_readers = k.no_readers }
-looks_at t u m place.TryUpgrade at k = record { turn_list = ap (λ l. l.entries) k.turn; no_writer = k.no_writer; no_readers = k.no_readers }
-looks_at t u m (place.EnterRead told) at k = record { turn_list = ap (λ l. l.entries) k.turn; no_writer = k.no_writer; no_readers = k.no_readers }
+looks_at : (t u : Table Guarded) (m : Move) (x : Place) → (x ≡ Place.TryRead) ⊎ ((x ≡ Place.TryUpgrade) ⊎ (x ≡ Place.EnterRead false)) → InLists t u m x → LeavesLists (view_of t) (view_of u)
+looks_at t u m Place.TryRead at k = record { turn_list = ap (λ l. l.entries) k.turn; no_writer = k.no_writer; no_readers = k.no_readers }
+looks_at t u m Place.TryUpgrade at k = record { turn_list = ap (λ l. l.entries) k.turn; no_writer = k.no_writer; no_readers = k.no_readers }
+looks_at t u m (Place.EnterRead told) at k = record { turn_list = ap (λ l. l.entries) k.turn; no_writer = k.no_writer; no_readers = k.no_readers }
 looks_at t u m x at k = absurd (elim at as (λ _. ⊥) [ inl e ↦ cc e | inr other ↦ elim other as (λ _. ⊥) [ inl e ↦ cc e | inr e ↦ cc e ] ])
 
 -- what a call does that is to be refused
 record Refuses (old : World) (m : Move) (a : Answer) (new : World) : Type 0 where
-  pub for_turn : (within : Within) (r : ℕ) → standing_of old m.party ≡ inside within (Some (answer.Refused r)) → is_for_turn (sought_by old m.party) ≡ true → (HasTurn old.state.turn m.party → ⊥) → entries_of m.party old.turn_list ≡ 0 → is_starved old m.party ≡ false → (a ≡ answer.Refused r) × (new.turn_list ≡ notified old.turn_list 1)
-  pub to_read : (within : Within) (r : ℕ) → standing_of old m.party ≡ inside within (Some (answer.Refused r)) → sought_by old m.party ≡ Some read → entries_of m.party old.no_writer ≡ 0 → (a ≡ answer.Refused r) × (new.no_writer ≡ notified old.no_writer 1)
+  pub for_turn : (within : Within) (r : ℕ) → standing_of old m.party ≡ inside within (Some (Answer.Refused r)) → is_for_turn (sought_by old m.party) ≡ true → (HasTurn old.state.turn m.party → ⊥) → entries_of m.party old.turn_list ≡ 0 → is_starved old m.party ≡ false → (a ≡ Answer.Refused r) × (new.turn_list ≡ notified old.turn_list 1)
+  pub to_read : (within : Within) (r : ℕ) → standing_of old m.party ≡ inside within (Some (Answer.Refused r)) → sought_by old m.party ≡ Some read → entries_of m.party old.no_writer ≡ 0 → (a ≡ Answer.Refused r) × (new.no_writer ≡ notified old.no_writer 1)
 
 acted_at_once : (t u : Table Guarded) (m : Move) (a : Answer) (from : Place) → Acted t u m a from → Begins (view_of t) m from → Asking (λ w. w.turn_list) (view_of t) m a (view_of u) → Asking (λ w. w.no_writer) (view_of t) m a (view_of u) → InLists t u m from → Refuses (view_of t) m a (view_of u) → TellsOnRelease (view_of t) m a (view_of u) → AnswersAtOnce (view_of t) m a (view_of u)
 acted_at_once t u m a from y b for_turn to_read l refuses gives_up =
@@ -283,8 +230,8 @@ acted_at_once t u m a from y b for_turn to_read l refuses gives_up =
       try_write_decided = λ e h. at_try_written t u m a (subst P (b.try_write e.0 e.1 e.2 e.4) y);
       first_read = λ e. at_enter_read t u m a (subst P (b.first_read e) y);
       first_read_ready = λ e. at_enter_ready t u m a (subst P (b.first_read e) y);
-      first_upgradable = λ e. at_enter_turn t u m a purpose.UpgradableRead (subst P (b.first_upgradable e) y);
-      first_write = λ e n. at_enter_turn t u m a purpose.Write (subst P (b.first_write e n) y);
+      first_upgradable = λ e. at_enter_turn t u m a Purpose.UpgradableRead (subst P (b.first_upgradable e) y);
+      first_write = λ e n. at_enter_turn t u m a Purpose.Write (subst P (b.first_write e n) y);
       try_read_looks = λ i e h. looks_at t u m from (inl (b.try_read i e)) l;
       try_upgrade_looks = λ i e h. looks_at t u m from (inr (inl (b.try_upgrade i e))) l;
       first_read_looks = λ e. looks_at t u m from (inr (inr (b.first_read e))) l;
@@ -298,7 +245,7 @@ acted_at_once t u m a from y b for_turn to_read l refuses gives_up =
 -- ---- where a move acts
 
 turn_waits : (x : Place) (t : TurnCourse) → fits_turn x t ≡ true → listed t ≡ 0 → waits_for_turn x ≡ false
-turn_waits (place.WaitTurn q) t h e = absurd (omega (arith, waiting_listed t h, e))
+turn_waits (Place.WaitTurn q) t h e = absurd (omega (arith, waiting_listed t h, e))
 turn_waits _ t h e = refl
 
 lists : (t : Table Guarded) (p : ℕ) → Laws t → Lists (entries_in (view_of t) p) (is_upgrader (view_of t) p) (place_at t.machine.lock.places p)
@@ -328,10 +275,10 @@ module _ (t u : Table Guarded) (m : Move) (a : Answer) (w : Within) (c : Acting 
   decided =
       let y = turn_at u.machine.lock.turn.courses m.party in
       let there : m.party < length t.machine.lock.places = omega (arith, c.old.fits.as_many, c.inside) in
-      let lands : place_at u.machine.lock.places m.party ≡ place_after c.next = ap (λ xs. place_at xs m.party) c.acts.places ∙ get_or-set_same t.machine.lock.places m.party (place_after c.next) place.Out there in
-      let stages : stage_at u.stages m.party ≡ stage_after rest.Holding w a = ap (λ ss. stage_at ss m.party) c.stages ∙ get_or-set_same t.stages m.party (stage_after rest.Holding w a) Forgotten c.inside in
+      let lands : place_at u.machine.lock.places m.party ≡ place_after c.next = ap (λ xs. place_at xs m.party) c.acts.places ∙ get_or-set_same t.machine.lock.places m.party (place_after c.next) Place.Out there in
+      let stages : stage_at u.stages m.party ≡ stage_after Rest.Holding w a = ap (λ ss. stage_at ss m.party) c.stages ∙ get_or-set_same t.stages m.party (stage_after Rest.Holding w a) Forgotten c.inside in
       let d = verdict u.machine.value (place_at u.machine.lock.places m.party) y in
-      let seen : decision a (standing_of (view_of u) m.party) ≡ decided_after a d = ap (decision a) (stood u m.party c.new ∙ ap (stands_as d) stages) ∙ decision_seen rest.Holding w a d in
+      let seen : decision a (standing_of (view_of u) m.party) ≡ decided_after a d = ap (decision a) (stood u m.party c.new ∙ ap (stands_as d) stages) ∙ decision_seen Rest.Holding w a d in
       seen ∙ (ap (λ b. decided_after b d) (says t u m a w c)
       ∙ ap (decided_after (answer_by t.machine.value (next_of c.from c.acts.found))) (ap (λ n. verdict n (place_at u.machine.lock.places m.party) y) c.value ∙ ap (λ z. verdict t.machine.value z y) (lands ∙ ap place_after c.acts.next_is)))
 
@@ -357,8 +304,8 @@ module _ (t u : Table Guarded) (m : Move) (a : Answer) (w : Within) (c : Acting 
 -- ---- a poll after ready, and a put
 
 abbrev pub holds_on : What → Bool
-holds_on (Begin call.Poll i) = true
-holds_on (Begin (call.Put v) i) = true
+holds_on (Begin Call.Poll i) = true
+holds_on (Begin (Call.Put v) i) = true
 holds_on _ = false
 
 -- a party that stands where no first poll begins doesn't begin one
@@ -366,78 +313,78 @@ never_first : (r : Right) (s at : Standing) (o : Option Right) (what : What) (n 
 never_first r s at o what n e not_it h = let yes : is_first_poll r at o what n ≡ true = sym (ap (λ s. is_first_poll r s o what n) e) ∙ h in cc
 
 apart_from_tries : (what : What) → holds_on what ≡ true → is_try_for_turn what ≡ true → ⊥
-apart_from_tries (Begin call.Poll i) h e = cc
-apart_from_tries (Begin (call.Put v) i) h e = cc
-apart_from_tries (Begin call.TryUpgradableRead i) h e = cc
-apart_from_tries (Begin call.TryWrite i) h e = cc
+apart_from_tries (Begin Call.Poll i) h e = cc
+apart_from_tries (Begin (Call.Put v) i) h e = cc
+apart_from_tries (Begin Call.TryUpgradableRead i) h e = cc
+apart_from_tries (Begin Call.TryWrite i) h e = cc
 apart_from_tries _ h e = cc
 
 apart_from_drops : (what : What) → holds_on what ≡ true → is_drop what ≡ true → ⊥
-apart_from_drops (Begin call.Poll i) h e = cc e
-apart_from_drops (Begin (call.Put v) i) h e = cc e
+apart_from_drops (Begin Call.Poll i) h e = cc e
+apart_from_drops (Begin (Call.Put v) i) h e = cc e
 apart_from_drops _ h e = cc h
 
-apart_from_read : (what : What) (i : Inputs) → holds_on what ≡ true → what ≡ Begin call.TryRead i → ⊥
-apart_from_read what i h e = let no : holds_on (Begin call.TryRead i) ≡ true = sym (ap holds_on e) ∙ h in absurd (cc)
+apart_from_read : (what : What) (i : Inputs) → holds_on what ≡ true → what ≡ Begin Call.TryRead i → ⊥
+apart_from_read what i h e = let no : holds_on (Begin Call.TryRead i) ≡ true = sym (ap holds_on e) ∙ h in absurd (cc)
 
-apart_from_upgrade : (what : What) (i : Inputs) → holds_on what ≡ true → what ≡ Begin call.TryUpgrade i → ⊥
-apart_from_upgrade what i h e = let no : holds_on (Begin call.TryUpgrade i) ≡ true = sym (ap holds_on e) ∙ h in absurd (cc)
+apart_from_upgrade : (what : What) (i : Inputs) → holds_on what ≡ true → what ≡ Begin Call.TryUpgrade i → ⊥
+apart_from_upgrade what i h e = let no : holds_on (Begin Call.TryUpgrade i) ≡ true = sym (ap holds_on e) ∙ h in absurd (cc)
 
 outside_apart : (s : Standing) (r : Rest) (w : Within) (d : Option Answer) → s ≡ outside r → s ≡ inside w d → ⊥
 outside_apart s r w d e h = absurd (cc)
 
-pub still_at_once : (t : Table Guarded) (m : Move) (a : Answer) (after : World) → Laws t → stage_at t.stages m.party ≡ Outside rest.Holding → holds_on m.what ≡ true → after.state.turn ≡ (view_of t).state.turn → after.owing ≡ (view_of t).owing → AnswersAtOnce (view_of t) m a after
+pub still_at_once : (t : Table Guarded) (m : Move) (a : Answer) (after : World) → Laws t → stage_at t.stages m.party ≡ Outside Rest.Holding → holds_on m.what ≡ true → after.state.turn ≡ (view_of t).state.turn → after.owing ≡ (view_of t).owing → AnswersAtOnce (view_of t) m a after
 still_at_once t m a after k at holds same_turn same_owing =
     let s : Standing = standing_of (view_of t) m.party in
     let o : Option Right = sought_by (view_of t) m.party in
     let n : ℕ = entries_in (view_of t) m.party in
-    let is : s ≡ outside rest.Holding = stood t m.party k ∙ ap (λ s. standing_at t.machine.value s (place_at t.machine.lock.places m.party) (turn_at t.machine.lock.turn.courses m.party)) at in
+    let is : s ≡ outside Rest.Holding = stood t m.party k ∙ ap (λ s. standing_at t.machine.value s (place_at t.machine.lock.places m.party) (turn_at t.machine.lock.turn.courses m.party)) at in
     record {
       try_read = λ i e b. absurd (apart_from_read m.what i holds e);
       try_upgrade = λ i e b. absurd (apart_from_upgrade m.what i holds e);
       try_turn = λ e b. absurd (apart_from_tries m.what holds e);
       try_goes_on = λ e b free. absurd (apart_from_tries m.what holds e);
-      try_upgradable = λ e b. absurd (outside_apart s rest.Holding e.0 None is e.1);
-      try_write = λ e b. absurd (outside_apart s rest.Holding e.0 None is e.1);
-      try_upgradable_decided = λ e b. absurd (outside_apart s rest.Holding e.0 None is e.1);
-      try_write_decided = λ e b. absurd (outside_apart s rest.Holding e.0 None is e.1);
-      first_read_ready = λ e b. absurd (never_first read s (outside rest.Holding) o m.what n is refl e);
-      first_read = λ e. absurd (never_first read s (outside rest.Holding) o m.what n is refl e);
-      first_upgradable = λ e. absurd (never_first upgradable s (outside rest.Holding) o m.what n is refl e);
-      first_write = λ e z. absurd (never_first write s (outside rest.Holding) o m.what n is refl e);
+      try_upgradable = λ e b. absurd (outside_apart s Rest.Holding e.0 None is e.1);
+      try_write = λ e b. absurd (outside_apart s Rest.Holding e.0 None is e.1);
+      try_upgradable_decided = λ e b. absurd (outside_apart s Rest.Holding e.0 None is e.1);
+      try_write_decided = λ e b. absurd (outside_apart s Rest.Holding e.0 None is e.1);
+      first_read_ready = λ e b. absurd (never_first read s (outside Rest.Holding) o m.what n is refl e);
+      first_read = λ e. absurd (never_first read s (outside Rest.Holding) o m.what n is refl e);
+      first_upgradable = λ e. absurd (never_first upgradable s (outside Rest.Holding) o m.what n is refl e);
+      first_write = λ e z. absurd (never_first write s (outside Rest.Holding) o m.what n is refl e);
       try_read_looks = λ i e b. absurd (apart_from_read m.what i holds e);
       try_upgrade_looks = λ i e b. absurd (apart_from_upgrade m.what i holds e);
-      first_read_looks = λ e. absurd (never_first read s (outside rest.Holding) o m.what n is refl e);
+      first_read_looks = λ e. absurd (never_first read s (outside Rest.Holding) o m.what n is refl e);
       listed_for_turn = λ i polls pending. absurd (cc (sym is ∙ pending));
       listed_to_read = λ i polls pending. absurd (cc (sym is ∙ pending));
-      refuses_turn = λ within r at sought without none plain b. absurd (outside_apart s rest.Holding within (Some (answer.Refused r)) is at);
-      refuses_read = λ within r at sought none b. absurd (outside_apart s rest.Holding within (Some (answer.Refused r)) is at);
+      refuses_turn = λ within r at sought without none plain b. absurd (outside_apart s Rest.Holding within (Some (Answer.Refused r)) is at);
+      refuses_read = λ within r at sought none b. absurd (outside_apart s Rest.Holding within (Some (Answer.Refused r)) is at);
       gives_up = owing.keeps_owing (view_of t) m a after same_turn same_owing (λ d r none. apart_from_drops m.what holds d) (λ list h possible. (let inside = owes_outside t list m.party k h in let out : is_outside s ≡ true = ap is_outside is in cc (inside, out)));
     }
 
 -- ---- a move that isn't possible
 
 never_read : (s : Standing) (o : Option Right) (what : What) (n : ℕ) → is_first_poll read s o what n ≡ true → call_in (knows o) s what ≡ None → ⊥
-never_read (outside rest.Idle) o (Begin call.Read i) n h e = some_none e
-never_read (outside rest.Finished) o (Begin call.Read i) n h e = some_none e
-never_read (outside rest.Pending) (Some read) (Begin call.Poll i) n h e = some_none e
+never_read (outside Rest.Idle) o (Begin Call.Read i) n h e = some_none e
+never_read (outside Rest.Finished) o (Begin Call.Read i) n h e = some_none e
+never_read (outside Rest.Pending) (Some read) (Begin Call.Poll i) n h e = some_none e
 never_read _ o _ n h e = false≢true h
 
 never_upgradable : (s : Standing) (o : Option Right) (what : What) (n : ℕ) → is_first_poll upgradable s o what n ≡ true → call_in (knows o) s what ≡ None → ⊥
-never_upgradable (outside rest.Idle) o (Begin call.UpgradableRead i) n h e = some_none e
-never_upgradable (outside rest.Finished) o (Begin call.UpgradableRead i) n h e = some_none e
-never_upgradable (outside rest.Pending) (Some upgradable) (Begin call.Poll i) n h e = some_none e
+never_upgradable (outside Rest.Idle) o (Begin Call.UpgradableRead i) n h e = some_none e
+never_upgradable (outside Rest.Finished) o (Begin Call.UpgradableRead i) n h e = some_none e
+never_upgradable (outside Rest.Pending) (Some upgradable) (Begin Call.Poll i) n h e = some_none e
 never_upgradable _ o _ n h e = false≢true h
 
 never_write : (s : Standing) (o : Option Right) (what : What) (n : ℕ) → is_first_poll write s o what n ≡ true → call_in (knows o) s what ≡ None → ⊥
-never_write (outside rest.Idle) o (Begin call.Write i) n h e = some_none e
-never_write (outside rest.Finished) o (Begin call.Write i) n h e = some_none e
-never_write (outside rest.Pending) (Some write) (Begin call.Poll i) n h e = some_none e
+never_write (outside Rest.Idle) o (Begin Call.Write i) n h e = some_none e
+never_write (outside Rest.Finished) o (Begin Call.Write i) n h e = some_none e
+never_write (outside Rest.Pending) (Some write) (Begin Call.Poll i) n h e = some_none e
 never_write _ o _ n h e = false≢true h
 
-never_polls : (s : Standing) (o : Option Right) (what : What) (i : Inputs) → what ≡ Begin call.Poll i → s ≡ outside rest.Pending → call_in (knows o) s what ≡ None → ⊥
+never_polls : (s : Standing) (o : Option Right) (what : What) (i : Inputs) → what ≡ Begin Call.Poll i → s ≡ outside Rest.Pending → call_in (knows o) s what ≡ None → ⊥
 never_polls s o what i e p none =
-    let N : What → Type 0 = λ z. call_in (knows o) (outside rest.Pending) z ≡ None in
+    let N : What → Type 0 = λ z. call_in (knows o) (outside Rest.Pending) z ≡ None in
     let S : Standing → Type 0 = λ z. call_in (knows o) z what ≡ None in
     some_none (subst N e (subst S p none))
 
@@ -454,7 +401,7 @@ reads_some (b ∷ rs) (suc p) h = let more = reads_some rs p h in by_first b mor
 none_left : (w : World) (p : ℕ) → state.reads w p ≡ true → how_many_read w ≡ 0 → ⊥
 none_left w p r left = let some = reads_some w.state.readers p r in absurd (omega (arith, some, left))
 
-pub impossible_at_once : (w : World) (m : Move) → call_of w m ≡ None → AnswersAtOnce w m answer.NotPossible w
+pub impossible_at_once : (w : World) (m : Move) → call_of w m ≡ None → AnswersAtOnce w m Answer.NotPossible w
 impossible_at_once w m none =
     let s = standing_of w m.party in
     let o = sought_by w m.party in
@@ -479,5 +426,5 @@ impossible_at_once w m none =
       listed_to_read = λ i polls pending. absurd (never_polls s o m.what i polls pending none);
       refuses_turn = λ within r at sought without unlisted plain h. absurd (cc);
       refuses_read = λ within r at sought unlisted h. absurd (cc);
-      gives_up = owing.keeps_owing w m answer.NotPossible w refl refl (λ d r left. none_left w m.party r left) (λ list h possible. cc possible);
+      gives_up = owing.keeps_owing w m Answer.NotPossible w refl refl (λ d r left. none_left w m.party r left) (λ list h possible. cc possible);
     }

@@ -1,47 +1,8 @@
 -- One step of a call is legal.
-use Rattle.std.proofs.Common.{◌≡◌, ◌≢◌, ℕ, ◌<◌, ◌⊎◌, ◌||◌, ◌==◌, if◌then◌else◌, inl, inr, Bool, true, false, List, map, length, Option, Some, None, refl, arith, ap, sym, ◌∙◌, subst, get_or-set_same, get_or-set_other}
-use Rattle.std.proofs.Math.ListN.{set}
-use Rattle.std.proofs.lemmas.Bool.Decides.{nat_tests}
-use Rattle.std.proofs.lemmas.List.{map-set}
-use Rattle.std.proofs.lemmas.Bool.{false≢true, cases_Bool}
-use Rattle.lock_event.specs.declared.event.Mark.TheVariants as mark
-use Rattle.world_base.specs.declared.moves.Answer.{Answer}
-use Rattle.world_base.specs.declared.moves.Answer.TheVariants as answer
-use Rattle.world_base.specs.declared.moves.Got.TheVariants.{Value}
-use Rattle.world_base.specs.declared.moves.Move.{Move}
-use Rattle.lock_program.specs.declared.refusal.Refusal.{Refusal}
-use Rattle.lock_program.specs.declared.refusal.Refusal.TheVariants as refusal
-use Rattle.world_base.specs.declared.standing.Rest.TheVariants as rest
-use Rattle.world_base.specs.declared.standing.Stage.{Stage}
-use Rattle.world_base.specs.declared.standing.Within.{Within}
-use Rattle.world_base.specs.Accounts.{sought_after}
-use Rattle.world_base.specs.Frame.{is_poll_after_ready, put_in, is_drop, is_giving_back, is_refusal}
-use Rattle.lock_program.specs.Refusals.{number_of}
-use Rattle.world_base.specs.Rights.{Right, read, upgradable, write}
-use Rattle.world_base.specs.Standings.{Standing, inside, IsUndecided, is_decided, is_possible, decision, refused}
-use Rattle.world_base.specs.Steps.{Deed, nothing, does, joins}
-use Rattle.world_base.proofs.Equations.{some_eq, chosen, same_test}
-use Rattle.world_mutex.specs.machine.Course.{Course as TurnCourse}
-use Rattle.world_mutex.specs.machine.Mutex.{course_at as turn_at}
-use Rattle.world_mutex.proofs.of_machine.callers.Callers.{out_free, waiting_free}
-use Rattle.world_rwlock.specs.declared.program.led.Next.{Next}
-use Rattle.world_rwlock.specs.declared.program.led.Next.TheVariants as next
-use Rattle.lock_program.specs.declared.rwlock.Place.{Place}
-use Rattle.lock_program.specs.declared.rwlock.Place.TheVariants as place
-use Rattle.lock_program.specs.declared.rwlock.Purpose.TheVariants as purpose
-use Rattle.world_rwlock.specs.program.Program.{place_after}
-use Rattle.world_rwlock.specs.machine.Roles.{fits_turn}
-use Rattle.world_rwlock.specs.machine.Machine.{RwLock, place_at}
-use Rattle.world_rwlock.specs.machine.Acts.{IsRwLock}
-use Rattle.world_rwlock.specs.Changes.{Change, gives_back, gives_up}
-use Rattle.world_rwlock.specs.State.{ListName}
+use Rattle.world_rwlock.proofs.Prelude.{◌≡◌, ◌≢◌, ℕ, ◌<◌, ◌⊎◌, ◌||◌, ◌==◌, if◌then◌else◌, inl, inr, Bool, true, false, List, map, length, Option, Some, None, refl, arith, ap, sym, ◌∙◌, subst, get_or-set_same, get_or-set_other, set, nat_tests, map-set, false≢true, cases_Bool, Answer, Value, Move, Refusal, Rest, Stage, Within, sought_after, is_poll_after_ready, put_in, is_drop, is_giving_back, is_refusal, number_of, Right, read, upgradable, write, Standing, inside, IsUndecided, is_decided, is_possible, refused, Deed, nothing, does, joins, some_eq, chosen, same_test, TurnCourse, turn_at, out_free, waiting_free, Next, Place, Purpose, place_after, fits_turn, RwLock, place_at, IsRwLock, Change, gives_back, gives_up, ListName, State, World, standing_of, sought_by, is_upgrader, told_in, HasTurn, IsClear, knows_of, call_of, DecidesOn, IsPossible, ChangesOneThing, HasSought, LeavesClear, Carries, Waits, list_for, MayMeet, IsCause, IsRefusedForCause, IsValueKept, EndsProperly, KeepsUpgrades, Legal, stage_at, sought_at, Guarded, answer_by, is_upgrade, verdict, verdict_of, standing_at, seen, Table, decided_after, stands_seen, entries_after, list_of, is_counting}
+use Rattle.lock_event.specs.declared.event.Mark.{Mark}
+use Rattle.world_base.specs.Standings.{decision}
 use Rattle.world_rwlock.specs.State as state
-use Rattle.world_rwlock.specs.State.{State, World, standing_of, sought_by, is_upgrader, told_in, HasTurn, IsClear}
-use Rattle.world_rwlock.specs.Legal.{knows_of, call_of, DecidesOn, IsPossible, ChangesOneThing, HasSought, LeavesClear, Carries, Waits, list_for, MayMeet, IsCause, IsRefusedForCause, IsValueKept, EndsProperly, KeepsUpgrades, Legal}
-use Rattle.world_base.specs.table.Stages.{stage_at}
-use Rattle.world_rwlock.specs.Stages.{sought_at}
-use Rattle.world_rwlock.specs.Guarded.{Guarded, answer_by}
-use Rattle.world_rwlock.specs.View.{is_upgrade, verdict, verdict_of, standing_at, seen}
 use Rattle.world_rwlock.proofs.table.Kept.{Walks}
 use Rattle.world_rwlock.proofs.table.Stages.{stage_then, always_possible, may_end_so}
 use Rattle.world_rwlock.proofs.step.Rows.{Room, keeps_what_it_has, lacks_memory, verdict_then, is_after_ready, is_got, is_made}
@@ -49,15 +10,10 @@ use Rattle.world_rwlock.proofs.step.Facts.{WaitsIn, CauseAs, Fitting, ReasonAs, 
 use Rattle.world_rwlock.proofs.table.Calls.{Moves}
 use Rattle.world_rwlock.proofs.step.Endings as ends
 use Rattle.world_rwlock.proofs.step.Owns as owns
-use Rattle.world_base.specs.table.Tables.{Table}
 use Rattle.world_base.proofs.of_table.Acting as acting
-use Rattle.world_base.proofs.of_table.Calls.{decided_after, stands_seen}
 use Rattle.world_rwlock.proofs.table.Views as view
 use Rattle.world_rwlock.proofs.table.Views.{Fits}
 use Rattle.world_rwlock.proofs.step.Decided.{decided}
-use Rattle.world_rwlock.specs.Changes.{entries_after}
-use Rattle.world_rwlock.specs.State.{list_of}
-use Rattle.world_mutex.specs.machine.Course.{is_counting}
 
 -- a step keeps what was decided
 keep : (m : Move) (old : World) (k : RwLock) (new : World) (v : ℕ) (x to : Place) (d : Deed Change ListName) (was now : Option Answer) (b : Answer) → JudgedAs m old k new v x to d was now → was ≡ Some b → (now ≡ Some b) × (gives_back d ≡ true)
@@ -71,16 +27,16 @@ judge m old k new v x to d None None b j e = absurd (cc)
 judge m old k new v x to d None (Some c) b j e = let P : Answer → Type 0 = λ a. ReasonAs m old k new v x to d a in inr (subst P (some_eq e) j)
 
 -- a refusal for memory is that one
-idle_memory : (w : World) (p : ℕ) (x to : Place) (d : Deed Change ListName) (r : Refusal) → number_of refusal.Memory ≡ number_of r → Fitting w p x to d r → (d ≡ nothing) × (lacks_memory x ≡ true)
-idle_memory w p x to d refusal.Memory e h = h
+idle_memory : (w : World) (p : ℕ) (x to : Place) (d : Deed Change ListName) (r : Refusal) → number_of Refusal.Memory ≡ number_of r → Fitting w p x to d r → (d ≡ nothing) × (lacks_memory x ≡ true)
+idle_memory w p x to d Refusal.Memory e h = h
 idle_memory w p x to d _ e h = absurd (cc)
 
-idle_starved : (w : World) (p : ℕ) (x to : Place) (d : Deed Change ListName) (r : Refusal) → number_of refusal.Starved ≡ number_of r → Fitting w p x to d r → d ≡ nothing
-idle_starved w p x to d refusal.Starved e h = h.0
+idle_starved : (w : World) (p : ℕ) (x to : Place) (d : Deed Change ListName) (r : Refusal) → number_of Refusal.Starved ≡ number_of r → Fitting w p x to d r → d ≡ nothing
+idle_starved w p x to d Refusal.Starved e h = h.0
 idle_starved w p x to d _ e h = absurd (cc e)
 
-counts_by : (m : Move) (old new : World) (r : Refusal) → number_of refusal.Starved ≡ number_of r → CauseAs m old new r → is_counting (turn_at old.behind.machine.lock.turn.courses m.party) ≡ true
-counts_by m old new refusal.Starved e h = h.2
+counts_by : (m : Move) (old new : World) (r : Refusal) → number_of Refusal.Starved ≡ number_of r → CauseAs m old new r → is_counting (turn_at old.behind.machine.lock.turn.courses m.party) ≡ true
+counts_by m old new Refusal.Starved e h = h.2
 counts_by m old new _ e h = absurd (cc e)
 
 found_room : {memory : Bool} (d : Deed Change ListName) (list : ListName) → Room memory d → d ≡ does list joins → memory ≡ true
@@ -92,10 +48,10 @@ given_up (Some b) d h g = (b, refl)
 given_up None d h g = absurd (cc)
 
 -- what is answered Pending was decided then
-pending_now : (v : ℕ) (t : TurnCourse) (n : Next) → answer_by v n ≡ answer.Pending → verdict_then v t n ≡ Some answer.Pending
-pending_now v t (next.Do a q) e = absurd (cc)
-pending_now v t (next.Wait q) e = absurd (cc)
-pending_now v t (next.End y q) e = ap (λ (b : Answer). decided_after b (verdict v q t)) e
+pending_now : (v : ℕ) (t : TurnCourse) (n : Next) → answer_by v n ≡ Answer.Pending → verdict_then v t n ≡ Some Answer.Pending
+pending_now v t (Next.Do a q) e = absurd (cc)
+pending_now v t (Next.Wait q) e = absurd (cc)
+pending_now v t (Next.End y q) e = ap (λ (b : Answer). decided_after b (verdict v q t)) e
 
 undecided_inside : (s : Standing) (w : Within) (a : Option Answer) → s ≡ inside w a → is_decided s ≡ false → IsUndecided s
 undecided_inside s w None e h = (w, e)
@@ -185,27 +141,27 @@ module _ (m : Move) (l k : RwLock) (ss : List Stage) (opening : ℕ) (v : ℕ) (
     there = omega (arith, c.fits.as_many, c.known)
 
     lands : place_at k.places p ≡ to
-    lands = ap (λ xs. place_at xs p) c.places ∙ get_or-set_same l.places p to place.Out there
+    lands = ap (λ xs. place_at xs p) c.places ∙ get_or-set_same l.places p to Place.Out there
 
     stood : standing_of old p ≡ standing_at v (stage_at ss p) here t
     stood = acting.stood verdict_of before p
 
     stands : standing_of new p ≡ standing_at v (stage_then w v n) to u
-    stands = acting.stands verdict_of rest.Holding before after p w said c.known refl ∙ ap (λ y. standing_at v (stage_then w v n) y u) lands
+    stands = acting.stands verdict_of Rest.Holding before after p w said c.known refl ∙ ap (λ y. standing_at v (stage_then w v n) y u) lands
 
     others : (q : ℕ) → q ≢ p → standing_of new q ≡ standing_of old q
     others q apart =
-        acting.others_stand verdict_of rest.Holding before after p w said c.known refl q apart
-        (ap (λ y. verdict v y (turn_at k.turn.courses q)) (ap (λ xs. place_at xs q) c.places ∙ get_or-set_other l.places p q to place.Out apart) ∙ ap (verdict v (place_at l.places q)) (c.facts.others q apart))
+        acting.others_stand verdict_of Rest.Holding before after p w said c.known refl q apart
+        (ap (λ y. verdict v y (turn_at k.turn.courses q)) (ap (λ xs. place_at xs q) c.places ∙ get_or-set_other l.places p q to Place.Out apart) ∙ ap (verdict v (place_at l.places q)) (c.facts.others q apart))
 
     always : is_possible said ≡ true
     always = always_possible v n
 
     possible : IsPossible old m said new
-    possible = acting.possible_so standing_of knows_of rest.Holding old m said new w c.call always
+    possible = acting.possible_so standing_of knows_of Rest.Holding old m said new w c.call always
 
     decides : decision said (standing_of new p) ≡ verdict_then v u n
-    decides = acting.decides verdict_of rest.Holding before after p w said c.known refl ∙ ap (λ y. decided_after said (verdict v y u)) lands
+    decides = acting.decides verdict_of Rest.Holding before after p w said c.known refl ∙ ap (λ y. decided_after said (verdict v y u)) lands
 
     keeps_to : (b : Answer) → verdict v x t ≡ Some b → (verdict_then v u n ≡ Some b) × (gives_back d ≡ true)
     keeps_to b e = keep m old k new v x to d (verdict v x t) (verdict_then v u n) b c.facts.judged e
@@ -213,7 +169,7 @@ module _ (m : Move) (l k : RwLock) (ss : List Stage) (opening : ℕ) (v : ℕ) (
     parting : is_decided (standing_of old p) || is_drop m.what ≡ true → gives_back d ≡ true
     parting h = elim (or_split (is_decided (standing_of old p)) (is_drop m.what) h) as (λ _. gives_back d ≡ true) [
       | inl y ↦ (let it = decided_inside (standing_of old p) y in (keeps_to it.1 (c.moves.decided it.0 it.1 (sym stood ∙ it.2))).1)
-      | inr y ↦ (keeps_to answer.GivenBack (c.moves.drop_is y).0).1
+      | inr y ↦ (keeps_to Answer.GivenBack (c.moves.drop_is y).0).1
     ]
 
     giving_up : gives_up d ≡ true → is_decided (standing_of old p) || is_giving_back m.what ≡ true
@@ -228,10 +184,10 @@ module _ (m : Move) (l k : RwLock) (ss : List Stage) (opening : ℕ) (v : ℕ) (
     made : (r : List Bool) (a : state.Turn) (s : List Bool) (n1 : ℕ) (q : List Bool) (b : state.Turn) (z : List Bool) (n2 : ℕ) → r ≡ q → a ≡ b → s ≡ z → n1 ≡ n2 → Path State (record { readers = r; turn = a; starved = s; value = n1 }) (record { readers = q; turn = b; starved = z; value = n2 })
     made r a s n1 q b z n2 e f g h = cc
 
-    reason : (b : Answer) → DecidesOn old m said new b → (answer.GivenBack ≡ b) ⊎ ReasonAs m old k new v x to d b
+    reason : (b : Answer) → DecidesOn old m said new b → (Answer.GivenBack ≡ b) ⊎ ReasonAs m old k new v x to d b
     reason b y =
         let undecided : is_decided (standing_at v (stage_at ss p) here t) ≡ false = rw stood at y.0 in
-        elim (judge m old k new v x to d (verdict v x t) (verdict_then v u n) b c.facts.judged (sym decides ∙ y.1)) as (λ _. (answer.GivenBack ≡ b) ⊎ ReasonAs m old k new v x to d b) [
+        elim (judge m old k new v x to d (verdict v x t) (verdict_then v u n) b c.facts.judged (sym decides ∙ y.1)) as (λ _. (Answer.GivenBack ≡ b) ⊎ ReasonAs m old k new v x to d b) [
           | inl e ↦ inl (c.moves.gives undecided b e).0
           | inr z ↦ inr z
         ]
@@ -247,10 +203,10 @@ module _ (m : Move) (l k : RwLock) (ss : List Stage) (opening : ℕ) (v : ℕ) (
       opening_value = refl;
       sought = ap (map sought_at) c.places ∙ (map-set sought_at l.places p to ∙ ap (set (map sought_at l.places) p) (c.moves.sought n c.walks.seeks ∙ ap (λ o. sought_after o m.what said) (sym (view.seeks_at l.places p))));
       others = others;
-      parties = acting.as_many verdict_of rest.Holding before after p w said c.known refl;
+      parties = acting.as_many verdict_of Rest.Holding before after p w said c.known refl;
       found_memory = λ list e. found_room d list c.facts.room e;
-      refused_idly = λ y. elim (reason (refused refusal.Memory) y) as (λ _. d ≡ nothing) [ inl e ↦ absurd (cc) | inr z ↦ (idle_memory old p x to d z.0 z.1 z.3).0 ];
-      starved_idly = λ y. elim (reason (refused refusal.Starved) y) as (λ _. d ≡ nothing) [ inl e ↦ absurd (cc) | inr z ↦ idle_starved old p x to d z.0 z.1 z.3 ];
+      refused_idly = λ y. elim (reason (refused Refusal.Memory) y) as (λ _. d ≡ nothing) [ inl e ↦ absurd (cc) | inr z ↦ (idle_memory old p x to d z.0 z.1 z.3).0 ];
+      starved_idly = λ y. elim (reason (refused Refusal.Starved) y) as (λ _. d ≡ nothing) [ inl e ↦ absurd (cc) | inr z ↦ idle_starved old p x to d z.0 z.1 z.3 ];
       parting = parting;
       giving_up = giving_up;
     }
@@ -261,37 +217,37 @@ module _ (m : Move) (l k : RwLock) (ss : List Stage) (opening : ℕ) (v : ℕ) (
     fits_there y e = let P : Place → Type 0 = λ z. fits_turn z u ≡ true in subst P (lands ∙ e) (c.new_laws.in_turn p)
 
     got_has : (y : Place) → to ≡ y → is_got y ≡ true → HasSought new p
-    got_has place.Reading e h = owns.reading k ts opening v c.new_laws c.new_fits p place.Reading (lands ∙ e) refl (fits_there place.Reading e) refl
-    got_has place.LeaveNoWriter e h = owns.reading k ts opening v c.new_laws c.new_fits p place.LeaveNoWriter (lands ∙ e) refl (fits_there place.LeaveNoWriter e) refl
-    got_has place.Upgradable e h = owns.upgradable_has k ts opening v c.new_laws c.new_fits p place.Upgradable (lands ∙ e) refl refl refl refl
-    got_has place.Writing e h = owns.writing_has k ts opening v c.new_laws c.new_fits p place.Writing (lands ∙ e) refl refl refl refl
-    got_has place.LeaveNoReaders e h = owns.writing_has k ts opening v c.new_laws c.new_fits p place.LeaveNoReaders (lands ∙ e) refl refl refl refl
+    got_has Place.Reading e h = owns.reading k ts opening v c.new_laws c.new_fits p Place.Reading (lands ∙ e) refl (fits_there Place.Reading e) refl
+    got_has Place.LeaveNoWriter e h = owns.reading k ts opening v c.new_laws c.new_fits p Place.LeaveNoWriter (lands ∙ e) refl (fits_there Place.LeaveNoWriter e) refl
+    got_has Place.Upgradable e h = owns.upgradable_has k ts opening v c.new_laws c.new_fits p Place.Upgradable (lands ∙ e) refl refl refl refl
+    got_has Place.Writing e h = owns.writing_has k ts opening v c.new_laws c.new_fits p Place.Writing (lands ∙ e) refl refl refl refl
+    got_has Place.LeaveNoReaders e h = owns.writing_has k ts opening v c.new_laws c.new_fits p Place.LeaveNoReaders (lands ∙ e) refl refl refl refl
     got_has _ e h = absurd (false≢true h)
 
     carries : Carries old m said new
     carries = record {
-      ready = λ got y. elim (reason (answer.Ready got) y) as (λ _. (got ≡ Value v) × HasSought new p) [ inl e ↦ absurd (cc) | inr z ↦ (z.0, got_has to refl z.1) ];
-      granted = λ got y. elim (reason (answer.Granted got) y) as (λ _. (got ≡ Value v) × HasSought new p) [ inl e ↦ absurd (cc) | inr z ↦ (z.0, got_has to refl z.1) ];
+      ready = λ got y. elim (reason (Answer.Ready got) y) as (λ _. (got ≡ Value v) × HasSought new p) [ inl e ↦ absurd (cc) | inr z ↦ (z.0, got_has to refl z.1) ];
+      granted = λ got y. elim (reason (Answer.Granted got) y) as (λ _. (got ≡ Value v) × HasSought new p) [ inl e ↦ absurd (cc) | inr z ↦ (z.0, got_has to refl z.1) ];
     }
 
     seeks_right : (y : Place) (r : Right) → to ≡ y → sought_at y ≡ Some r → sought_by new p ≡ Some r
     seeks_right y r e a = owns.seeks_just k ts opening v c.new_laws c.new_fits p y r (lands ∙ e) a
 
-    waits_there : (y : Place) → to ≡ y → WaitsIn k p y → told_in (list_for (sought_by new p) new.state.turn p new) p ≡ Some mark.Waiting
-    waits_there place.AskNoWriter e h = rw (seeks_right place.AskNoWriter read e refl) h
-    waits_there (place.AwaitNoReaders up) e h =
-        let turn = owns.turn_at_place k ts opening v c.new_laws c.new_fits p (place.AwaitNoReaders up) (lands ∙ e) refl in
-        rw (seeks_right (place.AwaitNoReaders up) write e refl) (ap (λ es. told_in es p) (writer_listed new p turn) ∙ h)
-    waits_there (place.WaitTurn purpose.UpgradableRead) e h = rw (seeks_right (place.WaitTurn purpose.UpgradableRead) upgradable e refl) h
-    waits_there (place.WaitTurn purpose.Write) e h =
-        let free = owns.no_turn k ts opening v c.new_laws c.new_fits p (waiting_free u (fits_there (place.WaitTurn purpose.Write) e)) in
-        rw (seeks_right (place.WaitTurn purpose.Write) write e refl) (ap (λ es. told_in es p) (out_of_turn new p new.state.turn free) ∙ h)
+    waits_there : (y : Place) → to ≡ y → WaitsIn k p y → told_in (list_for (sought_by new p) new.state.turn p new) p ≡ Some Mark.Waiting
+    waits_there Place.AskNoWriter e h = rw (seeks_right Place.AskNoWriter read e refl) h
+    waits_there (Place.AwaitNoReaders up) e h =
+        let turn = owns.turn_at_place k ts opening v c.new_laws c.new_fits p (Place.AwaitNoReaders up) (lands ∙ e) refl in
+        rw (seeks_right (Place.AwaitNoReaders up) write e refl) (ap (λ es. told_in es p) (writer_listed new p turn) ∙ h)
+    waits_there (Place.WaitTurn Purpose.UpgradableRead) e h = rw (seeks_right (Place.WaitTurn Purpose.UpgradableRead) upgradable e refl) h
+    waits_there (Place.WaitTurn Purpose.Write) e h =
+        let free = owns.no_turn k ts opening v c.new_laws c.new_fits p (waiting_free u (fits_there (Place.WaitTurn Purpose.Write) e)) in
+        rw (seeks_right (Place.WaitTurn Purpose.Write) write e refl) (ap (λ es. told_in es p) (out_of_turn new p new.state.turn free) ∙ h)
     waits_there _ e h = absurd h
 
     waits : Waits m said new
     waits = record {
       waiting = λ e.
-          elim (judge m old k new v x to d (verdict v x t) (verdict_then v u n) answer.Pending c.facts.judged (pending_now v u n e)) as (λ _. told_in (list_for (sought_by new p) new.state.turn p new) p ≡ Some mark.Waiting) [
+          elim (judge m old k new v x to d (verdict v x t) (verdict_then v u n) Answer.Pending c.facts.judged (pending_now v u n e)) as (λ _. told_in (list_for (sought_by new p) new.state.turn p new) p ≡ Some Mark.Waiting) [
             | inl was ↦ absurd (owns.pending_undecided v x t was)
             | inr z ↦ waits_there to refl z
           ];
@@ -307,25 +263,25 @@ module _ (m : Move) (l k : RwLock) (ss : List Stage) (opening : ℕ) (v : ℕ) (
     is_within lacks fresh = let it = c.moves.lacking lacks in undecided_inside (standing_of old p) w it.0 (stood ∙ it.1) fresh
 
     cause : (r : Refusal) → is_decided (standing_of old p) ≡ false → CauseAs m old new r → Fitting old p x to d r → IsCause old m new r
-    cause refusal.Memory fresh h f = h
-    cause refusal.Starved fresh h f = (h.0, met refusal.Starved f.2, h.1, is_within f.1 fresh, λ list. c.facts.lists list ∙ ap (λ y. entries_after p y list (list_of old list)) f.0)
-    cause refusal.Readers fresh h f = (h, met refusal.Readers f)
+    cause Refusal.Memory fresh h f = h
+    cause Refusal.Starved fresh h f = (h.0, met Refusal.Starved f.2, h.1, is_within f.1 fresh, λ list. c.facts.lists list ∙ ap (λ y. entries_after p y list (list_of old list)) f.0)
+    cause Refusal.Readers fresh h f = (h, met Refusal.Readers f)
     cause _ fresh h f = absurd h
 
     -- who is refused for want of memory was inside its call, and undecided
-    lacked : DecidesOn old m said new (refused refusal.Memory) → IsUndecided (standing_of old p)
+    lacked : DecidesOn old m said new (refused Refusal.Memory) → IsUndecided (standing_of old p)
     lacked y =
-        let lacks : lacks_memory x ≡ true = elim (reason (refused refusal.Memory) y) as (λ _. lacks_memory x ≡ true) [ inl e ↦ absurd (cc) | inr z ↦ (idle_memory old p x to d z.0 z.1 z.3).1 ] in
+        let lacks : lacks_memory x ≡ true = elim (reason (refused Refusal.Memory) y) as (λ _. lacks_memory x ≡ true) [ inl e ↦ absurd (cc) | inr z ↦ (idle_memory old p x to d z.0 z.1 z.3).1 ] in
         let it = c.moves.lacking lacks in
         undecided_inside (standing_of old p) w it.0 (stood ∙ it.1) y.0
 
     -- who is refused for too many starved parties was about to be counted
-    pub counts : DecidesOn old m said new (refused refusal.Starved) → is_counting t ≡ true
-    counts y = elim (reason (refused refusal.Starved) y) as (λ _. is_counting t ≡ true) [ inl e ↦ absurd (cc) | inr z ↦ counts_by m old new z.0 z.1 z.2 ]
+    pub counts : DecidesOn old m said new (refused Refusal.Starved) → is_counting t ≡ true
+    counts y = elim (reason (refused Refusal.Starved) y) as (λ _. is_counting t ≡ true) [ inl e ↦ absurd (cc) | inr z ↦ counts_by m old new z.0 z.1 z.2 ]
 
     refused_for_cause : IsRefusedForCause old m said new
     refused_for_cause = record {
-      cause = λ r y. elim (reason (answer.Refused r) y) as (λ _. (q : Refusal) × (r ≡ number_of q) × IsCause old m new q) [ inl e ↦ absurd (cc) | inr z ↦ (z.0, z.1, cause z.0 y.0 z.2 z.3) ];
+      cause = λ r y. elim (reason (Answer.Refused r) y) as (λ _. (q : Refusal) × (r ≡ number_of q) × IsCause old m new q) [ inl e ↦ absurd (cc) | inr z ↦ (z.0, z.1, cause z.0 y.0 z.2 z.3) ];
       memory = λ y. lacked y;
       after_ready = (
         (λ e. let never : is_after_ready (answer_by v n) ≡ true = ap is_after_ready e in absurd (false≢true (sym c.facts.over ∙ never))),
@@ -338,7 +294,7 @@ module _ (m : Move) (l k : RwLock) (ss : List Stage) (opening : ℕ) (v : ℕ) (
     -- a drop isn't refused
     not_drop : is_refusal said ≡ true → is_drop m.what ≡ false
     not_drop h = elim (cases_Bool (is_drop m.what)) as (λ _. is_drop m.what ≡ false) [
-      | inl y ↦ (let it = keeps_to answer.GivenBack (c.moves.drop_is y).0 in absurd (ends.given_not_refused v u n it.0 h))
+      | inl y ↦ (let it = keeps_to Answer.GivenBack (c.moves.drop_is y).0 in absurd (ends.given_not_refused v u n it.0 h))
       | inr y ↦ y
     ]
 
@@ -348,15 +304,15 @@ module _ (m : Move) (l k : RwLock) (ss : List Stage) (opening : ℕ) (v : ℕ) (
     upgrade_is : is_upgrader new p ≡ is_upgrade to
     upgrade_is = view.upgrades_at k.places p ∙ ap is_upgrade lands
 
-    refused_at : is_refusal said ≡ true → ((is_made to ≡ true) × (is_upgrade x ≡ false)) ⊎ ((to ≡ place.LookUnlisted true) × (is_upgrade x ≡ true))
+    refused_at : is_refusal said ≡ true → ((is_made to ≡ true) × (is_upgrade x ≡ false)) ⊎ ((to ≡ Place.LookUnlisted true) × (is_upgrade x ≡ true))
     refused_at h = ends.refused_where v x n c.facts.refused h
 
     made_clear : (y : Place) → to ≡ y → is_made y ≡ true → IsClear new p × (HasTurn new.state.turn p → ⊥)
-    made_clear (place.Made q) e h = let o = fits_there (place.Made q) e in (owns.out_clear k ts opening v c.new_laws c.new_fits p (place.Made q) (lands ∙ e) refl refl o, owns.no_turn k ts opening v c.new_laws c.new_fits p (out_free u o))
+    made_clear (Place.Made q) e h = let o = fits_there (Place.Made q) e in (owns.out_clear k ts opening v c.new_laws c.new_fits p (Place.Made q) (lands ∙ e) refl refl o, owns.no_turn k ts opening v c.new_laws c.new_fits p (out_free u o))
     made_clear _ e h = absurd (false≢true h)
 
-    upgrade_clear : to ≡ place.LookUnlisted true → IsClear new p × (new.state.turn ≡ state.waits_to_write p)
-    upgrade_clear e = (owns.holding_clear k ts opening v c.new_laws c.new_fits p (place.LookUnlisted true) (lands ∙ e) refl refl (fits_there (place.LookUnlisted true) e), owns.turn_at_place k ts opening v c.new_laws c.new_fits p (place.LookUnlisted true) (lands ∙ e) refl)
+    upgrade_clear : to ≡ Place.LookUnlisted true → IsClear new p × (new.state.turn ≡ state.waits_to_write p)
+    upgrade_clear e = (owns.holding_clear k ts opening v c.new_laws c.new_fits p (Place.LookUnlisted true) (lands ∙ e) refl refl (fits_there (Place.LookUnlisted true) e), owns.turn_at_place k ts opening v c.new_laws c.new_fits p (Place.LookUnlisted true) (lands ∙ e) refl)
 
     leaves_clear : LeavesClear old m said new
     leaves_clear = record {
@@ -372,15 +328,15 @@ module _ (m : Move) (l k : RwLock) (ss : List Stage) (opening : ℕ) (v : ℕ) (
 
     ends_properly : EndsProperly old m said new
     ends_properly =
-        acting.ends_so standing_of knows_of rest.Holding old m said new w c.call always (rw stands (stands_seen rest.Holding w said (verdict v to u) always (may_end_so w v x n c.moves.course c.walks.keeps)))
+        acting.ends_so standing_of knows_of Rest.Holding old m said new w c.call always (rw stands (stands_seen Rest.Holding w said (verdict v to u) always (may_end_so w v x n c.moves.course c.walks.keeps)))
         (λ y b e. decides ∙ (keeps_to b (c.moves.decided y b (sym stood ∙ e))).0)
 
     keeps_upgrades : KeepsUpgrades old m said new
     keeps_upgrades = record {
       begins = λ e. upgrade_is ∙ ends.waiting_upgrades v x n c.facts.upgrade e;
       pending = λ e h. upgrade_is ∙ ends.pending_upgrades w x c.moves.course v u n c.walks.keeps c.facts.upgrade (c.moves.upgrade) (λ y. (c.moves.drop_is y).1) e (sym stands ∙ h) ∙ sym (view.upgrades_at l.places p);
-      undecided = λ y h. upgrade_is ∙ ends.undecided_upgrades w x v u n c.facts.upgrade c.moves.upgrade (λ y. (keeps_to answer.GivenBack (c.moves.drop_is y).0).0) y (sym stands ∙ h) ∙ sym (view.upgrades_at l.places p);
-      others = λ q apart. view.upgrades_at k.places q ∙ (ap is_upgrade (ap (λ xs. place_at xs q) c.places ∙ get_or-set_other l.places p q to place.Out apart) ∙ sym (view.upgrades_at l.places q));
+      undecided = λ y h. upgrade_is ∙ ends.undecided_upgrades w x v u n c.facts.upgrade c.moves.upgrade (λ y. (keeps_to Answer.GivenBack (c.moves.drop_is y).0).0) y (sym stands ∙ h) ∙ sym (view.upgrades_at l.places p);
+      others = λ q apart. view.upgrades_at k.places q ∙ (ap is_upgrade (ap (λ xs. place_at xs q) c.places ∙ get_or-set_other l.places p q to Place.Out apart) ∙ sym (view.upgrades_at l.places q));
     }
 
     pub step_legal : Legal old m said new

@@ -1,50 +1,12 @@
 -- Whoever gives something back goes on until it has told of that.
-use Rattle.std.proofs.Common.{◌≡◌, ℕ, ◌<◌, ◌⊎◌, inl, inr, Bool, true, false, Option, Some, None, List, length, refl, arith, ap, sym, ◌∙◌, subst, get_or, get_or-set_same, get_or-set_other}
-use Rattle.std.proofs.Math.ListN.{set}
-use Rattle.std.specs.List.{sum_by}
-use Rattle.std.proofs.lemmas.List.Sums.{sum_by-set}
-use Rattle.lock_event.specs.Lists.{notified}
-use Rattle.world_base.specs.declared.moves.Answer.{Answer}
-use Rattle.world_base.specs.declared.moves.Answer.TheVariants as answer
-use Rattle.world_base.specs.declared.moves.Call.TheVariants as call
-use Rattle.world_base.specs.declared.moves.Move.{Move}
-use Rattle.world_base.specs.declared.moves.What.{What}
-use Rattle.world_base.specs.declared.moves.What.TheVariants.{Begin}
-use Rattle.world_base.specs.declared.standing.Within.{Within}
-use Rattle.world_base.specs.Frame.{is_drop}
-use Rattle.world_base.specs.Standings.{inputs_of, is_possible}
-use Rattle.world_base.specs.Steps.{Deed, nothing, changes, does}
-use Rattle.world_base.proofs.Equations.{some_eq, none_some}
-use Rattle.world_base.specs.table.Stages.{stage_at}
-use Rattle.world_base.specs.table.Tables.{Table}
-use Rattle.lock_program.specs.declared.end.End.TheVariants as turn_end
-use Rattle.lock_program.specs.declared.mutex.Step.{Step as TurnStep}
-use Rattle.lock_program.specs.declared.rwlock.Ending.TheVariants as ending
-use Rattle.lock_program.specs.declared.rwlock.Found.{Found}
-use Rattle.lock_program.specs.declared.rwlock.Found.TheVariants as found
-use Rattle.lock_program.specs.declared.rwlock.Place.{Place}
-use Rattle.lock_program.specs.declared.rwlock.Place.TheVariants as place
-use Rattle.world_mutex.specs.machine.Conduct.{IsLegal}
-use Rattle.world_mutex.specs.machine.Course.{Course as TurnCourse, waiting as waiting_there, taking, has_lock, holds, decision, is_taking, is_cancelling, cancelling}
+use Rattle.world_rwlock.proofs.Prelude.{◌≡◌, ℕ, ◌<◌, ◌⊎◌, inl, inr, Bool, true, false, Option, Some, None, List, length, refl, arith, ap, sym, ◌∙◌, subst, get_or, get_or-set_same, get_or-set_other, set, sum_by, sum_by-set, notified, Answer, Call, Move, What, Begin, Within, is_drop, inputs_of, is_possible, Deed, nothing, changes, does, some_eq, none_some, stage_at, Table, End, TurnStep, Ending, Found, Place, IsLegal, TurnCourse, waiting_there, taking, has_lock, holds, decision, is_taking, is_cancelling, cancelling, Mutex, turn_at, holder_of, out_free, waiting_free, releasing_free, OnNoWriter, OnNoReaders, action_of, next_of, place_after, drop_from, OnTurn, Finds, readers, RwLock, place_at, fits_turn, reads as reads_there, Guarded, answer_by, place_for, TellsOnRelease, ListName, for_the_turn, for_no_readers, for_no_writer, list_of, is_marked, World, how_many_read, HasTurn, nothing_owed, owes_in, has_to_tell, Share, passing, upgrading, waiting, writing, turn_as, turn_by, share_of, is_reading, owing_at, view_of, knows_at}
 use Rattle.world_mutex.specs.machine.Deeds as mutex
-use Rattle.world_mutex.specs.machine.Mutex.{Mutex, course_at as turn_at, holder_of}
-use Rattle.world_mutex.proofs.of_machine.callers.Callers.{out_free, waiting_free, releasing_free}
 use Rattle.world_mutex.proofs.of_machine.callers.Holders as sees
-use Rattle.world_rwlock.specs.program.Parties.{OnNoWriter, OnNoReaders}
-use Rattle.world_rwlock.specs.program.Program.{action_of, next_of, place_after, drop_from}
-use Rattle.world_rwlock.specs.program.Turns.{OnTurn}
-use Rattle.world_rwlock.specs.machine.Acts.{Finds, readers}
-use Rattle.world_rwlock.specs.machine.Machine.{RwLock, place_at}
-use Rattle.world_rwlock.specs.machine.Roles.{fits_turn, reads as reads_there}
-use Rattle.world_rwlock.specs.Guarded.{Guarded, answer_by, place_for}
-use Rattle.world_rwlock.specs.Legal.{TellsOnRelease}
-use Rattle.world_rwlock.specs.State.{ListName, for_the_turn, for_no_readers, for_no_writer, list_of, Turn, is_marked, World, reads, how_many_read, HasTurn, nothing_owed, owes_in, has_to_tell}
-use Rattle.world_rwlock.specs.View.{Share, passing, upgrading, waiting, writing, turn_as, turn_by, share_of, is_reading, owing_at, view_of}
+use Rattle.world_rwlock.specs.State.{Turn, reads}
 use Rattle.world_rwlock.proofs.step.Acting.{Acting, fit, says}
 use Rattle.world_rwlock.proofs.step.Owed.{Owes, not_owed, owes_seen, owes_inside}
 use Rattle.world_rwlock.proofs.step.Refusing.{going_here, has_by}
 use Rattle.world_rwlock.proofs.table.Views as view
-use Rattle.world_rwlock.specs.program.Calls.{knows_at}
 
 -- ---- who has the turn
 
@@ -70,7 +32,7 @@ bit_as p upgrading = refl
 bit_as p waiting = refl
 bit_as p writing = refl
 
-has_lock_decided : (c : TurnCourse) → is_taking c ≡ true → holds c ≡ 1 → decision c ≡ Some turn_end.Got
+has_lock_decided : (c : TurnCourse) → is_taking c ≡ true → holds c ≡ 1 → decision c ≡ Some End.Got
 has_lock_decided (taking has_lock a b d) h one = refl
 has_lock_decided (waiting_there b) h one = absurd (omega (arith, one))
 has_lock_decided (taking _ a b d) h one = absurd (omega (arith, one))
@@ -92,78 +54,78 @@ kept_by p (does list f) h = refl
 -- ---- the writer's bit
 
 abbrev Tells : ℕ → ListName → Place → Found → Type 0
-Tells v list y f = (answer_by v (next_of y f) ≡ answer.Stepped) × Owes list (place_after (next_of y f))
+Tells v list y f = (answer_by v (next_of y f) ≡ Answer.Stepped) × Owes list (place_after (next_of y f))
 
 abbrev Share_then : Place → Found → Share
 Share_then y f = share_of (place_after (next_of y f))
 
 -- whoever clears it has to tell those that wait to read
 clears : (v : ℕ) (y : Place) (f : Found) → is_bit (share_of y) ≡ true → is_bit (Share_then y f) ≡ false → Tells v for_no_writer y f
-clears v (place.JoinNoReaders upgrade) found.Done m h = absurd (cc h)
-clears v (place.JoinNoReaders true) _ m h = absurd (cc h)
-clears v (place.JoinNoReaders false) _ m h = absurd (cc h)
-clears v (place.LookNoReaders upgrade) found.NoneLeft m h = absurd (cc h)
-clears v (place.LookNoReaders upgrade) _ m h = absurd (cc h)
-clears v (place.AwaitNoReaders upgrade) found.NoneLeft m h = absurd (cc h)
-clears v (place.AwaitNoReaders upgrade) _ m h = absurd (cc h)
-clears v (place.AskNoReaders upgrade) found.Yes m h = absurd (cc h)
-clears v (place.AskNoReaders upgrade) _ m h = absurd (cc h)
-clears v (place.LookUnlisted upgrade) found.NoneLeft m h = absurd (cc h)
-clears v (place.LookUnlisted upgrade) _ m h = absurd (cc h)
-clears v place.LeaveNoReaders f m h = absurd (cc h)
-clears v place.CancelAwait f m h = absurd (cc h)
-clears v place.Writing f m h = absurd (cc h)
-clears v (place.Unmark refused) f m h = (refl, refl)
-clears v place.DropWrite f m h = (refl, refl)
-clears v (place.Down true) f m h = (refl, refl)
-clears v (place.Down false) f m h = (refl, refl)
-clears v (place.ReleaseTurn ending.Reading) f m h = absurd (cc m)
-clears v (place.ReleaseTurn _) f m h = absurd (cc m)
+clears v (Place.JoinNoReaders upgrade) Found.Done m h = absurd (cc h)
+clears v (Place.JoinNoReaders true) _ m h = absurd (cc h)
+clears v (Place.JoinNoReaders false) _ m h = absurd (cc h)
+clears v (Place.LookNoReaders upgrade) Found.NoneLeft m h = absurd (cc h)
+clears v (Place.LookNoReaders upgrade) _ m h = absurd (cc h)
+clears v (Place.AwaitNoReaders upgrade) Found.NoneLeft m h = absurd (cc h)
+clears v (Place.AwaitNoReaders upgrade) _ m h = absurd (cc h)
+clears v (Place.AskNoReaders upgrade) Found.Yes m h = absurd (cc h)
+clears v (Place.AskNoReaders upgrade) _ m h = absurd (cc h)
+clears v (Place.LookUnlisted upgrade) Found.NoneLeft m h = absurd (cc h)
+clears v (Place.LookUnlisted upgrade) _ m h = absurd (cc h)
+clears v Place.LeaveNoReaders f m h = absurd (cc h)
+clears v Place.CancelAwait f m h = absurd (cc h)
+clears v Place.Writing f m h = absurd (cc h)
+clears v (Place.Unmark refused) f m h = (refl, refl)
+clears v Place.DropWrite f m h = (refl, refl)
+clears v (Place.Down true) f m h = (refl, refl)
+clears v (Place.Down false) f m h = (refl, refl)
+clears v (Place.ReleaseTurn Ending.Reading) f m h = absurd (cc m)
+clears v (Place.ReleaseTurn _) f m h = absurd (cc m)
 clears v _ f m h = absurd (cc m)
 
 -- only a turn's own steps change who has it
 marks_still : (memory starving : Bool) (p : ℕ) (y : Place) (f : Found) (l n : Mutex) → is_bit (share_of y) ≡ true → OnTurn memory starving p (action_of y) f l n → n ≡ l
-marks_still memory starving p (place.ReleaseTurn ending.Reading) f l n m o = absurd (cc m)
-marks_still memory starving p (place.ReleaseTurn ending.GivenBack) f l n m o = absurd (cc m)
-marks_still memory starving p (place.ReleaseTurn (ending.NotFree q)) f l n m o = absurd (cc m)
-marks_still memory starving p (place.ReleaseTurn ending.RefuseReaders) f l n m o = absurd (cc m)
-marks_still memory starving p (place.ReleaseTurn ending.RefuseMemory) f l n m o = absurd (cc m)
-marks_still memory starving p (place.ReleaseTurn ending.NotifyReaders) f l n m o = absurd (cc m)
-marks_still memory starving p (place.ReleasingTurn e) f l n m o = absurd (cc m)
-marks_still memory starving p (place.EnterTurn q) f l n m o = absurd (cc m)
-marks_still memory starving p (place.WaitTurn q) f l n m o = absurd (cc m)
-marks_still memory starving p (place.TakeTurn q) f l n m o = absurd (cc m)
-marks_still memory starving p (place.TryTurn q) f l n m o = absurd (cc m)
-marks_still memory starving p place.CancelTurn f l n m o = absurd (cc m)
-marks_still memory starving p place.CancellingTurn f l n m o = absurd (cc m)
+marks_still memory starving p (Place.ReleaseTurn Ending.Reading) f l n m o = absurd (cc m)
+marks_still memory starving p (Place.ReleaseTurn Ending.GivenBack) f l n m o = absurd (cc m)
+marks_still memory starving p (Place.ReleaseTurn (Ending.NotFree q)) f l n m o = absurd (cc m)
+marks_still memory starving p (Place.ReleaseTurn Ending.RefuseReaders) f l n m o = absurd (cc m)
+marks_still memory starving p (Place.ReleaseTurn Ending.RefuseMemory) f l n m o = absurd (cc m)
+marks_still memory starving p (Place.ReleaseTurn Ending.NotifyReaders) f l n m o = absurd (cc m)
+marks_still memory starving p (Place.ReleasingTurn e) f l n m o = absurd (cc m)
+marks_still memory starving p (Place.EnterTurn q) f l n m o = absurd (cc m)
+marks_still memory starving p (Place.WaitTurn q) f l n m o = absurd (cc m)
+marks_still memory starving p (Place.TakeTurn q) f l n m o = absurd (cc m)
+marks_still memory starving p (Place.TryTurn q) f l n m o = absurd (cc m)
+marks_still memory starving p Place.CancelTurn f l n m o = absurd (cc m)
+marks_still memory starving p Place.CancellingTurn f l n m o = absurd (cc m)
 marks_still memory starving p _ f l n m o = o
 
 -- ---- the last reader
 
-drops_reading : (x y : Place) → is_reading x ≡ true → drop_from x ≡ Some y → (y ≡ place.DropRead) ⊎ (y ≡ place.DropUpgradable)
-drops_reading place.Reading y h e = inl (sym (some_eq e))
-drops_reading place.Upgradable y h e = inr (sym (some_eq e))
-drops_reading (place.Made w) y h e = absurd (cc h)
-drops_reading place.AskNoWriter y h e = absurd (cc h)
-drops_reading (place.WaitTurn q) y h e = absurd (cc h)
-drops_reading (place.AwaitNoReaders upgrade) y h e = absurd (cc h)
-drops_reading (place.LookUnlisted true) y h e = absurd (cc h)
-drops_reading (place.LookUnlisted false) y h e = absurd (cc h)
-drops_reading place.Writing y h e = absurd (cc h)
+drops_reading : (x y : Place) → is_reading x ≡ true → drop_from x ≡ Some y → (y ≡ Place.DropRead) ⊎ (y ≡ Place.DropUpgradable)
+drops_reading Place.Reading y h e = inl (sym (some_eq e))
+drops_reading Place.Upgradable y h e = inr (sym (some_eq e))
+drops_reading (Place.Made w) y h e = absurd (cc h)
+drops_reading Place.AskNoWriter y h e = absurd (cc h)
+drops_reading (Place.WaitTurn q) y h e = absurd (cc h)
+drops_reading (Place.AwaitNoReaders upgrade) y h e = absurd (cc h)
+drops_reading (Place.LookUnlisted true) y h e = absurd (cc h)
+drops_reading (Place.LookUnlisted false) y h e = absurd (cc h)
+drops_reading Place.Writing y h e = absurd (cc h)
 drops_reading _ y h e = absurd (none_some e)
 
 drop_starts : (what : What) (x y : Place) → is_drop what ≡ true → place_for what x ≡ Some y → drop_from x ≡ Some y
-drop_starts (Begin call.Drop i) x y h e = e
+drop_starts (Begin Call.Drop i) x y h e = e
 drop_starts _ x y h e = absurd (cc h)
 
 -- the drop of a reader that finds none left has to tell the one that waits to write; one that leaves others is none of the last
-lasts : (memory : Bool) (v : ℕ) (l : RwLock) (y : Place) (f : Found) → (y ≡ place.DropRead) ⊎ (y ≡ place.DropUpgradable) → Finds memory (action_of y) f l → Tells v for_no_readers y f ⊎ ((1 < readers l) × (reads_there y ≡ 1) × (reads_there (place_after (next_of y f)) ≡ 0))
-lasts memory v l place.DropRead found.NoneLeft at e = inl (refl, refl)
-lasts memory v l place.DropRead found.SomeLeft at e = inr (e, refl, refl)
-lasts memory v l place.DropRead _ at e = absurd e
-lasts memory v l place.DropUpgradable found.NoneLeft at e = inl (refl, refl)
-lasts memory v l place.DropUpgradable found.SomeLeft at e = inr (e, refl, refl)
-lasts memory v l place.DropUpgradable _ at e = absurd e
+lasts : (memory : Bool) (v : ℕ) (l : RwLock) (y : Place) (f : Found) → (y ≡ Place.DropRead) ⊎ (y ≡ Place.DropUpgradable) → Finds memory (action_of y) f l → Tells v for_no_readers y f ⊎ ((1 < readers l) × (reads_there y ≡ 1) × (reads_there (place_after (next_of y f)) ≡ 0))
+lasts memory v l Place.DropRead Found.NoneLeft at e = inl (refl, refl)
+lasts memory v l Place.DropRead Found.SomeLeft at e = inr (e, refl, refl)
+lasts memory v l Place.DropRead _ at e = absurd e
+lasts memory v l Place.DropUpgradable Found.NoneLeft at e = inl (refl, refl)
+lasts memory v l Place.DropUpgradable Found.SomeLeft at e = inr (e, refl, refl)
+lasts memory v l Place.DropUpgradable _ at e = absurd e
 lasts memory v l y f at e = absurd (elim at as (λ _. ⊥) [ inl is ↦ cc is | inr is ↦ cc is ])
 
 -- ---- by the step of the turn
@@ -218,15 +180,15 @@ module _ (t u : Table Guarded) (m : Move) (a : Answer) (w : Within) (k : Acting 
   known = omega (arith, k.old.fits.as_many, k.inside)
 
   lands : place_at u.machine.lock.places p ≡ to
-  lands = ap (λ xs. place_at xs p) k.acts.places ∙ (get_or-set_same t.machine.lock.places p (place_after k.next) place.Out known ∙ ap place_after k.acts.next_is)
+  lands = ap (λ xs. place_at xs p) k.acts.places ∙ (get_or-set_same t.machine.lock.places p (place_after k.next) Place.Out known ∙ ap place_after k.acts.next_is)
 
   owes_then : (list : ListName) → Owes list to → has_to_tell list new p ≡ true
   owes_then list o = owes_seen u list p ∙ (ap (λ z. owes_in list (owing_at z)) lands ∙ o)
 
-  answered : answer_by v (next_of from fnd) ≡ answer.Stepped → a ≡ answer.Stepped
+  answered : answer_by v (next_of from fnd) ≡ Answer.Stepped → a ≡ Answer.Stepped
   answered e = says t u m a w k ∙ e
 
-  told_by : (list : ListName) → Tells v list from fnd → (a ≡ answer.Stepped) × (has_to_tell list new p ≡ true)
+  told_by : (list : ListName) → Tells v list from fnd → (a ≡ Answer.Stepped) × (has_to_tell list new p ≡ true)
   told_by list h = (answered h.0, owes_then list h.1)
 
   holds_not : holds c ≡ 0 → Held l → ⊥
@@ -237,28 +199,28 @@ module _ (t u : Table Guarded) (m : Move) (a : Answer) (w : Within) (k : Acting 
 
   -- whoever gives the turn up goes on
   gives_up : (y : Place) (f : Found) → fits_turn y c ≡ true → On y f → Held l → (Held n → ⊥) → Tells v for_the_turn y f
-  gives_up (place.ReleaseTurn e) (found.Turn s) link o has lost =
-      let P : TurnStep → Type 0 = λ z. Tells v for_the_turn (place.ReleaseTurn e) (found.Turn z) in
+  gives_up (Place.ReleaseTurn e) (Found.Turn s) link o has lost =
+      let P : TurnStep → Type 0 = λ z. Tells v for_the_turn (Place.ReleaseTurn e) (Found.Turn z) in
       subst P (sym (o.releases refl)) (refl, refl)
-  gives_up (place.ReleaseTurn e) _ link o has lost = absurd o
-  gives_up (place.TakeTurn q) (found.Turn s) link o has lost = absurd (lost (keeps s o.legal link has))
-  gives_up (place.TakeTurn q) _ link o has lost = absurd o
-  gives_up (place.EnterTurn q) f link o has lost = absurd (holds_not (out_free c link) has)
-  gives_up (place.TryTurn q) f link o has lost = absurd (holds_not (out_free c link) has)
-  gives_up (place.WaitTurn q) f link o has lost = absurd (holds_not (waiting_free c link) has)
-  gives_up place.CancelTurn f link o has lost = absurd (holds_not (waiting_free c link) has)
-  gives_up place.CancellingTurn f link o has lost = absurd (holds_not (cancelling_free c link) has)
-  gives_up (place.ReleasingTurn e) f link o has lost = absurd (holds_not (releasing_free c link) has)
+  gives_up (Place.ReleaseTurn e) _ link o has lost = absurd o
+  gives_up (Place.TakeTurn q) (Found.Turn s) link o has lost = absurd (lost (keeps s o.legal link has))
+  gives_up (Place.TakeTurn q) _ link o has lost = absurd o
+  gives_up (Place.EnterTurn q) f link o has lost = absurd (holds_not (out_free c link) has)
+  gives_up (Place.TryTurn q) f link o has lost = absurd (holds_not (out_free c link) has)
+  gives_up (Place.WaitTurn q) f link o has lost = absurd (holds_not (waiting_free c link) has)
+  gives_up Place.CancelTurn f link o has lost = absurd (holds_not (waiting_free c link) has)
+  gives_up Place.CancellingTurn f link o has lost = absurd (holds_not (cancelling_free c link) has)
+  gives_up (Place.ReleasingTurn e) f link o has lost = absurd (holds_not (releasing_free c link) has)
   gives_up _ f link o has lost = absurd (lost (ap holder_of o ∙ has))
 
-  turn : HasTurn old.state.turn p → (HasTurn new.state.turn p → ⊥) → (a ≡ answer.Stepped) × (has_to_tell for_the_turn new p ≡ true)
+  turn : HasTurn old.state.turn p → (HasTurn new.state.turn p → ⊥) → (a ≡ Answer.Stepped) × (has_to_tell for_the_turn new p ≡ true)
   turn has lost = told_by for_the_turn (gives_up from fnd (fit t u m a w k) k.acts.turn (holder_so (holder_of l) t.machine.lock.places p has) (λ still. lost (has_by (holder_of n) u.machine.lock.places p still)))
 
   -- by whom the turn is had
   turn_of : (z : Table Guarded) (q : ℕ) → holder_of z.machine.lock.turn ≡ Some q → (view_of z).state.turn ≡ turn_as q (share_of (place_at z.machine.lock.places q))
   turn_of z q e = ap (λ h. turn_by h z.machine.lock.places) e
 
-  bit : HasTurn old.state.turn p → is_marked old.state.turn ≡ true → is_marked new.state.turn ≡ false → (a ≡ answer.Stepped) × (has_to_tell for_no_writer new p ≡ true)
+  bit : HasTurn old.state.turn p → is_marked old.state.turn ≡ true → is_marked new.state.turn ≡ false → (a ≡ Answer.Stepped) × (has_to_tell for_no_writer new p ≡ true)
   bit has was now =
       let held = holder_so (holder_of l) t.machine.lock.places p has in
       let before : is_bit (share_of from) ≡ true = ap is_bit k.moves.share ∙ (sym (bit_as p (share_of x)) ∙ (sym (ap is_marked (turn_of t p held)) ∙ was)) in
@@ -266,16 +228,16 @@ module _ (t u : Table Guarded) (m : Move) (a : Answer) (w : Within) (k : Acting 
       let after : is_bit (share_of to) ≡ false = ap (λ z. is_bit (share_of z)) (sym lands) ∙ (sym (bit_as p (share_of (place_at u.machine.lock.places p))) ∙ (sym (ap is_marked (turn_of u p still)) ∙ now)) in
       told_by for_no_writer (clears v from fnd before after)
 
-  last_reader : is_drop m.what ≡ true → reads old p ≡ true → how_many_read new ≡ 0 → (a ≡ answer.Stepped) × (has_to_tell for_no_readers new p ≡ true)
+  last_reader : is_drop m.what ≡ true → reads old p ≡ true → how_many_read new ≡ 0 → (a ≡ Answer.Stepped) × (has_to_tell for_no_readers new p ≡ true)
   last_reader drops reading none =
       let here : is_reading x ≡ true = sym (view.reads_at t.machine.lock.places p) ∙ reading in
       let at = drops_reading x from here (drop_starts m.what x from drops k.starts) in
-      elim (lasts memory v t.machine.lock from fnd at k.acts.finds) as (λ _. (a ≡ answer.Stepped) × (has_to_tell for_no_readers new p ≡ true)) [
+      elim (lasts memory v t.machine.lock from fnd at k.acts.finds) as (λ _. (a ≡ Answer.Stepped) × (has_to_tell for_no_readers new p ≡ true)) [
         | inl last ↦ told_by for_no_readers last
         | inr others ↦ (let left : readers u.machine.lock ≡ 0 = sym (view.how_many-read u.machine.lock.places) ∙ none in
             let places : u.machine.lock.places ≡ set t.machine.lock.places p to = k.acts.places ∙ ap (λ z. set t.machine.lock.places p (place_after z)) k.acts.next_is in
             let sum : readers u.machine.lock ≡ sum_by reads_there (set t.machine.lock.places p to) = ap (sum_by reads_there) places in
-            absurd (omega (arith, left, sum, sum_by-set reads_there t.machine.lock.places p to place.Out known, k.moves.same.reading, others.0, others.1, others.2)))
+            absurd (omega (arith, left, sum, sum_by-set reads_there t.machine.lock.places p to Place.Out known, k.moves.same.reading, others.0, others.1, others.2)))
       ]
 
   -- ---- who has to tell
@@ -284,41 +246,41 @@ module _ (t u : Table Guarded) (m : Move) (a : Answer) (w : Within) (k : Acting 
   Told list y f = (list_of new list ≡ notified (list_of old list) 1) ⊎ Tells v list y f
 
   tells_by : (list : ListName) (y : Place) (f : Found) → Owes list y → fits_turn y c ≡ true → On y f → OnNoWriter p (action_of y) f t.machine.lock.no_writer u.machine.lock.no_writer → OnNoReaders p (action_of y) f t.machine.lock.no_readers u.machine.lock.no_readers → Told list y f
-  tells_by for_the_turn (place.ReleasingTurn e) (found.Turn s) o link g w r = inl (g.legal.entries ∙ ap (λ z. mutex.entries_after p z l.entries) (g.legal.releases link))
-  tells_by for_the_turn (place.ReleasingTurn e) _ o link g w r = absurd g
-  tells_by for_the_turn (place.ReleaseTurn e) f o link g w r = absurd (cc o)
-  tells_by for_the_turn place.DropReadNotify f o link g w r = absurd (cc o)
-  tells_by for_the_turn place.DropUpgradableNotify f o link g w r = absurd (cc o)
-  tells_by for_the_turn (place.UnmarkNotify refused) f o link g w r = absurd (cc o)
-  tells_by for_the_turn place.DownNotify f o link g w r = absurd (cc o)
-  tells_by for_the_turn place.DowngradeNotify f o link g w r = absurd (cc o)
-  tells_by for_no_writer (place.ReleaseTurn ending.NotifyReaders) (found.Turn s) o link g w r =
-      let P : TurnStep → Type 0 = λ z. Tells v for_no_writer (place.ReleaseTurn ending.NotifyReaders) (found.Turn z) in
+  tells_by for_the_turn (Place.ReleasingTurn e) (Found.Turn s) o link g w r = inl (g.legal.entries ∙ ap (λ z. mutex.entries_after p z l.entries) (g.legal.releases link))
+  tells_by for_the_turn (Place.ReleasingTurn e) _ o link g w r = absurd g
+  tells_by for_the_turn (Place.ReleaseTurn e) f o link g w r = absurd (cc o)
+  tells_by for_the_turn Place.DropReadNotify f o link g w r = absurd (cc o)
+  tells_by for_the_turn Place.DropUpgradableNotify f o link g w r = absurd (cc o)
+  tells_by for_the_turn (Place.UnmarkNotify refused) f o link g w r = absurd (cc o)
+  tells_by for_the_turn Place.DownNotify f o link g w r = absurd (cc o)
+  tells_by for_the_turn Place.DowngradeNotify f o link g w r = absurd (cc o)
+  tells_by for_no_writer (Place.ReleaseTurn Ending.NotifyReaders) (Found.Turn s) o link g w r =
+      let P : TurnStep → Type 0 = λ z. Tells v for_no_writer (Place.ReleaseTurn Ending.NotifyReaders) (Found.Turn z) in
       inr (subst P (sym (g.releases refl)) (refl, refl))
-  tells_by for_no_writer (place.ReleasingTurn ending.NotifyReaders) (found.Turn s) o link g w r =
-      let P : TurnStep → Type 0 = λ z. Tells v for_no_writer (place.ReleasingTurn ending.NotifyReaders) (found.Turn z) in
+  tells_by for_no_writer (Place.ReleasingTurn Ending.NotifyReaders) (Found.Turn s) o link g w r =
+      let P : TurnStep → Type 0 = λ z. Tells v for_no_writer (Place.ReleasingTurn Ending.NotifyReaders) (Found.Turn z) in
       inr (subst P (sym (g.leads.releases link).0) (refl, refl))
-  tells_by for_no_writer (place.ReleaseTurn ending.NotifyReaders) _ o link g w r = absurd g
-  tells_by for_no_writer (place.ReleasingTurn ending.NotifyReaders) _ o link g w r = absurd g
-  tells_by for_no_writer (place.ReleaseTurn _) f o link g w r = absurd (cc o)
-  tells_by for_no_writer (place.ReleasingTurn _) f o link g w r = absurd (cc o)
-  tells_by for_no_writer (place.UnmarkNotify refused) found.Done o link g w r = inl w
-  tells_by for_no_writer (place.UnmarkNotify refused) _ o link g w r = absurd w
-  tells_by for_no_writer place.DownNotify found.Done o link g w r = inl w
-  tells_by for_no_writer place.DownNotify _ o link g w r = absurd w
-  tells_by for_no_writer place.DowngradeNotify found.Done o link g w r = inl w
-  tells_by for_no_writer place.DowngradeNotify _ o link g w r = absurd w
-  tells_by for_no_writer place.DropReadNotify f o link g w r = absurd (cc o)
-  tells_by for_no_writer place.DropUpgradableNotify f o link g w r = absurd (cc o)
-  tells_by for_no_readers place.DropReadNotify found.Done o link g w r = inl r
-  tells_by for_no_readers place.DropReadNotify _ o link g w r = absurd r
-  tells_by for_no_readers place.DropUpgradableNotify found.Done o link g w r = inl r
-  tells_by for_no_readers place.DropUpgradableNotify _ o link g w r = absurd r
-  tells_by for_no_readers (place.ReleaseTurn e) f o link g w r = absurd (cc o)
-  tells_by for_no_readers (place.ReleasingTurn e) f o link g w r = absurd (cc o)
-  tells_by for_no_readers (place.UnmarkNotify refused) f o link g w r = absurd (cc o)
-  tells_by for_no_readers place.DownNotify f o link g w r = absurd (cc o)
-  tells_by for_no_readers place.DowngradeNotify f o link g w r = absurd (cc o)
+  tells_by for_no_writer (Place.ReleaseTurn Ending.NotifyReaders) _ o link g w r = absurd g
+  tells_by for_no_writer (Place.ReleasingTurn Ending.NotifyReaders) _ o link g w r = absurd g
+  tells_by for_no_writer (Place.ReleaseTurn _) f o link g w r = absurd (cc o)
+  tells_by for_no_writer (Place.ReleasingTurn _) f o link g w r = absurd (cc o)
+  tells_by for_no_writer (Place.UnmarkNotify refused) Found.Done o link g w r = inl w
+  tells_by for_no_writer (Place.UnmarkNotify refused) _ o link g w r = absurd w
+  tells_by for_no_writer Place.DownNotify Found.Done o link g w r = inl w
+  tells_by for_no_writer Place.DownNotify _ o link g w r = absurd w
+  tells_by for_no_writer Place.DowngradeNotify Found.Done o link g w r = inl w
+  tells_by for_no_writer Place.DowngradeNotify _ o link g w r = absurd w
+  tells_by for_no_writer Place.DropReadNotify f o link g w r = absurd (cc o)
+  tells_by for_no_writer Place.DropUpgradableNotify f o link g w r = absurd (cc o)
+  tells_by for_no_readers Place.DropReadNotify Found.Done o link g w r = inl r
+  tells_by for_no_readers Place.DropReadNotify _ o link g w r = absurd r
+  tells_by for_no_readers Place.DropUpgradableNotify Found.Done o link g w r = inl r
+  tells_by for_no_readers Place.DropUpgradableNotify _ o link g w r = absurd r
+  tells_by for_no_readers (Place.ReleaseTurn e) f o link g w r = absurd (cc o)
+  tells_by for_no_readers (Place.ReleasingTurn e) f o link g w r = absurd (cc o)
+  tells_by for_no_readers (Place.UnmarkNotify refused) f o link g w r = absurd (cc o)
+  tells_by for_no_readers Place.DownNotify f o link g w r = absurd (cc o)
+  tells_by for_no_readers Place.DowngradeNotify f o link g w r = absurd (cc o)
   tells_by list _ f o link g w r = not_owed list o
 
   -- it acts where it stands
@@ -333,9 +295,9 @@ module _ (t u : Table Guarded) (m : Move) (a : Answer) (w : Within) (k : Acting 
 
   -- at once for the turn
   turn_now : (y : Place) (f : Found) → Owes for_the_turn y → Told for_the_turn y f → fits_turn y c ≡ true → On y f → new.turn_list ≡ notified old.turn_list 1
-  turn_now (place.ReleasingTurn e) (found.Turn s) o told link g = g.legal.entries ∙ ap (λ z. mutex.entries_after p z l.entries) (g.legal.releases link)
-  turn_now (place.ReleasingTurn e) _ o told link g = absurd g
-  turn_now (place.ReleaseTurn e) f o told link g = absurd (cc o)
+  turn_now (Place.ReleasingTurn e) (Found.Turn s) o told link g = g.legal.entries ∙ ap (λ z. mutex.entries_after p z l.entries) (g.legal.releases link)
+  turn_now (Place.ReleasingTurn e) _ o told link g = absurd g
+  turn_now (Place.ReleaseTurn e) f o told link g = absurd (cc o)
   turn_now _ f o told link g = absurd (cc o)
 
   pub releases : TellsOnRelease old m a new
@@ -343,9 +305,9 @@ module _ (t u : Table Guarded) (m : Move) (a : Answer) (w : Within) (k : Acting 
     turn = turn;
     bit = bit;
     last_reader = last_reader;
-    tells = λ list h possible. elim (told_now list h) as (λ _. (list_of new list ≡ notified (list_of old list) 1) ⊎ ((a ≡ answer.Stepped) × (has_to_tell list new p ≡ true))) [ inl told ↦ inl told | inr later ↦ inr (told_by list later) ];
+    tells = λ list h possible. elim (told_now list h) as (λ _. (list_of new list ≡ notified (list_of old list) 1) ⊎ ((a ≡ Answer.Stepped) × (has_to_tell list new p ≡ true))) [ inl told ↦ inl told | inr later ↦ inr (told_by list later) ];
     tells_at_once = λ h possible. turn_now from fnd (owed_here for_the_turn (sym (owes_seen t for_the_turn p) ∙ h)) (told_now for_the_turn h) (fit t u m a w k) k.acts.turn;
-    others = λ list q apart. owes_seen u list q ∙ (ap (λ z. owes_in list (owing_at z)) (ap (λ xs. place_at xs q) k.acts.places ∙ get_or-set_other t.machine.lock.places p q (place_after k.next) place.Out apart) ∙ sym (owes_seen t list q));
+    others = λ list q apart. owes_seen u list q ∙ (ap (λ z. owes_in list (owing_at z)) (ap (λ xs. place_at xs q) k.acts.places ∙ get_or-set_other t.machine.lock.places p q (place_after k.next) Place.Out apart) ∙ sym (owes_seen t list q));
   }
 
 -- ---- where nothing is given back

@@ -1,41 +1,10 @@
 -- What each party has, by how it stands.
-use Rattle.std.proofs.Common.{◌≡◌, ◌≢◌, ℕ, ◌≤◌, ◌⊎◌, inl, inr, Bool, true, false, List, Option, Some, None, refl, arith, ap, sym, subst, ◌∙◌}
-use Rattle.std.proofs.lemmas.Bool.{and_parts}
-use Rattle.world_base.specs.declared.moves.Answer.{Answer}
-use Rattle.world_base.specs.declared.moves.Answer.TheVariants as answer
-use Rattle.lock_program.specs.declared.refusal.Refusal.TheVariants as refusal
-use Rattle.world_base.specs.declared.standing.Kind.{Kind}
-use Rattle.world_base.specs.declared.standing.Kind.TheVariants as kind
-use Rattle.world_base.specs.declared.standing.Rest.{Rest}
-use Rattle.world_base.specs.declared.standing.Rest.TheVariants as rest
-use Rattle.world_base.specs.declared.standing.Stage.{Stage}
-use Rattle.world_base.specs.declared.standing.Stage.TheVariants.{Outside, Inside, Forgotten}
-use Rattle.world_base.specs.declared.standing.Within.{Within}
-use Rattle.world_base.specs.Rights.{Right, read, upgradable, write}
-use Rattle.world_base.specs.Standings.{inside}
-use Rattle.lock_program.specs.declared.end.End.{End as TurnEnd}
-use Rattle.lock_program.specs.declared.end.End.TheVariants as turn_end
-use Rattle.world_mutex.specs.machine.Course.{Course as TurnCourse, decision, is_out, is_holding, holds, listed}
-use Rattle.world_mutex.specs.machine.Mutex.{course_at as turn_at, is_holder, is_counted, holder_of}
-use Rattle.world_mutex.proofs.of_machine.callers.Callers.{out_unlisted, holding_unlisted, out_free, out_unstarved, holding_unstarved, waiting_free}
+use Rattle.world_rwlock.proofs.Prelude.{◌≡◌, ◌≢◌, ℕ, ◌≤◌, ◌⊎◌, inl, inr, Bool, true, false, List, Option, Some, None, refl, arith, ap, sym, subst, ◌∙◌, and_parts, Answer, Refusal, Kind, Rest, Stage, Outside, Inside, Forgotten, Within, Right, read, upgradable, write, inside, End as TurnEnd, TurnCourse, decision, is_out, is_holding, holds, listed, turn_at, is_holder, is_counted, holder_of, out_unlisted, holding_unlisted, out_free, out_unstarved, holding_unstarved, waiting_free, Ending, Place, has_turn, in_no_writer, in_no_readers, fits_turn, RwLock, place_at, IsRwLock, nobody, passes, is_upgradable, waits_to_write, World, standing_of, sought_by, is_upgrader, HasTurn, IsClear, entries_in, HasSought, HasNothing, HasItsOwn, stage_at, Course, drops, downgrades, course_of, course_until, is_on_course, sought_at, is_inside, goes_with, verdict_of, Share, passing, upgrading, waiting, writing, turn_as, share_of, turn_by, is_reading, is_upgrade, verdict, verdict_until, refused_by, standing_at, seen, standings_at, inside_or_past}
 use Rattle.world_mutex.proofs.of_machine.callers.Holders as sees
-use Rattle.lock_program.specs.declared.rwlock.Ending.{Ending}
-use Rattle.lock_program.specs.declared.rwlock.Ending.TheVariants as ending
-use Rattle.lock_program.specs.declared.rwlock.Place.{Place}
-use Rattle.lock_program.specs.declared.rwlock.Place.TheVariants as place
-use Rattle.world_rwlock.specs.machine.Roles.{has_turn, in_no_writer, in_no_readers, fits_turn}
-use Rattle.world_rwlock.specs.machine.Machine.{RwLock, place_at}
-use Rattle.world_rwlock.specs.machine.Acts.{IsRwLock}
 use Rattle.world_rwlock.specs.State as state
-use Rattle.world_rwlock.specs.State.{Turn, nobody, passes, is_upgradable, waits_to_write, writes, World, standing_of, sought_by, is_upgrader, HasTurn, IsClear, entries_in}
-use Rattle.world_rwlock.specs.Legal.{HasSought, HasNothing, HasItsOwn}
-use Rattle.world_base.specs.table.Stages.{stage_at}
-use Rattle.world_rwlock.specs.Stages.{Course, drops, downgrades, course_of, course_until, is_on_course, sought_at, is_inside, goes_with}
+use Rattle.world_rwlock.specs.State.{Turn, writes}
 use Rattle.world_rwlock.specs.Stages as plans
-use Rattle.world_rwlock.specs.View.{verdict_of, Share, passing, upgrading, waiting, writing, turn_as, share_of, turn_by, is_reading, is_upgrade, verdict, verdict_until, refused_by, standing_at, seen}
 use Rattle.world_rwlock.proofs.table.Begun.{at_out, at_future, at_guard}
-use Rattle.world_base.proofs.of_table.Views.{standings_at}
-use Rattle.world_base.proofs.of_table.Past.{inside_or_past}
 use Rattle.world_rwlock.proofs.table.Views as view
 use Rattle.world_rwlock.proofs.table.Views.{Fits}
 
@@ -81,79 +50,79 @@ waits_as t p waiting e h = refl
 waits_as t p writing e h = absurd (cc)
 
 -- a guard that is downgraded reads
-downgraded_until : (e : Ending) → course_until e ≡ downgrades → is_reading (place.ReleaseTurn e) ≡ true
-downgraded_until ending.Reading c = refl
-downgraded_until ending.GivenBack c = absurd (cc)
-downgraded_until (ending.NotFree q) c = absurd (cc)
-downgraded_until ending.RefuseReaders c = absurd (cc)
-downgraded_until ending.RefuseMemory c = absurd (cc)
-downgraded_until ending.NotifyReaders c = refl
+downgraded_until : (e : Ending) → course_until e ≡ downgrades → is_reading (Place.ReleaseTurn e) ≡ true
+downgraded_until Ending.Reading c = refl
+downgraded_until Ending.GivenBack c = absurd (cc)
+downgraded_until (Ending.NotFree q) c = absurd (cc)
+downgraded_until Ending.RefuseReaders c = absurd (cc)
+downgraded_until Ending.RefuseMemory c = absurd (cc)
+downgraded_until Ending.NotifyReaders c = refl
 
 downgraded_reads : (x : Place) → is_inside x ≡ true → course_of x ≡ downgrades → is_reading x ≡ true
-downgraded_reads (place.ReleaseTurn e) i c = downgraded_until e c
-downgraded_reads (place.ReleasingTurn e) i c = downgraded_until e c
-downgraded_reads (place.Down keeps) i c = absurd (cc)
-downgraded_reads place.DownNotify i c = refl
-downgraded_reads place.DowngradeNotify i c = refl
-downgraded_reads (place.RefuseNotify refusal.Memory) i c = absurd (cc)
-downgraded_reads (place.RefuseNotify refusal.Readers) i c = absurd (cc)
-downgraded_reads (place.RefuseNotify _) i c = absurd (cc)
-downgraded_reads (place.Add true) i c = absurd (cc)
-downgraded_reads (place.Add false) i c = absurd (cc)
-downgraded_reads (place.Unmark true) i c = absurd (cc)
-downgraded_reads (place.Unmark false) i c = absurd (cc)
-downgraded_reads (place.UnmarkNotify true) i c = absurd (cc)
-downgraded_reads (place.UnmarkNotify false) i c = absurd (cc)
+downgraded_reads (Place.ReleaseTurn e) i c = downgraded_until e c
+downgraded_reads (Place.ReleasingTurn e) i c = downgraded_until e c
+downgraded_reads (Place.Down keeps) i c = absurd (cc)
+downgraded_reads Place.DownNotify i c = refl
+downgraded_reads Place.DowngradeNotify i c = refl
+downgraded_reads (Place.RefuseNotify Refusal.Memory) i c = absurd (cc)
+downgraded_reads (Place.RefuseNotify Refusal.Readers) i c = absurd (cc)
+downgraded_reads (Place.RefuseNotify _) i c = absurd (cc)
+downgraded_reads (Place.Add true) i c = absurd (cc)
+downgraded_reads (Place.Add false) i c = absurd (cc)
+downgraded_reads (Place.Unmark true) i c = absurd (cc)
+downgraded_reads (Place.Unmark false) i c = absurd (cc)
+downgraded_reads (Place.UnmarkNotify true) i c = absurd (cc)
+downgraded_reads (Place.UnmarkNotify false) i c = absurd (cc)
 downgraded_reads _ i c = absurd (cc)
 
-downgrade_course : (k : Kind) (r : Rest) (c : Course) → is_on_course k r c ≡ true → k ≡ kind.Downgrade → c ≡ downgrades
-downgrade_course kind.FirstPoll r c h e = absurd (cc)
-downgrade_course kind.LaterPoll r c h e = absurd (cc)
-downgrade_course kind.Try r c h e = absurd (cc)
-downgrade_course kind.Drop r c h e = absurd (cc)
-downgrade_course kind.Upgrade r c h e = absurd (cc)
-downgrade_course kind.TryUpgrade r c h e = absurd (cc)
-downgrade_course kind.Downgrade rest.Holding downgrades h e = refl
-downgrade_course kind.Downgrade _ _ h e = absurd (cc)
+downgrade_course : (k : Kind) (r : Rest) (c : Course) → is_on_course k r c ≡ true → k ≡ Kind.Downgrade → c ≡ downgrades
+downgrade_course Kind.FirstPoll r c h e = absurd (cc)
+downgrade_course Kind.LaterPoll r c h e = absurd (cc)
+downgrade_course Kind.Try r c h e = absurd (cc)
+downgrade_course Kind.Drop r c h e = absurd (cc)
+downgrade_course Kind.Upgrade r c h e = absurd (cc)
+downgrade_course Kind.TryUpgrade r c h e = absurd (cc)
+downgrade_course Kind.Downgrade Rest.Holding downgrades h e = refl
+downgrade_course Kind.Downgrade _ _ h e = absurd (cc)
 downgrade_course _ _ _ h e = absurd (cc)
 
-drop_course : (k : Kind) (r : Rest) (c : Course) → is_on_course k r c ≡ true → k ≡ kind.Drop → c ≡ drops
-drop_course kind.FirstPoll r c h e = absurd (cc)
-drop_course kind.LaterPoll r c h e = absurd (cc)
-drop_course kind.Try r c h e = absurd (cc)
-drop_course kind.Downgrade r c h e = absurd (cc)
-drop_course kind.Upgrade r c h e = absurd (cc)
-drop_course kind.TryUpgrade r c h e = absurd (cc)
-drop_course kind.Drop rest.Pending drops h e = refl
-drop_course kind.Drop rest.Holding drops h e = refl
-drop_course kind.Drop _ _ h e = absurd (cc)
+drop_course : (k : Kind) (r : Rest) (c : Course) → is_on_course k r c ≡ true → k ≡ Kind.Drop → c ≡ drops
+drop_course Kind.FirstPoll r c h e = absurd (cc)
+drop_course Kind.LaterPoll r c h e = absurd (cc)
+drop_course Kind.Try r c h e = absurd (cc)
+drop_course Kind.Downgrade r c h e = absurd (cc)
+drop_course Kind.Upgrade r c h e = absurd (cc)
+drop_course Kind.TryUpgrade r c h e = absurd (cc)
+drop_course Kind.Drop Rest.Pending drops h e = refl
+drop_course Kind.Drop Rest.Holding drops h e = refl
+drop_course Kind.Drop _ _ h e = absurd (cc)
 drop_course _ _ _ h e = absurd (cc)
 
 -- a drop and a downgrade are decided from their first step on
 decided_so : (v : ℕ) (x : Place) (t : TurnCourse) → is_inside x ≡ true → verdict v x t ≡ None → (course_of x ≡ drops → ⊥) × (course_of x ≡ downgrades → ⊥)
-decided_so v (place.RefuseNotify r) t i n = absurd (cc)
-decided_so v (place.ReleaseTurn e) t i n = absurd (cc)
-decided_so v (place.ReleasingTurn e) t i n = absurd (cc)
-decided_so v (place.Unmark true) t i n = absurd (cc)
-decided_so v (place.Unmark false) t i n = absurd (cc)
-decided_so v (place.UnmarkNotify true) t i n = absurd (cc)
-decided_so v (place.UnmarkNotify false) t i n = absurd (cc)
-decided_so v (place.Down keeps) t i n = absurd (cc)
-decided_so v (place.Made w) t i n = absurd (cc)
-decided_so v place.Out t i n = absurd (cc)
-decided_so v place.CancelRead t i n = absurd (cc)
-decided_so v place.CancelTurn t i n = absurd (cc)
-decided_so v place.CancellingTurn t i n = absurd (cc)
-decided_so v place.DropRead t i n = absurd (cc)
-decided_so v place.DropReadNotify t i n = absurd (cc)
-decided_so v place.DropUpgradable t i n = absurd (cc)
-decided_so v place.DropUpgradableNotify t i n = absurd (cc)
-decided_so v place.DropWrite t i n = absurd (cc)
-decided_so v place.CancelAwait t i n = absurd (cc)
-decided_so v place.DownNotify t i n = absurd (cc)
-decided_so v place.DowngradeNotify t i n = absurd (cc)
-decided_so v (place.Add true) t i n = ((λ c. cc), (λ c. cc))
-decided_so v (place.Add false) t i n = ((λ c. cc), (λ c. cc))
+decided_so v (Place.RefuseNotify r) t i n = absurd (cc)
+decided_so v (Place.ReleaseTurn e) t i n = absurd (cc)
+decided_so v (Place.ReleasingTurn e) t i n = absurd (cc)
+decided_so v (Place.Unmark true) t i n = absurd (cc)
+decided_so v (Place.Unmark false) t i n = absurd (cc)
+decided_so v (Place.UnmarkNotify true) t i n = absurd (cc)
+decided_so v (Place.UnmarkNotify false) t i n = absurd (cc)
+decided_so v (Place.Down keeps) t i n = absurd (cc)
+decided_so v (Place.Made w) t i n = absurd (cc)
+decided_so v Place.Out t i n = absurd (cc)
+decided_so v Place.CancelRead t i n = absurd (cc)
+decided_so v Place.CancelTurn t i n = absurd (cc)
+decided_so v Place.CancellingTurn t i n = absurd (cc)
+decided_so v Place.DropRead t i n = absurd (cc)
+decided_so v Place.DropReadNotify t i n = absurd (cc)
+decided_so v Place.DropUpgradable t i n = absurd (cc)
+decided_so v Place.DropUpgradableNotify t i n = absurd (cc)
+decided_so v Place.DropWrite t i n = absurd (cc)
+decided_so v Place.CancelAwait t i n = absurd (cc)
+decided_so v Place.DownNotify t i n = absurd (cc)
+decided_so v Place.DowngradeNotify t i n = absurd (cc)
+decided_so v (Place.Add true) t i n = ((λ c. cc), (λ c. cc))
+decided_so v (Place.Add false) t i n = ((λ c. cc), (λ c. cc))
 decided_so v _ t i n = ((λ c. cc), (λ c. cc))
 
 -- an undecided party doesn't read, has the turn for no right, and waits to write only if it seeks to
@@ -163,26 +132,26 @@ pub record IsUndecided (x : Place) : Type 0 where
   pub seeks : share_of x ≡ waiting → sought_at x ≡ Some write
 
 -- no call is decided on Pending before that answer
-until_not_pending : (e : Ending) → Some (verdict_until e) ≡ Some answer.Pending → ⊥
-until_not_pending ending.GivenBack h = absurd (cc)
-until_not_pending (ending.NotFree q) h = absurd (cc)
-until_not_pending ending.RefuseReaders h = absurd (cc)
-until_not_pending ending.RefuseMemory h = absurd (cc)
-until_not_pending ending.Reading h = absurd (cc)
-until_not_pending ending.NotifyReaders h = absurd (cc)
+until_not_pending : (e : Ending) → Some (verdict_until e) ≡ Some Answer.Pending → ⊥
+until_not_pending Ending.GivenBack h = absurd (cc)
+until_not_pending (Ending.NotFree q) h = absurd (cc)
+until_not_pending Ending.RefuseReaders h = absurd (cc)
+until_not_pending Ending.RefuseMemory h = absurd (cc)
+until_not_pending Ending.Reading h = absurd (cc)
+until_not_pending Ending.NotifyReaders h = absurd (cc)
 
-refused_not_pending : (o : Option TurnEnd) → refused_by o ≡ Some answer.Pending → ⊥
-refused_not_pending (Some (turn_end.Refused r)) h = absurd (cc)
+refused_not_pending : (o : Option TurnEnd) → refused_by o ≡ Some Answer.Pending → ⊥
+refused_not_pending (Some (TurnEnd.Refused r)) h = absurd (cc)
 refused_not_pending _ h = absurd (cc)
 
-pub pending_undecided : (v : ℕ) (x : Place) (t : TurnCourse) → verdict v x t ≡ Some answer.Pending → ⊥
-pending_undecided v (place.TakeTurn p) t h = refused_not_pending (decision t) h
-pending_undecided v (place.ReleaseTurn e) t h = until_not_pending e h
-pending_undecided v (place.ReleasingTurn e) t h = until_not_pending e h
-pending_undecided v (place.Unmark true) t h = absurd (cc)
-pending_undecided v (place.Unmark false) t h = absurd (cc)
-pending_undecided v (place.UnmarkNotify true) t h = absurd (cc)
-pending_undecided v (place.UnmarkNotify false) t h = absurd (cc)
+pub pending_undecided : (v : ℕ) (x : Place) (t : TurnCourse) → verdict v x t ≡ Some Answer.Pending → ⊥
+pending_undecided v (Place.TakeTurn p) t h = refused_not_pending (decision t) h
+pending_undecided v (Place.ReleaseTurn e) t h = until_not_pending e h
+pending_undecided v (Place.ReleasingTurn e) t h = until_not_pending e h
+pending_undecided v (Place.Unmark true) t h = absurd (cc)
+pending_undecided v (Place.Unmark false) t h = absurd (cc)
+pending_undecided v (Place.UnmarkNotify true) t h = absurd (cc)
+pending_undecided v (Place.UnmarkNotify false) t h = absurd (cc)
 pending_undecided v _ t h = absurd (cc)
 
 decided_as : (w u : Within) (o p : Option Answer) → inside w o ≡ inside u p → o ≡ p
@@ -195,12 +164,12 @@ module _ (l : RwLock) (ss : List Stage) (opening : ℕ) (v : ℕ) (laws : IsRwLo
   pub stood : (q : ℕ) → standing_of w q ≡ standing_at v (stage_at ss q) (place_at l.places q) (turn_at l.turn.courses q)
   stood q = standings_at (verdict_of (record { lock = l; value = v })) ss q
 
-  stands_pending : (s : Stage) (x : Place) (t : TurnCourse) (u : Within) → standing_at v s x t ≢ inside u (Some answer.Pending)
+  stands_pending : (s : Stage) (x : Place) (t : TurnCourse) (u : Within) → standing_at v s x t ≢ inside u (Some Answer.Pending)
   stands_pending (Outside r) x t u e = absurd (cc)
-  stands_pending (Inside w) x t u e = pending_undecided v x t (decided_as w u (verdict v x t) (Some answer.Pending) e)
+  stands_pending (Inside w) x t u e = pending_undecided v x t (decided_as w u (verdict v x t) (Some Answer.Pending) e)
   stands_pending Forgotten x t u e = absurd (cc)
 
-  pub not_pending : (q : ℕ) (u : Within) → standing_of w q ≢ inside u (Some answer.Pending)
+  pub not_pending : (q : ℕ) (u : Within) → standing_of w q ≢ inside u (Some Answer.Pending)
   not_pending q u e = stands_pending (stage_at ss q) (place_at l.places q) (turn_at l.turn.courses q) u (sym (stood q) ∙ e)
 
   pub reads_as : (q : ℕ) → state.reads w q ≡ is_reading (place_at l.places q)
@@ -262,9 +231,9 @@ module _ (l : RwLock) (ss : List Stage) (opening : ℕ) (v : ℕ) (laws : IsRwLo
 
   guard_has : (q : ℕ) (x : Place) → plans.is_guard x ≡ true → place_at l.places q ≡ x → IsClear w q × HasSought w q × (is_upgrader w q ≡ false)
   guard_has q = at_guard (λ x. place_at l.places q ≡ x → IsClear w q × HasSought w q × (is_upgrader w q ≡ false)) (record {
-    reading = λ e. let o = fit_at q place.Reading e in (out_clear q place.Reading e refl refl o, reading q place.Reading e refl o refl, upgrades_as q ∙ ap is_upgrade e);
-    upgradable = λ e. let o = fit_at q place.Upgradable e in (holding_clear q place.Upgradable e refl refl o, upgradable_has q place.Upgradable e refl refl refl refl, upgrades_as q ∙ ap is_upgrade e);
-    writing = λ e. let o = fit_at q place.Writing e in (holding_clear q place.Writing e refl refl o, writing_has q place.Writing e refl refl refl refl, upgrades_as q ∙ ap is_upgrade e);
+    reading = λ e. let o = fit_at q Place.Reading e in (out_clear q Place.Reading e refl refl o, reading q Place.Reading e refl o refl, upgrades_as q ∙ ap is_upgrade e);
+    upgradable = λ e. let o = fit_at q Place.Upgradable e in (holding_clear q Place.Upgradable e refl refl o, upgradable_has q Place.Upgradable e refl refl refl refl, upgrades_as q ∙ ap is_upgrade e);
+    writing = λ e. let o = fit_at q Place.Writing e in (holding_clear q Place.Writing e refl refl o, writing_has q Place.Writing e refl refl refl refl, upgrades_as q ∙ ap is_upgrade e);
   })
 
   abbrev IsFuture : ℕ → Type 0
@@ -272,16 +241,16 @@ module _ (l : RwLock) (ss : List Stage) (opening : ℕ) (v : ℕ) (laws : IsRwLo
 
   future_has : (q : ℕ) (x : Place) → plans.is_future x ≡ true → place_at l.places q ≡ x → IsFuture q
   future_has q = at_future (λ x. place_at l.places q ≡ x → IsFuture q) (record {
-    made = λ m e. (reads_at q (place.Made m) e, inr (no_turn q (out_free (turn_at l.turn.courses q) (fit_at q (place.Made m) e)), upgrades_as q ∙ ap is_upgrade e));
-    no_writer = λ e. (reads_at q place.AskNoWriter e, inr (no_turn q (out_free (turn_at l.turn.courses q) (fit_at q place.AskNoWriter e)), upgrades_as q ∙ ap is_upgrade e));
-    turn = λ p e. (reads_at q (place.WaitTurn p) e, inr (no_turn q (waiting_free (turn_at l.turn.courses q) (fit_at q (place.WaitTurn p) e)), upgrades_as q ∙ ap is_upgrade e));
-    no_readers = λ u e. (reads_at q (place.AwaitNoReaders u) e, inl (turn_at_place q (place.AwaitNoReaders u) e refl, seeks_just q (place.AwaitNoReaders u) write e refl));
-    upgrade = λ e. (reads_at q (place.LookUnlisted true) e, inl (turn_at_place q (place.LookUnlisted true) e refl, seeks_just q (place.LookUnlisted true) write e refl));
+    made = λ m e. (reads_at q (Place.Made m) e, inr (no_turn q (out_free (turn_at l.turn.courses q) (fit_at q (Place.Made m) e)), upgrades_as q ∙ ap is_upgrade e));
+    no_writer = λ e. (reads_at q Place.AskNoWriter e, inr (no_turn q (out_free (turn_at l.turn.courses q) (fit_at q Place.AskNoWriter e)), upgrades_as q ∙ ap is_upgrade e));
+    turn = λ p e. (reads_at q (Place.WaitTurn p) e, inr (no_turn q (waiting_free (turn_at l.turn.courses q) (fit_at q (Place.WaitTurn p) e)), upgrades_as q ∙ ap is_upgrade e));
+    no_readers = λ u e. (reads_at q (Place.AwaitNoReaders u) e, inl (turn_at_place q (Place.AwaitNoReaders u) e refl, seeks_just q (Place.AwaitNoReaders u) write e refl));
+    upgrade = λ e. (reads_at q (Place.LookUnlisted true) e, inl (turn_at_place q (Place.LookUnlisted true) e refl, seeks_just q (Place.LookUnlisted true) write e refl));
   })
 
   out_has : (q : ℕ) (x : Place) → plans.is_out x ≡ true → place_at l.places q ≡ x → IsClear w q × HasNothing w q × (is_upgrader w q ≡ false)
   out_has q = at_out (λ x. place_at l.places q ≡ x → IsClear w q × HasNothing w q × (is_upgrader w q ≡ false)) (λ e.
-      let o = fit_at q place.Out e in (out_clear q place.Out e refl refl o, (reads_at q place.Out e, no_turn q (out_free (turn_at l.turn.courses q) o)), upgrades_as q ∙ ap is_upgrade e))
+      let o = fit_at q Place.Out e in (out_clear q Place.Out e refl refl o, (reads_at q Place.Out e, no_turn q (out_free (turn_at l.turn.courses q) o)), upgrades_as q ∙ ap is_upgrade e))
 
   -- ---- an undecided party has no right
 
@@ -300,36 +269,36 @@ module _ (l : RwLock) (ss : List Stage) (opening : ℕ) (v : ℕ) (laws : IsRwLo
   )
 
   pub undecided : (x : Place) (t : TurnCourse) → is_inside x ≡ true → verdict v x t ≡ None → IsUndecided x
-  undecided place.LeaveNoWriter t i n = absurd (cc)
-  undecided place.LeaveNoReaders t i n = absurd (cc)
-  undecided (place.ReleaseTurn e) t i n = absurd (cc)
-  undecided (place.ReleasingTurn e) t i n = absurd (cc)
-  undecided place.DropRead t i n = absurd (cc)
-  undecided place.DropUpgradable t i n = absurd (cc)
-  undecided place.DropWrite t i n = absurd (cc)
-  undecided place.DownNotify t i n = absurd (cc)
-  undecided place.DowngradeNotify t i n = absurd (cc)
-  undecided place.Reading t i n = absurd (cc)
-  undecided place.Upgradable t i n = absurd (cc)
-  undecided place.Writing t i n = absurd (cc)
-  undecided place.Upgrade t i n = absurd (cc)
-  undecided place.TryUpgrade t i n = absurd (cc)
-  undecided (place.Down keeps) t i n = absurd (cc)
-  undecided (place.JoinNoReaders u) t i n = record { reads = refl; share = ((λ e. cc), (λ e. cc)); seeks = λ e. refl }
-  undecided (place.LookNoReaders u) t i n = record { reads = refl; share = ((λ e. cc), (λ e. cc)); seeks = λ e. refl }
-  undecided (place.AskNoReaders u) t i n = record { reads = refl; share = ((λ e. cc), (λ e. cc)); seeks = λ e. refl }
-  undecided (place.AwaitNoReaders u) t i n = record { reads = refl; share = ((λ e. cc), (λ e. cc)); seeks = λ e. refl }
-  undecided (place.LookUnlisted u) t i n = record { reads = refl; share = ((λ e. cc), (λ e. cc)); seeks = λ e. refl }
-  undecided place.CancelAwait t i n = absurd (cc)
-  undecided (place.Unmark true) t i n = absurd (cc)
-  undecided (place.Unmark false) t i n = absurd (cc)
+  undecided Place.LeaveNoWriter t i n = absurd (cc)
+  undecided Place.LeaveNoReaders t i n = absurd (cc)
+  undecided (Place.ReleaseTurn e) t i n = absurd (cc)
+  undecided (Place.ReleasingTurn e) t i n = absurd (cc)
+  undecided Place.DropRead t i n = absurd (cc)
+  undecided Place.DropUpgradable t i n = absurd (cc)
+  undecided Place.DropWrite t i n = absurd (cc)
+  undecided Place.DownNotify t i n = absurd (cc)
+  undecided Place.DowngradeNotify t i n = absurd (cc)
+  undecided Place.Reading t i n = absurd (cc)
+  undecided Place.Upgradable t i n = absurd (cc)
+  undecided Place.Writing t i n = absurd (cc)
+  undecided Place.Upgrade t i n = absurd (cc)
+  undecided Place.TryUpgrade t i n = absurd (cc)
+  undecided (Place.Down keeps) t i n = absurd (cc)
+  undecided (Place.JoinNoReaders u) t i n = record { reads = refl; share = ((λ e. cc), (λ e. cc)); seeks = λ e. refl }
+  undecided (Place.LookNoReaders u) t i n = record { reads = refl; share = ((λ e. cc), (λ e. cc)); seeks = λ e. refl }
+  undecided (Place.AskNoReaders u) t i n = record { reads = refl; share = ((λ e. cc), (λ e. cc)); seeks = λ e. refl }
+  undecided (Place.AwaitNoReaders u) t i n = record { reads = refl; share = ((λ e. cc), (λ e. cc)); seeks = λ e. refl }
+  undecided (Place.LookUnlisted u) t i n = record { reads = refl; share = ((λ e. cc), (λ e. cc)); seeks = λ e. refl }
+  undecided Place.CancelAwait t i n = absurd (cc)
+  undecided (Place.Unmark true) t i n = absurd (cc)
+  undecided (Place.Unmark false) t i n = absurd (cc)
   undecided _ t i n = record { reads = refl; share = ((λ e. cc), (λ e. cc)); seeks = λ e. absurd (cc) }
 
   has : (q : ℕ) (s : Stage) (x : Place) → place_at l.places q ≡ x → goes_with s x ≡ true → HasItsOwn w q (standing_at v s x (turn_at l.turn.courses q))
-  has q (Outside rest.Idle) x at g = out_has q x g at
-  has q (Outside rest.Pending) x at g = future_has q x g at
-  has q (Outside rest.Holding) x at g = guard_has q x g at
-  has q (Outside rest.Finished) x at g = absurd (cc)
+  has q (Outside Rest.Idle) x at g = out_has q x g at
+  has q (Outside Rest.Pending) x at g = future_has q x g at
+  has q (Outside Rest.Holding) x at g = guard_has q x g at
+  has q (Outside Rest.Finished) x at g = absurd (cc)
   has q (Inside u) x at g = inside_has (verdict v x (turn_at l.turn.courses q)) refl where
     here : is_inside x ≡ true
     here = (and_parts (is_inside x) (is_on_course u.kind u.was (course_of x)) g).0

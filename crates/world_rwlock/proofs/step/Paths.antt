@@ -1,32 +1,13 @@
 -- Where each action leads, place by place. Written by generators/rwlock_world_rows.py.
-use Rattle.std.proofs.Common.{◌≡◌, ◌&&◌, Bool, true, false, refl}
-use Rattle.lock_program.specs.declared.refusal.Refusal.{Refusal}
-use Rattle.lock_program.specs.declared.refusal.Refusal.TheVariants as refusal
-use Rattle.world_mutex.specs.machine.Course.{Course as TurnCourse}
-use Rattle.lock_program.specs.declared.mutex.Step.TheVariants as turn_step
-use Rattle.lock_program.specs.declared.end.End.TheVariants as turn_end
-use Rattle.lock_program.specs.declared.rwlock.Purpose.TheVariants as purpose
-use Rattle.lock_program.specs.declared.rwlock.Ending.TheVariants as ending
-use Rattle.lock_program.specs.declared.end.End.{End}
-use Rattle.lock_program.specs.declared.end.End.TheVariants.{Got, Granted, Pending, NotFree, GivenBack, Refused}
-use Rattle.world_rwlock.specs.declared.program.led.Next.{Next}
-use Rattle.world_rwlock.specs.declared.program.led.Next.TheVariants as next
-use Rattle.lock_program.specs.declared.rwlock.Found.{Found}
-use Rattle.lock_program.specs.declared.rwlock.Found.TheVariants.{Done, Writer, Full, NoneLeft, SomeLeft, NoMemory, Yes, No, Turn}
-use Rattle.lock_program.specs.declared.rwlock.Found.TheVariants as found
-use Rattle.lock_program.specs.declared.rwlock.Place.{Place}
-use Rattle.lock_program.specs.declared.rwlock.Place.TheVariants.{Out, Made, Reading, Upgradable, Writing, EnterRead, JoinNoWriter, LookNoWriter, AskNoWriter, PassOn, LeaveNoWriter, RefuseLeave, RefuseNotify, CancelRead, TryRead, EnterTurn, WaitTurn, TakeTurn, TryTurn, CancelTurn, CancellingTurn, ReleaseTurn, ReleasingTurn, Add, TryUpgrade, Upgrade, Mark, TryWrite, JoinNoReaders, LookNoReaders, AskNoReaders, AwaitNoReaders, LookUnlisted, LeaveNoReaders, DropRead, DropReadNotify, DropUpgradable, DropUpgradableNotify, DropWrite, CancelAwait, Unmark, UnmarkNotify, Down, DownNotify, DowngradeNotify}
-use Rattle.world_rwlock.specs.program.Program.{action_of, next_of}
-use Rattle.world_rwlock.specs.machine.Machine.{RwLock}
-use Rattle.world_rwlock.specs.machine.Acts.{Finds}
+use Rattle.world_rwlock.proofs.Prelude.{◌≡◌, ◌&&◌, Bool, true, false, refl, Refusal, TurnCourse, TurnStep as Step, Purpose, Ending, End, Got, Granted, Pending, NotFree, GivenBack, Refused, Next, Found, Done, Writer, Full, NoneLeft, SomeLeft, NoMemory, Yes, No, Turn, Place, Out, Made, Reading, Upgradable, Writing, EnterRead, JoinNoWriter, LookNoWriter, AskNoWriter, PassOn, LeaveNoWriter, RefuseLeave, RefuseNotify, CancelRead, TryRead, EnterTurn, WaitTurn, TakeTurn, TryTurn, CancelTurn, CancellingTurn, ReleaseTurn, ReleasingTurn, Add, TryUpgrade, Upgrade, Mark, TryWrite, JoinNoReaders, LookNoReaders, AskNoReaders, AwaitNoReaders, LookUnlisted, LeaveNoReaders, DropRead, DropReadNotify, DropUpgradable, DropUpgradableNotify, DropWrite, CancelAwait, Unmark, UnmarkNotify, Down, DownNotify, DowngradeNotify, action_of, next_of, RwLock, Finds, Course, polls, tries, drops, downgrades, upgrades, tries_upgrade, strays, course_of, is_inside, sought_at, is_future, is_guard}
 use Rattle.world_rwlock.proofs.of_machine.stages.Leads.{Led}
-use Rattle.world_rwlock.specs.Stages.{Course, polls, tries, drops, downgrades, upgrades, tries_upgrade, strays, course_of, is_inside, sought_at, is_out, is_future, is_guard}
+use Rattle.world_rwlock.specs.Stages.{is_out}
 
 -- the refusals of a read-write lock's futures
 abbrev pub is_ours : Refusal → Bool
-is_ours refusal.Memory = true
-is_ours refusal.Starved = true
-is_ours refusal.Readers = true
+is_ours Refusal.Memory = true
+is_ours Refusal.Starved = true
+is_ours Refusal.Readers = true
 is_ours _ = false
 
 -- how a program of this course ends, and where its party stands then
@@ -44,9 +25,9 @@ ends_in _ _ q = false
 
 -- a program goes on as it is, or ends so
 abbrev pub Keeps : Course → Next → Type 0
-Keeps c (next.Do a q) = (course_of q ≡ c) × (is_inside q ≡ true)
-Keeps c (next.End e q) = ends_in c e q ≡ true
-Keeps c (next.Wait q) = (c ≡ upgrades) × (is_future q ≡ true)
+Keeps c (Next.Do a q) = (course_of q ≡ c) × (is_inside q ≡ true)
+Keeps c (Next.End e q) = ends_in c e q ≡ true
+Keeps c (Next.Wait q) = (c ≡ upgrades) × (is_future q ≡ true)
 
 -- where a party stands whose try was in vain
 abbrev pub InVain : Course → Place → Type 0
@@ -55,10 +36,10 @@ InVain _ q = q ≡ Out
 
 -- what is sought goes on to be sought
 abbrev pub Seeks : Place → Next → Type 0
-Seeks x (next.End NotFree q) = InVain (course_of x) q
-Seeks x (next.Do a q) = sought_at q ≡ sought_at x
-Seeks x (next.End _ q) = sought_at q ≡ sought_at x
-Seeks x (next.Wait q) = sought_at q ≡ sought_at x
+Seeks x (Next.End NotFree q) = InVain (course_of x) q
+Seeks x (Next.Do a q) = sought_at q ≡ sought_at x
+Seeks x (Next.End _ q) = sought_at q ≡ sought_at x
+Seeks x (Next.Wait q) = sought_at q ≡ sought_at x
 
 pub record Path (x : Place) (f : Found) : Type 0 where
   pub keeps : Keeps (course_of x) (next_of x f)
@@ -104,10 +85,10 @@ module _ (memory : Bool) (l : RwLock) (to : TurnCourse) where
   path (RefuseLeave true) _ e l n = absurd e
   path (RefuseLeave false) Done e l n = record { keeps = refl; seeks = refl }
   path (RefuseLeave false) _ e l n = absurd e
-  path (RefuseNotify refusal.Memory) Done e l n = record { keeps = refl; seeks = refl }
-  path (RefuseNotify refusal.Memory) _ e l n = absurd e
-  path (RefuseNotify refusal.Readers) Done e l n = record { keeps = refl; seeks = refl }
-  path (RefuseNotify refusal.Readers) _ e l n = absurd e
+  path (RefuseNotify Refusal.Memory) Done e l n = record { keeps = refl; seeks = refl }
+  path (RefuseNotify Refusal.Memory) _ e l n = absurd e
+  path (RefuseNotify Refusal.Readers) Done e l n = record { keeps = refl; seeks = refl }
+  path (RefuseNotify Refusal.Readers) _ e l n = absurd e
   path (RefuseNotify _) _ e l n = absurd (n refl)
   path CancelRead Done e l n = record { keeps = refl; seeks = refl }
   path CancelRead _ e l n = absurd e
@@ -115,106 +96,106 @@ module _ (memory : Bool) (l : RwLock) (to : TurnCourse) where
   path TryRead Writer e l n = record { keeps = refl; seeks = refl }
   path TryRead Full e l n = record { keeps = refl; seeks = refl }
   path TryRead _ e l n = absurd e
-  path (EnterTurn purpose.UpgradableRead) (Turn turn_step.More) e l n = record { keeps = (refl, refl); seeks = refl }
-  path (EnterTurn purpose.UpgradableRead) (Turn (turn_step.End turn_end.Got)) e l n = record { keeps = (refl, refl); seeks = refl }
-  path (EnterTurn purpose.UpgradableRead) (Turn (turn_step.End turn_end.Pending)) e l n = record { keeps = refl; seeks = refl }
-  path (EnterTurn purpose.UpgradableRead) (Turn (turn_step.End (turn_end.Refused refusal.Memory))) e l n = record { keeps = refl; seeks = refl }
-  path (EnterTurn purpose.UpgradableRead) (Turn (turn_step.End (turn_end.Refused refusal.Starved))) e l n = record { keeps = refl; seeks = refl }
-  path (EnterTurn purpose.UpgradableRead) (Turn _) e l n = absurd l
-  path (EnterTurn purpose.UpgradableRead) _ e l n = absurd e
-  path (EnterTurn purpose.Write) (Turn turn_step.More) e l n = record { keeps = (refl, refl); seeks = refl }
-  path (EnterTurn purpose.Write) (Turn (turn_step.End turn_end.Got)) e l n = record { keeps = (refl, refl); seeks = refl }
-  path (EnterTurn purpose.Write) (Turn (turn_step.End turn_end.Pending)) e l n = record { keeps = refl; seeks = refl }
-  path (EnterTurn purpose.Write) (Turn (turn_step.End (turn_end.Refused refusal.Memory))) e l n = record { keeps = refl; seeks = refl }
-  path (EnterTurn purpose.Write) (Turn (turn_step.End (turn_end.Refused refusal.Starved))) e l n = record { keeps = refl; seeks = refl }
-  path (EnterTurn purpose.Write) (Turn _) e l n = absurd l
-  path (EnterTurn purpose.Write) _ e l n = absurd e
-  path (WaitTurn purpose.UpgradableRead) (Turn turn_step.More) e l n = record { keeps = (refl, refl); seeks = refl }
-  path (WaitTurn purpose.UpgradableRead) (Turn (turn_step.End turn_end.Got)) e l n = record { keeps = (refl, refl); seeks = refl }
-  path (WaitTurn purpose.UpgradableRead) (Turn (turn_step.End turn_end.Pending)) e l n = record { keeps = refl; seeks = refl }
-  path (WaitTurn purpose.UpgradableRead) (Turn (turn_step.End (turn_end.Refused refusal.Memory))) e l n = record { keeps = refl; seeks = refl }
-  path (WaitTurn purpose.UpgradableRead) (Turn (turn_step.End (turn_end.Refused refusal.Starved))) e l n = record { keeps = refl; seeks = refl }
-  path (WaitTurn purpose.UpgradableRead) (Turn _) e l n = absurd l
-  path (WaitTurn purpose.UpgradableRead) _ e l n = absurd e
-  path (WaitTurn purpose.Write) (Turn turn_step.More) e l n = record { keeps = (refl, refl); seeks = refl }
-  path (WaitTurn purpose.Write) (Turn (turn_step.End turn_end.Got)) e l n = record { keeps = (refl, refl); seeks = refl }
-  path (WaitTurn purpose.Write) (Turn (turn_step.End turn_end.Pending)) e l n = record { keeps = refl; seeks = refl }
-  path (WaitTurn purpose.Write) (Turn (turn_step.End (turn_end.Refused refusal.Memory))) e l n = record { keeps = refl; seeks = refl }
-  path (WaitTurn purpose.Write) (Turn (turn_step.End (turn_end.Refused refusal.Starved))) e l n = record { keeps = refl; seeks = refl }
-  path (WaitTurn purpose.Write) (Turn _) e l n = absurd l
-  path (WaitTurn purpose.Write) _ e l n = absurd e
-  path (TakeTurn purpose.UpgradableRead) (Turn turn_step.More) e l n = record { keeps = (refl, refl); seeks = refl }
-  path (TakeTurn purpose.UpgradableRead) (Turn (turn_step.End turn_end.Got)) e l n = record { keeps = (refl, refl); seeks = refl }
-  path (TakeTurn purpose.UpgradableRead) (Turn (turn_step.End turn_end.Pending)) e l n = record { keeps = refl; seeks = refl }
-  path (TakeTurn purpose.UpgradableRead) (Turn (turn_step.End (turn_end.Refused refusal.Memory))) e l n = record { keeps = refl; seeks = refl }
-  path (TakeTurn purpose.UpgradableRead) (Turn (turn_step.End (turn_end.Refused refusal.Starved))) e l n = record { keeps = refl; seeks = refl }
-  path (TakeTurn purpose.UpgradableRead) (Turn _) e l n = absurd l
-  path (TakeTurn purpose.UpgradableRead) _ e l n = absurd e
-  path (TakeTurn purpose.Write) (Turn turn_step.More) e l n = record { keeps = (refl, refl); seeks = refl }
-  path (TakeTurn purpose.Write) (Turn (turn_step.End turn_end.Got)) e l n = record { keeps = (refl, refl); seeks = refl }
-  path (TakeTurn purpose.Write) (Turn (turn_step.End turn_end.Pending)) e l n = record { keeps = refl; seeks = refl }
-  path (TakeTurn purpose.Write) (Turn (turn_step.End (turn_end.Refused refusal.Memory))) e l n = record { keeps = refl; seeks = refl }
-  path (TakeTurn purpose.Write) (Turn (turn_step.End (turn_end.Refused refusal.Starved))) e l n = record { keeps = refl; seeks = refl }
-  path (TakeTurn purpose.Write) (Turn _) e l n = absurd l
-  path (TakeTurn purpose.Write) _ e l n = absurd e
-  path (TryTurn purpose.UpgradableRead) (Turn (turn_step.End turn_end.Got)) e l n = record { keeps = (refl, refl); seeks = refl }
-  path (TryTurn purpose.UpgradableRead) (Turn (turn_step.End turn_end.NotFree)) e l n = record { keeps = refl; seeks = refl }
-  path (TryTurn purpose.UpgradableRead) (Turn _) e l n = absurd l
-  path (TryTurn purpose.UpgradableRead) _ e l n = absurd e
-  path (TryTurn purpose.Write) (Turn (turn_step.End turn_end.Got)) e l n = record { keeps = (refl, refl); seeks = refl }
-  path (TryTurn purpose.Write) (Turn (turn_step.End turn_end.NotFree)) e l n = record { keeps = refl; seeks = refl }
-  path (TryTurn purpose.Write) (Turn _) e l n = absurd l
-  path (TryTurn purpose.Write) _ e l n = absurd e
-  path CancelTurn (Turn turn_step.More) e l n = record { keeps = (refl, refl); seeks = refl }
-  path CancelTurn (Turn (turn_step.End turn_end.GivenBack)) e l n = record { keeps = refl; seeks = refl }
+  path (EnterTurn Purpose.UpgradableRead) (Turn Step.More) e l n = record { keeps = (refl, refl); seeks = refl }
+  path (EnterTurn Purpose.UpgradableRead) (Turn (Step.End End.Got)) e l n = record { keeps = (refl, refl); seeks = refl }
+  path (EnterTurn Purpose.UpgradableRead) (Turn (Step.End End.Pending)) e l n = record { keeps = refl; seeks = refl }
+  path (EnterTurn Purpose.UpgradableRead) (Turn (Step.End (End.Refused Refusal.Memory))) e l n = record { keeps = refl; seeks = refl }
+  path (EnterTurn Purpose.UpgradableRead) (Turn (Step.End (End.Refused Refusal.Starved))) e l n = record { keeps = refl; seeks = refl }
+  path (EnterTurn Purpose.UpgradableRead) (Turn _) e l n = absurd l
+  path (EnterTurn Purpose.UpgradableRead) _ e l n = absurd e
+  path (EnterTurn Purpose.Write) (Turn Step.More) e l n = record { keeps = (refl, refl); seeks = refl }
+  path (EnterTurn Purpose.Write) (Turn (Step.End End.Got)) e l n = record { keeps = (refl, refl); seeks = refl }
+  path (EnterTurn Purpose.Write) (Turn (Step.End End.Pending)) e l n = record { keeps = refl; seeks = refl }
+  path (EnterTurn Purpose.Write) (Turn (Step.End (End.Refused Refusal.Memory))) e l n = record { keeps = refl; seeks = refl }
+  path (EnterTurn Purpose.Write) (Turn (Step.End (End.Refused Refusal.Starved))) e l n = record { keeps = refl; seeks = refl }
+  path (EnterTurn Purpose.Write) (Turn _) e l n = absurd l
+  path (EnterTurn Purpose.Write) _ e l n = absurd e
+  path (WaitTurn Purpose.UpgradableRead) (Turn Step.More) e l n = record { keeps = (refl, refl); seeks = refl }
+  path (WaitTurn Purpose.UpgradableRead) (Turn (Step.End End.Got)) e l n = record { keeps = (refl, refl); seeks = refl }
+  path (WaitTurn Purpose.UpgradableRead) (Turn (Step.End End.Pending)) e l n = record { keeps = refl; seeks = refl }
+  path (WaitTurn Purpose.UpgradableRead) (Turn (Step.End (End.Refused Refusal.Memory))) e l n = record { keeps = refl; seeks = refl }
+  path (WaitTurn Purpose.UpgradableRead) (Turn (Step.End (End.Refused Refusal.Starved))) e l n = record { keeps = refl; seeks = refl }
+  path (WaitTurn Purpose.UpgradableRead) (Turn _) e l n = absurd l
+  path (WaitTurn Purpose.UpgradableRead) _ e l n = absurd e
+  path (WaitTurn Purpose.Write) (Turn Step.More) e l n = record { keeps = (refl, refl); seeks = refl }
+  path (WaitTurn Purpose.Write) (Turn (Step.End End.Got)) e l n = record { keeps = (refl, refl); seeks = refl }
+  path (WaitTurn Purpose.Write) (Turn (Step.End End.Pending)) e l n = record { keeps = refl; seeks = refl }
+  path (WaitTurn Purpose.Write) (Turn (Step.End (End.Refused Refusal.Memory))) e l n = record { keeps = refl; seeks = refl }
+  path (WaitTurn Purpose.Write) (Turn (Step.End (End.Refused Refusal.Starved))) e l n = record { keeps = refl; seeks = refl }
+  path (WaitTurn Purpose.Write) (Turn _) e l n = absurd l
+  path (WaitTurn Purpose.Write) _ e l n = absurd e
+  path (TakeTurn Purpose.UpgradableRead) (Turn Step.More) e l n = record { keeps = (refl, refl); seeks = refl }
+  path (TakeTurn Purpose.UpgradableRead) (Turn (Step.End End.Got)) e l n = record { keeps = (refl, refl); seeks = refl }
+  path (TakeTurn Purpose.UpgradableRead) (Turn (Step.End End.Pending)) e l n = record { keeps = refl; seeks = refl }
+  path (TakeTurn Purpose.UpgradableRead) (Turn (Step.End (End.Refused Refusal.Memory))) e l n = record { keeps = refl; seeks = refl }
+  path (TakeTurn Purpose.UpgradableRead) (Turn (Step.End (End.Refused Refusal.Starved))) e l n = record { keeps = refl; seeks = refl }
+  path (TakeTurn Purpose.UpgradableRead) (Turn _) e l n = absurd l
+  path (TakeTurn Purpose.UpgradableRead) _ e l n = absurd e
+  path (TakeTurn Purpose.Write) (Turn Step.More) e l n = record { keeps = (refl, refl); seeks = refl }
+  path (TakeTurn Purpose.Write) (Turn (Step.End End.Got)) e l n = record { keeps = (refl, refl); seeks = refl }
+  path (TakeTurn Purpose.Write) (Turn (Step.End End.Pending)) e l n = record { keeps = refl; seeks = refl }
+  path (TakeTurn Purpose.Write) (Turn (Step.End (End.Refused Refusal.Memory))) e l n = record { keeps = refl; seeks = refl }
+  path (TakeTurn Purpose.Write) (Turn (Step.End (End.Refused Refusal.Starved))) e l n = record { keeps = refl; seeks = refl }
+  path (TakeTurn Purpose.Write) (Turn _) e l n = absurd l
+  path (TakeTurn Purpose.Write) _ e l n = absurd e
+  path (TryTurn Purpose.UpgradableRead) (Turn (Step.End End.Got)) e l n = record { keeps = (refl, refl); seeks = refl }
+  path (TryTurn Purpose.UpgradableRead) (Turn (Step.End End.NotFree)) e l n = record { keeps = refl; seeks = refl }
+  path (TryTurn Purpose.UpgradableRead) (Turn _) e l n = absurd l
+  path (TryTurn Purpose.UpgradableRead) _ e l n = absurd e
+  path (TryTurn Purpose.Write) (Turn (Step.End End.Got)) e l n = record { keeps = (refl, refl); seeks = refl }
+  path (TryTurn Purpose.Write) (Turn (Step.End End.NotFree)) e l n = record { keeps = refl; seeks = refl }
+  path (TryTurn Purpose.Write) (Turn _) e l n = absurd l
+  path (TryTurn Purpose.Write) _ e l n = absurd e
+  path CancelTurn (Turn Step.More) e l n = record { keeps = (refl, refl); seeks = refl }
+  path CancelTurn (Turn (Step.End End.GivenBack)) e l n = record { keeps = refl; seeks = refl }
   path CancelTurn (Turn _) e l n = absurd l
   path CancelTurn _ e l n = absurd e
-  path CancellingTurn (Turn turn_step.More) e l n = record { keeps = (refl, refl); seeks = refl }
-  path CancellingTurn (Turn (turn_step.End turn_end.GivenBack)) e l n = record { keeps = refl; seeks = refl }
+  path CancellingTurn (Turn Step.More) e l n = record { keeps = (refl, refl); seeks = refl }
+  path CancellingTurn (Turn (Step.End End.GivenBack)) e l n = record { keeps = refl; seeks = refl }
   path CancellingTurn (Turn _) e l n = absurd l
   path CancellingTurn _ e l n = absurd e
-  path (ReleaseTurn ending.GivenBack) (Turn turn_step.More) e l n = record { keeps = (refl, refl); seeks = refl }
-  path (ReleaseTurn ending.GivenBack) (Turn (turn_step.End turn_end.GivenBack)) e l n = record { keeps = refl; seeks = refl }
-  path (ReleaseTurn ending.GivenBack) (Turn _) e l n = absurd l
-  path (ReleaseTurn ending.GivenBack) _ e l n = absurd e
-  path (ReleaseTurn (ending.NotFree p)) (Turn turn_step.More) e l n = record { keeps = (refl, refl); seeks = refl }
-  path (ReleaseTurn (ending.NotFree p)) (Turn (turn_step.End turn_end.GivenBack)) e l n = record { keeps = refl; seeks = refl }
-  path (ReleaseTurn (ending.NotFree p)) (Turn _) e l n = absurd l
-  path (ReleaseTurn (ending.NotFree p)) _ e l n = absurd e
-  path (ReleaseTurn ending.RefuseReaders) (Turn turn_step.More) e l n = record { keeps = (refl, refl); seeks = refl }
-  path (ReleaseTurn ending.RefuseReaders) (Turn (turn_step.End turn_end.GivenBack)) e l n = record { keeps = refl; seeks = refl }
-  path (ReleaseTurn ending.RefuseReaders) (Turn _) e l n = absurd l
-  path (ReleaseTurn ending.RefuseReaders) _ e l n = absurd e
-  path (ReleaseTurn ending.RefuseMemory) (Turn turn_step.More) e l n = record { keeps = (refl, refl); seeks = refl }
-  path (ReleaseTurn ending.RefuseMemory) (Turn (turn_step.End turn_end.GivenBack)) e l n = record { keeps = refl; seeks = refl }
-  path (ReleaseTurn ending.RefuseMemory) (Turn _) e l n = absurd l
-  path (ReleaseTurn ending.RefuseMemory) _ e l n = absurd e
-  path (ReleaseTurn ending.Reading) (Turn turn_step.More) e l n = record { keeps = (refl, refl); seeks = refl }
-  path (ReleaseTurn ending.Reading) (Turn (turn_step.End turn_end.GivenBack)) e l n = record { keeps = refl; seeks = refl }
-  path (ReleaseTurn ending.Reading) (Turn _) e l n = absurd l
-  path (ReleaseTurn ending.Reading) _ e l n = absurd e
-  path (ReleaseTurn ending.NotifyReaders) (Turn turn_step.More) e l n = record { keeps = (refl, refl); seeks = refl }
-  path (ReleaseTurn ending.NotifyReaders) (Turn (turn_step.End turn_end.GivenBack)) e l n = record { keeps = (refl, refl); seeks = refl }
-  path (ReleaseTurn ending.NotifyReaders) (Turn _) e l n = absurd l
-  path (ReleaseTurn ending.NotifyReaders) _ e l n = absurd e
-  path (ReleasingTurn ending.GivenBack) (Turn (turn_step.End turn_end.GivenBack)) e l n = record { keeps = refl; seeks = refl }
-  path (ReleasingTurn ending.GivenBack) (Turn _) e l n = absurd l
-  path (ReleasingTurn ending.GivenBack) _ e l n = absurd e
-  path (ReleasingTurn (ending.NotFree p)) (Turn (turn_step.End turn_end.GivenBack)) e l n = record { keeps = refl; seeks = refl }
-  path (ReleasingTurn (ending.NotFree p)) (Turn _) e l n = absurd l
-  path (ReleasingTurn (ending.NotFree p)) _ e l n = absurd e
-  path (ReleasingTurn ending.RefuseReaders) (Turn (turn_step.End turn_end.GivenBack)) e l n = record { keeps = refl; seeks = refl }
-  path (ReleasingTurn ending.RefuseReaders) (Turn _) e l n = absurd l
-  path (ReleasingTurn ending.RefuseReaders) _ e l n = absurd e
-  path (ReleasingTurn ending.RefuseMemory) (Turn (turn_step.End turn_end.GivenBack)) e l n = record { keeps = refl; seeks = refl }
-  path (ReleasingTurn ending.RefuseMemory) (Turn _) e l n = absurd l
-  path (ReleasingTurn ending.RefuseMemory) _ e l n = absurd e
-  path (ReleasingTurn ending.Reading) (Turn (turn_step.End turn_end.GivenBack)) e l n = record { keeps = refl; seeks = refl }
-  path (ReleasingTurn ending.Reading) (Turn _) e l n = absurd l
-  path (ReleasingTurn ending.Reading) _ e l n = absurd e
-  path (ReleasingTurn ending.NotifyReaders) (Turn (turn_step.End turn_end.GivenBack)) e l n = record { keeps = (refl, refl); seeks = refl }
-  path (ReleasingTurn ending.NotifyReaders) (Turn _) e l n = absurd l
-  path (ReleasingTurn ending.NotifyReaders) _ e l n = absurd e
+  path (ReleaseTurn Ending.GivenBack) (Turn Step.More) e l n = record { keeps = (refl, refl); seeks = refl }
+  path (ReleaseTurn Ending.GivenBack) (Turn (Step.End End.GivenBack)) e l n = record { keeps = refl; seeks = refl }
+  path (ReleaseTurn Ending.GivenBack) (Turn _) e l n = absurd l
+  path (ReleaseTurn Ending.GivenBack) _ e l n = absurd e
+  path (ReleaseTurn (Ending.NotFree p)) (Turn Step.More) e l n = record { keeps = (refl, refl); seeks = refl }
+  path (ReleaseTurn (Ending.NotFree p)) (Turn (Step.End End.GivenBack)) e l n = record { keeps = refl; seeks = refl }
+  path (ReleaseTurn (Ending.NotFree p)) (Turn _) e l n = absurd l
+  path (ReleaseTurn (Ending.NotFree p)) _ e l n = absurd e
+  path (ReleaseTurn Ending.RefuseReaders) (Turn Step.More) e l n = record { keeps = (refl, refl); seeks = refl }
+  path (ReleaseTurn Ending.RefuseReaders) (Turn (Step.End End.GivenBack)) e l n = record { keeps = refl; seeks = refl }
+  path (ReleaseTurn Ending.RefuseReaders) (Turn _) e l n = absurd l
+  path (ReleaseTurn Ending.RefuseReaders) _ e l n = absurd e
+  path (ReleaseTurn Ending.RefuseMemory) (Turn Step.More) e l n = record { keeps = (refl, refl); seeks = refl }
+  path (ReleaseTurn Ending.RefuseMemory) (Turn (Step.End End.GivenBack)) e l n = record { keeps = refl; seeks = refl }
+  path (ReleaseTurn Ending.RefuseMemory) (Turn _) e l n = absurd l
+  path (ReleaseTurn Ending.RefuseMemory) _ e l n = absurd e
+  path (ReleaseTurn Ending.Reading) (Turn Step.More) e l n = record { keeps = (refl, refl); seeks = refl }
+  path (ReleaseTurn Ending.Reading) (Turn (Step.End End.GivenBack)) e l n = record { keeps = refl; seeks = refl }
+  path (ReleaseTurn Ending.Reading) (Turn _) e l n = absurd l
+  path (ReleaseTurn Ending.Reading) _ e l n = absurd e
+  path (ReleaseTurn Ending.NotifyReaders) (Turn Step.More) e l n = record { keeps = (refl, refl); seeks = refl }
+  path (ReleaseTurn Ending.NotifyReaders) (Turn (Step.End End.GivenBack)) e l n = record { keeps = (refl, refl); seeks = refl }
+  path (ReleaseTurn Ending.NotifyReaders) (Turn _) e l n = absurd l
+  path (ReleaseTurn Ending.NotifyReaders) _ e l n = absurd e
+  path (ReleasingTurn Ending.GivenBack) (Turn (Step.End End.GivenBack)) e l n = record { keeps = refl; seeks = refl }
+  path (ReleasingTurn Ending.GivenBack) (Turn _) e l n = absurd l
+  path (ReleasingTurn Ending.GivenBack) _ e l n = absurd e
+  path (ReleasingTurn (Ending.NotFree p)) (Turn (Step.End End.GivenBack)) e l n = record { keeps = refl; seeks = refl }
+  path (ReleasingTurn (Ending.NotFree p)) (Turn _) e l n = absurd l
+  path (ReleasingTurn (Ending.NotFree p)) _ e l n = absurd e
+  path (ReleasingTurn Ending.RefuseReaders) (Turn (Step.End End.GivenBack)) e l n = record { keeps = refl; seeks = refl }
+  path (ReleasingTurn Ending.RefuseReaders) (Turn _) e l n = absurd l
+  path (ReleasingTurn Ending.RefuseReaders) _ e l n = absurd e
+  path (ReleasingTurn Ending.RefuseMemory) (Turn (Step.End End.GivenBack)) e l n = record { keeps = refl; seeks = refl }
+  path (ReleasingTurn Ending.RefuseMemory) (Turn _) e l n = absurd l
+  path (ReleasingTurn Ending.RefuseMemory) _ e l n = absurd e
+  path (ReleasingTurn Ending.Reading) (Turn (Step.End End.GivenBack)) e l n = record { keeps = refl; seeks = refl }
+  path (ReleasingTurn Ending.Reading) (Turn _) e l n = absurd l
+  path (ReleasingTurn Ending.Reading) _ e l n = absurd e
+  path (ReleasingTurn Ending.NotifyReaders) (Turn (Step.End End.GivenBack)) e l n = record { keeps = (refl, refl); seeks = refl }
+  path (ReleasingTurn Ending.NotifyReaders) (Turn _) e l n = absurd l
+  path (ReleasingTurn Ending.NotifyReaders) _ e l n = absurd e
   path (Add true) Done e l n = record { keeps = refl; seeks = refl }
   path (Add true) Full e l n = record { keeps = (refl, refl); seeks = refl }
   path (Add true) _ e l n = absurd e
@@ -222,7 +203,7 @@ module _ (memory : Bool) (l : RwLock) (to : TurnCourse) where
   path (Add false) Full e l n = record { keeps = (refl, refl); seeks = refl }
   path (Add false) _ e l n = absurd e
   path TryUpgrade Done e l n = record { keeps = refl; seeks = refl }
-  path TryUpgrade found.NotFree e l n = record { keeps = refl; seeks = refl }
+  path TryUpgrade Found.NotFree e l n = record { keeps = refl; seeks = refl }
   path TryUpgrade _ e l n = absurd e
   path Upgrade Done e l n = record { keeps = (refl, refl); seeks = refl }
   path Upgrade _ e l n = absurd e
@@ -230,7 +211,7 @@ module _ (memory : Bool) (l : RwLock) (to : TurnCourse) where
   path Mark SomeLeft e l n = record { keeps = (refl, refl); seeks = refl }
   path Mark _ e l n = absurd e
   path TryWrite Done e l n = record { keeps = refl; seeks = refl }
-  path TryWrite found.NotFree e l n = record { keeps = (refl, refl); seeks = refl }
+  path TryWrite Found.NotFree e l n = record { keeps = (refl, refl); seeks = refl }
   path TryWrite _ e l n = absurd e
   path (JoinNoReaders true) Done e l n = record { keeps = (refl, refl); seeks = refl }
   path (JoinNoReaders true) NoMemory e l n = record { keeps = refl; seeks = refl }

@@ -1,48 +1,8 @@
 -- Whoever is to be refused, has nothing any more and stands in no list notifies one in its list as its call ends.
-use Rattle.std.proofs.Common.{◌≡◌, ℕ, true, false, Option, Some, None, List, refl, arith, ap, sym, ◌∙◌, subst}
-use Rattle.lock_event.specs.Lists.{notified}
-use Rattle.world_base.specs.queue.Parties.{entries_of}
-use Rattle.world_base.specs.declared.moves.Answer.{Answer}
-use Rattle.world_base.specs.declared.moves.Answer.TheVariants as answer
-use Rattle.world_base.specs.declared.moves.Move.{Move}
-use Rattle.world_base.specs.declared.moves.What.{What}
-use Rattle.world_base.specs.declared.moves.What.TheVariants.{Begin, Go}
-use Rattle.world_base.specs.declared.standing.Stage.{Stage}
-use Rattle.world_base.specs.declared.standing.Stage.TheVariants.{Outside, Inside, Forgotten}
-use Rattle.world_base.specs.declared.standing.Within.{Within}
-use Rattle.world_base.specs.Rights.{read}
-use Rattle.world_base.specs.Standings.{inside, inputs_of, refused}
-use Rattle.world_base.proofs.Equations.{some_eq, none_some}
-use Rattle.world_base.specs.table.Stages.{stage_at, stands_as, call_at}
-use Rattle.world_base.specs.table.Tables.{Table}
-use Rattle.lock_program.specs.declared.refusal.Refusal.{Refusal}
-use Rattle.lock_program.specs.declared.end.End.{End as TurnEnd}
-use Rattle.lock_program.specs.declared.end.End.TheVariants as turn_end
-use Rattle.lock_program.specs.declared.mutex.Step.TheVariants as turn_step
-use Rattle.lock_program.specs.declared.rwlock.Ending.{Ending}
-use Rattle.lock_program.specs.declared.rwlock.Ending.TheVariants as ending
-use Rattle.lock_program.specs.declared.rwlock.Found.{Found}
-use Rattle.lock_program.specs.declared.rwlock.Found.TheVariants as found
-use Rattle.lock_program.specs.declared.rwlock.Place.{Place}
-use Rattle.lock_program.specs.declared.rwlock.Place.TheVariants as place
-use Rattle.lock_program.specs.declared.rwlock.Purpose.{Purpose}
-use Rattle.lock_program.specs.declared.rwlock.Purpose.TheVariants as purpose
-use Rattle.world_mutex.specs.machine.Course.{Course as TurnCourse, decision, counted, listed, bit, is_holding}
+use Rattle.world_rwlock.proofs.Prelude.{◌≡◌, ℕ, true, false, Option, Some, None, List, refl, arith, ap, sym, ◌∙◌, subst, notified, entries_of, Answer, Move, What, Begin, Go, Stage, Outside, Inside, Forgotten, Within, read, inside, inputs_of, refused, some_eq, none_some, stage_at, stands_as, call_at, Table, Refusal, End as TurnEnd, TurnStep as Step, Ending, Found, Place, Purpose, TurnCourse, decision, counted, listed, is_holding, Mutex, turn_at, holder_of, holding_holds, OnNoWriter, action_of, next_of, after_lock, released, OnTurn, place_at, fits_turn, in_no_writer, knows_at, Guarded, answer_by, place_for, sought_at, is_for_turn, World, standing_of, sought_by, is_starved, HasTurn, Share, passing, upgrading, waiting, writing, turn_as, turn_by, share_of, refused_by, verdict_until, verdict, view_of}
+use Rattle.world_mutex.specs.machine.Course.{bit}
 use Rattle.world_mutex.specs.machine.Deeds.{entries_after}
-use Rattle.world_mutex.specs.machine.Mutex.{Mutex, course_at as turn_at, holder_of}
-use Rattle.world_mutex.proofs.of_machine.callers.Callers.{holding_holds}
 use Rattle.world_mutex.proofs.of_machine.callers.Holders as sees
-use Rattle.world_rwlock.specs.program.Parties.{OnNoWriter}
-use Rattle.world_rwlock.specs.program.Program.{action_of, next_of, after_lock, released}
-use Rattle.world_rwlock.specs.program.Turns.{OnTurn}
-use Rattle.world_rwlock.specs.machine.Machine.{place_at}
-use Rattle.world_rwlock.specs.machine.Roles.{fits_turn, in_no_writer}
-use Rattle.world_rwlock.specs.program.Calls.{knows_at}
-use Rattle.world_rwlock.specs.Guarded.{Guarded, answer_by, place_for}
-use Rattle.world_rwlock.specs.Stages.{sought_at}
-use Rattle.world_rwlock.specs.Legal.{is_for_turn}
-use Rattle.world_rwlock.specs.State.{World, standing_of, sought_by, is_starved, HasTurn}
-use Rattle.world_rwlock.specs.View.{Share, passing, upgrading, waiting, writing, turn_as, turn_by, share_of, refused_by, verdict_until, verdict, view_of}
 use Rattle.world_rwlock.proofs.step.Acting.{Acting, fit, says}
 use Rattle.world_rwlock.proofs.step.Idle.{stood, sought_is}
 
@@ -66,27 +26,27 @@ has_as p writing = refl
 pub has_by : (h : Option ℕ) (xs : List Place) (p : ℕ) → h ≡ Some p → HasTurn (turn_by h xs) p
 has_by h xs p e = let P : Option ℕ → Type 0 = λ o. HasTurn (turn_by o xs) p in subst P (sym e) (has_as p (share_of (place_at xs p)))
 
-refused_as : (o : Option TurnEnd) (r : ℕ) → refused_by o ≡ Some (answer.Refused r) → (why : Refusal) × (o ≡ Some (turn_end.Refused why)) × (refused why ≡ answer.Refused r)
+refused_as : (o : Option TurnEnd) (r : ℕ) → refused_by o ≡ Some (Answer.Refused r) → (why : Refusal) × (o ≡ Some (TurnEnd.Refused why)) × (refused why ≡ Answer.Refused r)
 refused_as None r e = absurd (none_some e)
-refused_as (Some (turn_end.Refused why)) r e = (why, refl, some_eq e)
-refused_as (Some turn_end.Got) r e = absurd (none_some e)
-refused_as (Some turn_end.Granted) r e = absurd (none_some e)
-refused_as (Some turn_end.Pending) r e = absurd (none_some e)
-refused_as (Some turn_end.NotFree) r e = absurd (none_some e)
-refused_as (Some turn_end.Waiting) r e = absurd (none_some e)
-refused_as (Some turn_end.GivenBack) r e = absurd (none_some e)
+refused_as (Some (TurnEnd.Refused why)) r e = (why, refl, some_eq e)
+refused_as (Some TurnEnd.Got) r e = absurd (none_some e)
+refused_as (Some TurnEnd.Granted) r e = absurd (none_some e)
+refused_as (Some TurnEnd.Pending) r e = absurd (none_some e)
+refused_as (Some TurnEnd.NotFree) r e = absurd (none_some e)
+refused_as (Some TurnEnd.Waiting) r e = absurd (none_some e)
+refused_as (Some TurnEnd.GivenBack) r e = absurd (none_some e)
 
-released_as : (v : ℕ) (e : Ending) (r : ℕ) → verdict_until e ≡ answer.Refused r → answer_by v (released e) ≡ answer.Refused r
-released_as v ending.GivenBack r d = absurd (cc d)
-released_as v (ending.NotFree p) r d = absurd (cc d)
-released_as v ending.RefuseReaders r d = d
-released_as v ending.RefuseMemory r d = d
-released_as v ending.Reading r d = absurd (cc d)
-released_as v ending.NotifyReaders r d = absurd (cc d)
+released_as : (v : ℕ) (e : Ending) (r : ℕ) → verdict_until e ≡ Answer.Refused r → answer_by v (released e) ≡ Answer.Refused r
+released_as v Ending.GivenBack r d = absurd (cc d)
+released_as v (Ending.NotFree p) r d = absurd (cc d)
+released_as v Ending.RefuseReaders r d = d
+released_as v Ending.RefuseMemory r d = d
+released_as v Ending.Reading r d = absurd (cc d)
+released_as v Ending.NotifyReaders r d = absurd (cc d)
 
-purposed : (v : ℕ) (q : Purpose) (why : Refusal) → answer_by v (after_lock q (found.Turn (turn_step.End (turn_end.Refused why)))) ≡ refused why
-purposed v purpose.UpgradableRead why = refl
-purposed v purpose.Write why = refl
+purposed : (v : ℕ) (q : Purpose) (why : Refusal) → answer_by v (after_lock q (Found.Turn (Step.End (TurnEnd.Refused why)))) ≡ refused why
+purposed v Purpose.UpgradableRead why = refl
+purposed v Purpose.Write why = refl
 
 module _ (t u : Table Guarded) (m : Move) (a : Answer) (w : Within) (k : Acting t u m a w) where
   abbrev p : ℕ
@@ -120,79 +80,79 @@ module _ (t u : Table Guarded) (m : Move) (a : Answer) (w : Within) (k : Acting 
   holds_not h without = without (has_by (holder_of l) t.machine.lock.places p (sees.holds_it l.courses p k.old.lock.turn.one_holder (holding_holds c h)))
 
   abbrev EndsSo : Place → Found → ℕ → Type 0
-  EndsSo y f r = (answer_by v (next_of y f) ≡ answer.Refused r) × (n.entries ≡ notified l.entries 1)
+  EndsSo y f r = (answer_by v (next_of y f) ≡ Answer.Refused r) × (n.entries ≡ notified l.entries 1)
 
-  refuses_by : (y : Place) (f : Found) (r : ℕ) → fits_turn y c ≡ true → On y f → verdict v y c ≡ Some (answer.Refused r) → is_for_turn (sought_at y) ≡ true → (HasTurn old.state.turn p → ⊥) → listed c ≡ 0 → counted c ≡ 0 → EndsSo y f r
-  refuses_by (place.TakeTurn q) (found.Turn s) r link o d sought without none plain =
+  refuses_by : (y : Place) (f : Found) (r : ℕ) → fits_turn y c ≡ true → On y f → verdict v y c ≡ Some (Answer.Refused r) → is_for_turn (sought_at y) ≡ true → (HasTurn old.state.turn p → ⊥) → listed c ≡ 0 → counted c ≡ 0 → EndsSo y f r
+  refuses_by (Place.TakeTurn q) (Found.Turn s) r link o d sought without none plain =
       let why = refused_as (decision c) r d in
       let it = o.legal.refuses why.0 why.1 none plain in
-      (ap (λ z. answer_by v (next_of (place.TakeTurn q) (found.Turn z))) it.1 ∙ (purposed v q why.0 ∙ why.2), o.legal.entries ∙ ap (λ z. entries_after p z l.entries) it.0)
-  refuses_by (place.TakeTurn q) _ r link o d sought without none plain = absurd o
-  refuses_by (place.ReleasingTurn e) (found.Turn s) r link o d sought without none plain =
+      (ap (λ z. answer_by v (next_of (Place.TakeTurn q) (Found.Turn z))) it.1 ∙ (purposed v q why.0 ∙ why.2), o.legal.entries ∙ ap (λ z. entries_after p z l.entries) it.0)
+  refuses_by (Place.TakeTurn q) _ r link o d sought without none plain = absurd o
+  refuses_by (Place.ReleasingTurn e) (Found.Turn s) r link o d sought without none plain =
       let ends = (o.leads.releases link).0 in
-      (ap (λ z. answer_by v (next_of (place.ReleasingTurn e) (found.Turn z))) ends ∙ released_as v e r (some_eq d), o.legal.entries ∙ ap (λ z. entries_after p z l.entries) (o.legal.releases link))
-  refuses_by (place.ReleasingTurn e) _ r link o d sought without none plain = absurd o
-  refuses_by (place.ReleaseTurn e) f r link o d sought without none plain = absurd (holds_not link without)
-  refuses_by (place.Unmark true) f r link o d sought without none plain = absurd (holds_not link without)
-  refuses_by (place.Unmark false) f r link o d sought without none plain = absurd (cc d)
-  refuses_by (place.UnmarkNotify true) f r link o d sought without none plain = absurd (holds_not link without)
-  refuses_by (place.UnmarkNotify false) f r link o d sought without none plain = absurd (cc d)
-  refuses_by (place.RefuseLeave told) f r link o d sought without none plain = absurd (cc sought)
-  refuses_by (place.RefuseNotify why) f r link o d sought without none plain = absurd (cc sought)
+      (ap (λ z. answer_by v (next_of (Place.ReleasingTurn e) (Found.Turn z))) ends ∙ released_as v e r (some_eq d), o.legal.entries ∙ ap (λ z. entries_after p z l.entries) (o.legal.releases link))
+  refuses_by (Place.ReleasingTurn e) _ r link o d sought without none plain = absurd o
+  refuses_by (Place.ReleaseTurn e) f r link o d sought without none plain = absurd (holds_not link without)
+  refuses_by (Place.Unmark true) f r link o d sought without none plain = absurd (holds_not link without)
+  refuses_by (Place.Unmark false) f r link o d sought without none plain = absurd (cc d)
+  refuses_by (Place.UnmarkNotify true) f r link o d sought without none plain = absurd (holds_not link without)
+  refuses_by (Place.UnmarkNotify false) f r link o d sought without none plain = absurd (cc d)
+  refuses_by (Place.RefuseLeave told) f r link o d sought without none plain = absurd (cc sought)
+  refuses_by (Place.RefuseNotify why) f r link o d sought without none plain = absurd (cc sought)
   refuses_by _ f r link o d sought without none plain = absurd (cc d)
 
   -- ---- a read
 
   abbrev EndsReading : Place → Found → ℕ → Type 0
-  EndsReading y f r = (answer_by v (next_of y f) ≡ answer.Refused r) × (u.machine.lock.no_writer ≡ notified t.machine.lock.no_writer 1)
+  EndsReading y f r = (answer_by v (next_of y f) ≡ Answer.Refused r) × (u.machine.lock.no_writer ≡ notified t.machine.lock.no_writer 1)
 
   abbrev OnRead : Place → Found → Type 0
   OnRead y f = OnNoWriter p (action_of y) f t.machine.lock.no_writer u.machine.lock.no_writer
 
-  until_read : (e : Ending) (r : ℕ) → verdict_until e ≡ answer.Refused r → sought_at (place.ReleaseTurn e) ≡ Some read → ⊥
-  until_read ending.GivenBack r d h = cc d
-  until_read (ending.NotFree q) r d h = cc d
-  until_read ending.RefuseReaders r d h = cc h
-  until_read ending.RefuseMemory r d h = cc h
-  until_read ending.Reading r d h = cc d
-  until_read ending.NotifyReaders r d h = cc d
+  until_read : (e : Ending) (r : ℕ) → verdict_until e ≡ Answer.Refused r → sought_at (Place.ReleaseTurn e) ≡ Some read → ⊥
+  until_read Ending.GivenBack r d h = cc d
+  until_read (Ending.NotFree q) r d h = cc d
+  until_read Ending.RefuseReaders r d h = cc h
+  until_read Ending.RefuseMemory r d h = cc h
+  until_read Ending.Reading r d h = cc d
+  until_read Ending.NotifyReaders r d h = cc d
 
-  refuses_read_by : (y : Place) (f : Found) (r : ℕ) → OnRead y f → verdict v y c ≡ Some (answer.Refused r) → sought_at y ≡ Some read → in_no_writer y ≡ 0 → EndsReading y f r
-  refuses_read_by (place.RefuseNotify why) found.Done r o d sought none = (some_eq d, o)
-  refuses_read_by (place.RefuseNotify why) _ r o d sought none = absurd o
-  refuses_read_by (place.RefuseLeave told) f r o d sought none = absurd (omega (arith, none))
-  refuses_read_by (place.TakeTurn purpose.UpgradableRead) f r o d sought none = absurd (cc sought)
-  refuses_read_by (place.TakeTurn purpose.Write) f r o d sought none = absurd (cc sought)
-  refuses_read_by (place.ReleaseTurn e) f r o d sought none = absurd (until_read e r (some_eq d) sought)
-  refuses_read_by (place.ReleasingTurn e) f r o d sought none = absurd (until_read e r (some_eq d) sought)
-  refuses_read_by (place.Unmark true) f r o d sought none = absurd (cc sought)
-  refuses_read_by (place.Unmark false) f r o d sought none = absurd (cc d)
-  refuses_read_by (place.UnmarkNotify true) f r o d sought none = absurd (cc sought)
-  refuses_read_by (place.UnmarkNotify false) f r o d sought none = absurd (cc d)
+  refuses_read_by : (y : Place) (f : Found) (r : ℕ) → OnRead y f → verdict v y c ≡ Some (Answer.Refused r) → sought_at y ≡ Some read → in_no_writer y ≡ 0 → EndsReading y f r
+  refuses_read_by (Place.RefuseNotify why) Found.Done r o d sought none = (some_eq d, o)
+  refuses_read_by (Place.RefuseNotify why) _ r o d sought none = absurd o
+  refuses_read_by (Place.RefuseLeave told) f r o d sought none = absurd (omega (arith, none))
+  refuses_read_by (Place.TakeTurn Purpose.UpgradableRead) f r o d sought none = absurd (cc sought)
+  refuses_read_by (Place.TakeTurn Purpose.Write) f r o d sought none = absurd (cc sought)
+  refuses_read_by (Place.ReleaseTurn e) f r o d sought none = absurd (until_read e r (some_eq d) sought)
+  refuses_read_by (Place.ReleasingTurn e) f r o d sought none = absurd (until_read e r (some_eq d) sought)
+  refuses_read_by (Place.Unmark true) f r o d sought none = absurd (cc sought)
+  refuses_read_by (Place.Unmark false) f r o d sought none = absurd (cc d)
+  refuses_read_by (Place.UnmarkNotify true) f r o d sought none = absurd (cc sought)
+  refuses_read_by (Place.UnmarkNotify false) f r o d sought none = absurd (cc d)
   refuses_read_by _ f r o d sought none = absurd (cc d)
 
   -- ---- as callers see it
 
-  module _ (within : Within) (r : ℕ) (at : standing_of old p ≡ inside within (Some (answer.Refused r))) where
-    there : (stage_at t.stages p ≡ Inside within) × (verdict v x c ≡ Some (answer.Refused r))
-    there = inside_as (verdict v x c) (stage_at t.stages p) within (Some (answer.Refused r)) (sym (stood t p k.old) ∙ at)
+  module _ (within : Within) (r : ℕ) (at : standing_of old p ≡ inside within (Some (Answer.Refused r))) where
+    there : (stage_at t.stages p ≡ Inside within) × (verdict v x c ≡ Some (Answer.Refused r))
+    there = inside_as (verdict v x c) (stage_at t.stages p) within (Some (Answer.Refused r)) (sym (stood t p k.old) ∙ at)
 
     here : k.from ≡ x
     here = going_here (knows_at x) w (stage_at t.stages p) within m.what x k.from k.call there.0 k.starts
 
-    decided : verdict v k.from c ≡ Some (answer.Refused r)
+    decided : verdict v k.from c ≡ Some (Answer.Refused r)
     decided = ap (λ z. verdict v z c) here ∙ there.1
 
     seeks : sought_by old p ≡ sought_at k.from
     seeks = sought_is t p ∙ ap sought_at (sym here)
 
-    pub for_turn : is_for_turn (sought_by old p) ≡ true → (HasTurn old.state.turn p → ⊥) → entries_of p old.turn_list ≡ 0 → is_starved old p ≡ false → (a ≡ answer.Refused r) × (new.turn_list ≡ notified old.turn_list 1)
+    pub for_turn : is_for_turn (sought_by old p) ≡ true → (HasTurn old.state.turn p → ⊥) → entries_of p old.turn_list ≡ 0 → is_starved old p ≡ false → (a ≡ Answer.Refused r) × (new.turn_list ≡ notified old.turn_list 1)
     for_turn sought without none plain =
         let uncounted : counted c ≡ 0 = sym (sees.counted_bit c) ∙ ap bit (sym (sees.starved_at l.courses p) ∙ plain) in
         let it = refuses_by k.from k.acts.found r (fit t u m a w k) k.acts.turn decided (sym (ap is_for_turn seeks) ∙ sought) without (sym (k.old.lock.turn.owners p) ∙ none) uncounted in
         (says t u m a w k ∙ it.0, it.1)
 
-    pub to_read : sought_by old p ≡ Some read → entries_of p old.no_writer ≡ 0 → (a ≡ answer.Refused r) × (new.no_writer ≡ notified old.no_writer 1)
+    pub to_read : sought_by old p ≡ Some read → entries_of p old.no_writer ≡ 0 → (a ≡ Answer.Refused r) × (new.no_writer ≡ notified old.no_writer 1)
     to_read sought none =
         let unlisted : in_no_writer k.from ≡ 0 = ap in_no_writer here ∙ (sym (k.old.lock.owners_no_writer p) ∙ none) in
         let it = refuses_read_by k.from k.acts.found r k.acts.no_writer decided (sym seeks ∙ sought) unlisted in

@@ -1,68 +1,30 @@
 -- What each action on the word or on a list changes and decides, place by place. Written by generators/rwlock_world_rows.py.
-use Rattle.std.proofs.Common.{◌≡◌, ℕ, ◌+◌, ◌<◌, ◌≤◌, ◌==◌, ◌⊎◌, ◌||◌, not, inl, inr, if◌then◌else◌, Bool, true, false, List, Option, Some, None, refl, sym, ◌∙◌}
-use Rattle.lock_event.specs.declared.event.Entry.{Entry}
-use Rattle.lock_event.specs.Lists.{is_marked_at, without}
-use Rattle.world_base.specs.queue.Parties.{is_party}
-use Rattle.world_base.specs.declared.moves.Answer.{Answer}
-use Rattle.world_base.specs.declared.moves.Answer.TheVariants as answer
-use Rattle.world_base.specs.declared.moves.Got.TheVariants.{Value}
-use Rattle.lock_program.specs.declared.refusal.Refusal.{Refusal}
-use Rattle.lock_program.specs.declared.refusal.Refusal.TheVariants as refusal
-use Rattle.lock_program.specs.Refusals.{number_of}
-use Rattle.world_base.specs.Rights.{Right, read, upgradable}
-use Rattle.world_base.specs.Steps.{Deed, nothing, changes, does, joins, asks, leaves, notifies}
-use Rattle.world_base.proofs.Equations.{chosen}
-use Rattle.world_mutex.specs.machine.Course.{Course as TurnCourse, is_out as is_out_there, is_holding}
-use Rattle.lock_program.specs.declared.rwlock.Action.{Action}
-use Rattle.lock_program.specs.declared.rwlock.Action.TheVariants as act
-use Rattle.lock_program.specs.declared.end.End.TheVariants.{Pending, Refused}
-use Rattle.world_rwlock.specs.declared.program.led.Next.{Next}
-use Rattle.world_rwlock.specs.declared.program.led.Next.TheVariants as next
-use Rattle.lock_program.specs.declared.rwlock.Found.{Found}
-use Rattle.lock_program.specs.declared.rwlock.Found.TheVariants.{Done, Writer, Full, NoneLeft, SomeLeft, NoMemory, Yes, No, Turn}
-use Rattle.lock_program.specs.declared.rwlock.Found.TheVariants as found
-use Rattle.lock_program.specs.declared.mutex.Step.TheVariants as turn_step
-use Rattle.lock_program.specs.declared.end.End.TheVariants as turn_end
-use Rattle.lock_program.specs.declared.rwlock.Purpose.TheVariants as purpose
-use Rattle.lock_program.specs.declared.rwlock.Ending.TheVariants as ending
-use Rattle.lock_program.specs.declared.rwlock.Place.{Place}
-use Rattle.lock_program.specs.declared.rwlock.Place.TheVariants.{Out, Made, Reading, Upgradable, Writing, EnterRead, JoinNoWriter, LookNoWriter, AskNoWriter, PassOn, LeaveNoWriter, RefuseLeave, RefuseNotify, CancelRead, TryRead, EnterTurn, WaitTurn, TakeTurn, TryTurn, CancelTurn, CancellingTurn, ReleaseTurn, ReleasingTurn, Add, TryUpgrade, Upgrade, Mark, TryWrite, JoinNoReaders, LookNoReaders, AskNoReaders, AwaitNoReaders, LookUnlisted, LeaveNoReaders, DropRead, DropReadNotify, DropUpgradable, DropUpgradableNotify, DropWrite, CancelAwait, Unmark, UnmarkNotify, Down, DownNotify, DowngradeNotify}
-use Rattle.world_rwlock.specs.program.Program.{action_of, next_of, place_after}
-use Rattle.world_rwlock.specs.machine.Roles.{has_turn, in_no_writer, in_no_readers, fits_turn}
-use Rattle.world_rwlock.specs.program.Parties.{OnNoWriter, OnNoReaders}
-use Rattle.world_rwlock.specs.machine.Machine.{RwLock}
-use Rattle.world_rwlock.specs.machine.Acts.{Finds, readers, marked}
+use Rattle.world_rwlock.proofs.Prelude.{◌≡◌, ℕ, ◌+◌, ◌<◌, ◌≤◌, ◌==◌, ◌⊎◌, ◌||◌, not, inl, inr, if◌then◌else◌, Bool, true, false, List, Option, Some, None, refl, sym, ◌∙◌, Entry, is_marked_at, without, is_party, Answer, Value, Refusal, number_of, Right, read, upgradable, Deed, nothing, changes, does, joins, asks, leaves, notifies, chosen, TurnCourse, is_out as is_out_there, is_holding, Action, Pending, Refused, Next, Found, Done, Writer, Full, NoneLeft, SomeLeft, NoMemory, Yes, No, Turn, TurnStep as Step, End, Purpose, Ending, Place, Out, Made, Reading, Upgradable, Writing, EnterRead, JoinNoWriter, LookNoWriter, AskNoWriter, PassOn, LeaveNoWriter, RefuseLeave, RefuseNotify, CancelRead, TryRead, EnterTurn, WaitTurn, TakeTurn, TryTurn, CancelTurn, CancellingTurn, ReleaseTurn, ReleasingTurn, Add, TryUpgrade, Upgrade, Mark, TryWrite, JoinNoReaders, LookNoReaders, AskNoReaders, AwaitNoReaders, LookUnlisted, LeaveNoReaders, DropRead, DropReadNotify, DropUpgradable, DropUpgradableNotify, DropWrite, CancelAwait, Unmark, UnmarkNotify, Down, DownNotify, DowngradeNotify, action_of, next_of, place_after, has_turn, in_no_writer, in_no_readers, fits_turn, OnNoWriter, OnNoReaders, RwLock, Finds, readers, marked, Change, begins_to_read, stops_reading, becomes_upgradable, stops_upgradable, begins_to_wait, begins_to_write, upgrades_at_once, unmarks, downgrades_to_upgradable, turn_after, starved_after, value_after, entries_after, gives_back, gives_up, ListName, for_the_turn, for_no_readers, for_no_writer, decided_after, answer_by, strays, course_of, sought_at, passing, upgrading, waiting, writing, turn_as, share_of, is_reading, is_upgrade, verdict, notifies_additionally}
 use Rattle.world_rwlock.proofs.of_machine.stages.Leads.{Led, steps_in_turn}
-use Rattle.world_rwlock.specs.Changes.{Change, begins_to_read, stops_reading, becomes_upgradable, stops_upgradable, begins_to_wait, begins_to_write, upgrades, upgrades_at_once, unmarks, downgrades, downgrades_to_upgradable, turn_after, starved_after, value_after, entries_after, gives_back, gives_up}
+use Rattle.world_rwlock.specs.Changes.{upgrades, downgrades}
 use Rattle.world_rwlock.specs.State as state
-use Rattle.world_rwlock.specs.State.{ListName, for_the_turn, for_no_readers, for_no_writer}
-use Rattle.world_base.proofs.of_table.Calls.{decided_after}
-use Rattle.world_rwlock.specs.Guarded.{answer_by}
-use Rattle.world_rwlock.specs.Stages.{strays, course_of, sought_at}
-use Rattle.world_rwlock.specs.View.{passing, upgrading, waiting, writing, turn_as, share_of, is_reading, is_upgrade, verdict}
-use Rattle.world_base.specs.Steps.{notifies_additionally}
 
 -- what an action changes that found this
 abbrev pub deed_of : Action → Found → Deed Change ListName
-deed_of act.Read Done = changes begins_to_read
-deed_of act.Add Done = changes becomes_upgradable
-deed_of act.Off _ = changes stops_reading
-deed_of act.Load NoneLeft = changes begins_to_write
-deed_of act.Mark NoneLeft = changes begins_to_write
-deed_of act.Mark _ = changes begins_to_wait
-deed_of act.TryWrite Done = changes begins_to_write
-deed_of act.TryUpgrade Done = changes upgrades_at_once
-deed_of act.Upgrade _ = changes upgrades
-deed_of act.Down _ = changes downgrades
-deed_of act.Unmark _ = changes unmarks
-deed_of act.JoinNoWriter Done = does for_no_writer joins
-deed_of act.AskNoWriter Yes = does for_no_writer asks
-deed_of act.LeaveNoWriter _ = does for_no_writer leaves
-deed_of act.NotifyNoWriter _ = does for_no_writer (notifies 1)
-deed_of act.JoinNoReaders Done = does for_no_readers joins
-deed_of act.AskNoReaders Yes = does for_no_readers asks
-deed_of act.LeaveNoReaders _ = does for_no_readers leaves
-deed_of act.NotifyNoReaders _ = does for_no_readers (notifies 1)
+deed_of Action.Read Done = changes begins_to_read
+deed_of Action.Add Done = changes becomes_upgradable
+deed_of Action.Off _ = changes stops_reading
+deed_of Action.Load NoneLeft = changes begins_to_write
+deed_of Action.Mark NoneLeft = changes begins_to_write
+deed_of Action.Mark _ = changes begins_to_wait
+deed_of Action.TryWrite Done = changes begins_to_write
+deed_of Action.TryUpgrade Done = changes upgrades_at_once
+deed_of Action.Upgrade _ = changes upgrades
+deed_of Action.Down _ = changes downgrades
+deed_of Action.Unmark _ = changes unmarks
+deed_of Action.JoinNoWriter Done = does for_no_writer joins
+deed_of Action.AskNoWriter Yes = does for_no_writer asks
+deed_of Action.LeaveNoWriter _ = does for_no_writer leaves
+deed_of Action.NotifyNoWriter _ = does for_no_writer (notifies 1)
+deed_of Action.JoinNoReaders Done = does for_no_readers joins
+deed_of Action.AskNoReaders Yes = does for_no_readers asks
+deed_of Action.LeaveNoReaders _ = does for_no_readers leaves
+deed_of Action.NotifyNoReaders _ = does for_no_readers (notifies 1)
 deed_of _ _ = nothing
 
 -- and which right the place is for
@@ -76,7 +38,7 @@ abbrev pub verdict_then : ℕ → TurnCourse → Next → Option Answer
 verdict_then v t n = decided_after (answer_by v n) (verdict v (place_after n) t)
 
 abbrev pub is_after_ready : Answer → Bool
-is_after_ready (answer.Refused n) = n == number_of refusal.Finished
+is_after_ready (Answer.Refused n) = n == number_of Refusal.Finished
 is_after_ready _ = false
 
 -- how a deed turns whether its party reads
@@ -152,16 +114,16 @@ MeetsReaders l x s = ⊥
 
 -- why a step refuses its call
 abbrev pub Refuses : Bool → RwLock → Place → Found → Refusal → Type 0
-Refuses memory l x f refusal.Memory = (memory ≡ false) × (in_no_writer x + in_no_readers x ≡ 0) × (deed_at x f ≡ nothing) × ((t : TurnCourse) → fits_turn x t ≡ true → JoinsAt x t) × (lacks_memory x ≡ true)
-Refuses memory l x f refusal.Readers = (l.limit ≤ readers l) × MeetsReaders l x (sought_at (place_after (next_of x f)))
+Refuses memory l x f Refusal.Memory = (memory ≡ false) × (in_no_writer x + in_no_readers x ≡ 0) × (deed_at x f ≡ nothing) × ((t : TurnCourse) → fits_turn x t ≡ true → JoinsAt x t) × (lacks_memory x ≡ true)
+Refuses memory l x f Refusal.Readers = (l.limit ≤ readers l) × MeetsReaders l x (sought_at (place_after (next_of x f)))
 Refuses memory l x f _ = ⊥
 
 -- why a step decides its call on an answer
 abbrev pub Reason : Bool → RwLock → ℕ → Place → Found → Answer → Type 0
-Reason memory l v x f answer.Pending = WaitsAt x f
-Reason memory l v x f (answer.Ready got) = (got ≡ Value v) × (is_got (place_after (next_of x f)) ≡ true)
-Reason memory l v x f (answer.Granted got) = (got ≡ Value v) × (is_got (place_after (next_of x f)) ≡ true)
-Reason memory l v x f (answer.Refused n) = (r : Refusal) × (n ≡ number_of r) × Refuses memory l x f r
+Reason memory l v x f Answer.Pending = WaitsAt x f
+Reason memory l v x f (Answer.Ready got) = (got ≡ Value v) × (is_got (place_after (next_of x f)) ≡ true)
+Reason memory l v x f (Answer.Granted got) = (got ≡ Value v) × (is_got (place_after (next_of x f)) ≡ true)
+Reason memory l v x f (Answer.Refused n) = (r : Refusal) × (n ≡ number_of r) × Refuses memory l x f r
 Reason memory l v x f _ = Unit {0}
 
 abbrev pub Judged : Bool → RwLock → ℕ → Place → Found → Option Answer → Option Answer → Type 0
@@ -183,16 +145,16 @@ keeps_what_it_has o d = not (gives_up d) || is_judged o
 
 -- an upgrade's future stays one while its call is undecided or pending
 abbrev pub KeepsUpgrade : ℕ → Place → Next → Type 0
-KeepsUpgrade v x (next.Do a q) = (t : TurnCourse) → verdict v q t ≡ None → is_upgrade q ≡ is_upgrade x
-KeepsUpgrade v x (next.Wait q) = is_upgrade q ≡ true
-KeepsUpgrade v x (next.End turn_end.Waiting q) = is_upgrade q ≡ true
-KeepsUpgrade v x (next.End Pending q) = is_upgrade q ≡ is_upgrade x
-KeepsUpgrade v x (next.End (Refused r) q) = is_upgrade q ≡ is_upgrade x
-KeepsUpgrade v x (next.End _ q) = Unit {0}
+KeepsUpgrade v x (Next.Do a q) = (t : TurnCourse) → verdict v q t ≡ None → is_upgrade q ≡ is_upgrade x
+KeepsUpgrade v x (Next.Wait q) = is_upgrade q ≡ true
+KeepsUpgrade v x (Next.End End.Waiting q) = is_upgrade q ≡ true
+KeepsUpgrade v x (Next.End Pending q) = is_upgrade q ≡ is_upgrade x
+KeepsUpgrade v x (Next.End (Refused r) q) = is_upgrade q ≡ is_upgrade x
+KeepsUpgrade v x (Next.End _ q) = Unit {0}
 
 -- where a party stands after a refusal
 abbrev pub RefusedAt : Place → Next → Type 0
-RefusedAt x (next.End (Refused r) q) = ((is_made q ≡ true) × (is_upgrade x ≡ false)) ⊎ ((q ≡ LookUnlisted true) × (is_upgrade x ≡ true))
+RefusedAt x (Next.End (Refused r) q) = ((is_made q ≡ true) × (is_upgrade x ≡ false)) ⊎ ((q ≡ LookUnlisted true) × (is_upgrade x ≡ true))
 RefusedAt x _ = Unit {0}
 
 pub record Row (memory : Bool) (l : RwLock) (v : ℕ) (x : Place) (f : Found) : Type 0 where
@@ -227,21 +189,21 @@ module _ (memory : Bool) (l : RwLock) (v : ℕ) where
   row Writing _ e n t = absurd e
   row (EnterRead true) Done e n t = record { reading = refl; sharing = inr ((λ p t. refl), refl); starving = λ p s. refl; valued = λ u. refl; unturned = λ p a. refl; no_writer = λ p a b o. o; no_readers = λ p a b o. o; finding = e; judged = λ t u. (refl, refl); room = tt; holds_on = λ t. refl; over = refl; upgrade = tt; refused = tt }
   row (EnterRead true) Writer e n t = record { reading = refl; sharing = inr ((λ p t. refl), refl); starving = λ p s. refl; valued = λ u. refl; unturned = λ p a. refl; no_writer = λ p a b o. o; no_readers = λ p a b o. o; finding = tt; judged = λ t u. tt; room = tt; holds_on = λ t. refl; over = refl; upgrade = λ t h. refl; refused = tt }
-  row (EnterRead true) Full e n t = record { reading = refl; sharing = inr ((λ p t. refl), refl); starving = λ p s. refl; valued = λ u. refl; unturned = λ p a. refl; no_writer = λ p a b o. o; no_readers = λ p a b o. o; finding = tt; judged = λ t u. (refusal.Readers, refl, (e.1, e.0)); room = tt; holds_on = λ t. refl; over = refl; upgrade = λ t h. refl; refused = tt }
+  row (EnterRead true) Full e n t = record { reading = refl; sharing = inr ((λ p t. refl), refl); starving = λ p s. refl; valued = λ u. refl; unturned = λ p a. refl; no_writer = λ p a b o. o; no_readers = λ p a b o. o; finding = tt; judged = λ t u. (Refusal.Readers, refl, (e.1, e.0)); room = tt; holds_on = λ t. refl; over = refl; upgrade = λ t h. refl; refused = tt }
   row (EnterRead true) _ e n t = absurd e
   row (EnterRead false) Done e n t = record { reading = refl; sharing = inr ((λ p t. refl), refl); starving = λ p s. refl; valued = λ u. refl; unturned = λ p a. refl; no_writer = λ p a b o. o; no_readers = λ p a b o. o; finding = e; judged = λ t u. (refl, refl); room = tt; holds_on = λ t. refl; over = refl; upgrade = tt; refused = tt }
   row (EnterRead false) Writer e n t = record { reading = refl; sharing = inr ((λ p t. refl), refl); starving = λ p s. refl; valued = λ u. refl; unturned = λ p a. refl; no_writer = λ p a b o. o; no_readers = λ p a b o. o; finding = tt; judged = λ t u. tt; room = tt; holds_on = λ t. refl; over = refl; upgrade = λ t h. refl; refused = tt }
-  row (EnterRead false) Full e n t = record { reading = refl; sharing = inr ((λ p t. refl), refl); starving = λ p s. refl; valued = λ u. refl; unturned = λ p a. refl; no_writer = λ p a b o. o; no_readers = λ p a b o. o; finding = tt; judged = λ t u. (refusal.Readers, refl, (e.1, e.0)); room = tt; holds_on = λ t. refl; over = refl; upgrade = refl; refused = inl (refl, refl) }
+  row (EnterRead false) Full e n t = record { reading = refl; sharing = inr ((λ p t. refl), refl); starving = λ p s. refl; valued = λ u. refl; unturned = λ p a. refl; no_writer = λ p a b o. o; no_readers = λ p a b o. o; finding = tt; judged = λ t u. (Refusal.Readers, refl, (e.1, e.0)); room = tt; holds_on = λ t. refl; over = refl; upgrade = refl; refused = inl (refl, refl) }
   row (EnterRead false) _ e n t = absurd e
   row (JoinNoWriter true) Done e n t = record { reading = refl; sharing = inr ((λ p t. refl), refl); starving = λ p s. refl; valued = λ u. refl; unturned = λ p a. refl; no_writer = λ p a b o. o; no_readers = λ p a b o. o; finding = tt; judged = λ t u. tt; room = e; holds_on = λ t. refl; over = refl; upgrade = λ t h. refl; refused = tt }
-  row (JoinNoWriter true) NoMemory e n t = record { reading = refl; sharing = inr ((λ p t. refl), refl); starving = λ p s. refl; valued = λ u. refl; unturned = λ p a. refl; no_writer = λ p a b o. o; no_readers = λ p a b o. o; finding = tt; judged = λ t u. (refusal.Memory, refl, (e, refl, refl, (λ t h. inl h), refl)); room = tt; holds_on = λ t. refl; over = refl; upgrade = λ t h. refl; refused = tt }
+  row (JoinNoWriter true) NoMemory e n t = record { reading = refl; sharing = inr ((λ p t. refl), refl); starving = λ p s. refl; valued = λ u. refl; unturned = λ p a. refl; no_writer = λ p a b o. o; no_readers = λ p a b o. o; finding = tt; judged = λ t u. (Refusal.Memory, refl, (e, refl, refl, (λ t h. inl h), refl)); room = tt; holds_on = λ t. refl; over = refl; upgrade = λ t h. refl; refused = tt }
   row (JoinNoWriter true) _ e n t = absurd e
   row (JoinNoWriter false) Done e n t = record { reading = refl; sharing = inr ((λ p t. refl), refl); starving = λ p s. refl; valued = λ u. refl; unturned = λ p a. refl; no_writer = λ p a b o. o; no_readers = λ p a b o. o; finding = tt; judged = λ t u. tt; room = e; holds_on = λ t. refl; over = refl; upgrade = λ t h. refl; refused = tt }
-  row (JoinNoWriter false) NoMemory e n t = record { reading = refl; sharing = inr ((λ p t. refl), refl); starving = λ p s. refl; valued = λ u. refl; unturned = λ p a. refl; no_writer = λ p a b o. o; no_readers = λ p a b o. o; finding = tt; judged = λ t u. (refusal.Memory, refl, (e, refl, refl, (λ t h. inl h), refl)); room = tt; holds_on = λ t. refl; over = refl; upgrade = refl; refused = inl (refl, refl) }
+  row (JoinNoWriter false) NoMemory e n t = record { reading = refl; sharing = inr ((λ p t. refl), refl); starving = λ p s. refl; valued = λ u. refl; unturned = λ p a. refl; no_writer = λ p a b o. o; no_readers = λ p a b o. o; finding = tt; judged = λ t u. (Refusal.Memory, refl, (e, refl, refl, (λ t h. inl h), refl)); room = tt; holds_on = λ t. refl; over = refl; upgrade = refl; refused = inl (refl, refl) }
   row (JoinNoWriter false) _ e n t = absurd e
   row (LookNoWriter told) Done e n t = record { reading = refl; sharing = inr ((λ p t. refl), refl); starving = λ p s. refl; valued = λ u. refl; unturned = λ p a. refl; no_writer = λ p a b o. o; no_readers = λ p a b o. o; finding = e; judged = λ t u. (refl, refl); room = tt; holds_on = λ t. refl; over = refl; upgrade = λ t h. refl; refused = tt }
   row (LookNoWriter told) Writer e n t = record { reading = refl; sharing = inr ((λ p t. refl), refl); starving = λ p s. refl; valued = λ u. refl; unturned = λ p a. refl; no_writer = λ p a b o. o; no_readers = λ p a b o. o; finding = tt; judged = λ t u. tt; room = tt; holds_on = λ t. refl; over = refl; upgrade = λ t h. refl; refused = tt }
-  row (LookNoWriter told) Full e n t = record { reading = refl; sharing = inr ((λ p t. refl), refl); starving = λ p s. refl; valued = λ u. refl; unturned = λ p a. refl; no_writer = λ p a b o. o; no_readers = λ p a b o. o; finding = tt; judged = λ t u. (refusal.Readers, refl, (e.1, e.0)); room = tt; holds_on = λ t. refl; over = refl; upgrade = λ t h. refl; refused = tt }
+  row (LookNoWriter told) Full e n t = record { reading = refl; sharing = inr ((λ p t. refl), refl); starving = λ p s. refl; valued = λ u. refl; unturned = λ p a. refl; no_writer = λ p a b o. o; no_readers = λ p a b o. o; finding = tt; judged = λ t u. (Refusal.Readers, refl, (e.1, e.0)); room = tt; holds_on = λ t. refl; over = refl; upgrade = λ t h. refl; refused = tt }
   row (LookNoWriter told) _ e n t = absurd e
   row AskNoWriter Yes e n t = record { reading = refl; sharing = inr ((λ p t. refl), refl); starving = λ p s. refl; valued = λ u. refl; unturned = λ p a. refl; no_writer = λ p a b o. asks_so p a b o; no_readers = λ p a b o. o; finding = tt; judged = λ t u. tt; room = tt; holds_on = λ t. refl; over = refl; upgrade = λ t h. refl; refused = tt }
   row AskNoWriter No e n t = record { reading = refl; sharing = inr ((λ p t. refl), refl); starving = λ p s. refl; valued = λ u. refl; unturned = λ p a. refl; no_writer = λ p a b o. o.1; no_readers = λ p a b o. o; finding = tt; judged = λ t u. refl; room = tt; holds_on = λ t. refl; over = refl; upgrade = refl; refused = tt }
@@ -254,10 +216,10 @@ module _ (memory : Bool) (l : RwLock) (v : ℕ) where
   row (RefuseLeave true) _ e n t = absurd e
   row (RefuseLeave false) Done e n t = record { reading = refl; sharing = inr ((λ p t. refl), refl); starving = λ p s. refl; valued = λ u. refl; unturned = λ p a. refl; no_writer = λ p a b o. o; no_readers = λ p a b o. o; finding = tt; judged = λ t u. (refl, refl); room = tt; holds_on = λ t. refl; over = refl; upgrade = refl; refused = inl (refl, refl) }
   row (RefuseLeave false) _ e n t = absurd e
-  row (RefuseNotify refusal.Memory) Done e n t = record { reading = refl; sharing = inr ((λ p t. refl), refl); starving = λ p s. refl; valued = λ u. refl; unturned = λ p a. refl; no_writer = λ p a b o. o; no_readers = λ p a b o. o; finding = refl; judged = λ t u. (refl, refl); room = tt; holds_on = λ t. refl; over = refl; upgrade = refl; refused = inl (refl, refl) }
-  row (RefuseNotify refusal.Memory) _ e n t = absurd e
-  row (RefuseNotify refusal.Readers) Done e n t = record { reading = refl; sharing = inr ((λ p t. refl), refl); starving = λ p s. refl; valued = λ u. refl; unturned = λ p a. refl; no_writer = λ p a b o. o; no_readers = λ p a b o. o; finding = refl; judged = λ t u. (refl, refl); room = tt; holds_on = λ t. refl; over = refl; upgrade = refl; refused = inl (refl, refl) }
-  row (RefuseNotify refusal.Readers) _ e n t = absurd e
+  row (RefuseNotify Refusal.Memory) Done e n t = record { reading = refl; sharing = inr ((λ p t. refl), refl); starving = λ p s. refl; valued = λ u. refl; unturned = λ p a. refl; no_writer = λ p a b o. o; no_readers = λ p a b o. o; finding = refl; judged = λ t u. (refl, refl); room = tt; holds_on = λ t. refl; over = refl; upgrade = refl; refused = inl (refl, refl) }
+  row (RefuseNotify Refusal.Memory) _ e n t = absurd e
+  row (RefuseNotify Refusal.Readers) Done e n t = record { reading = refl; sharing = inr ((λ p t. refl), refl); starving = λ p s. refl; valued = λ u. refl; unturned = λ p a. refl; no_writer = λ p a b o. o; no_readers = λ p a b o. o; finding = refl; judged = λ t u. (refl, refl); room = tt; holds_on = λ t. refl; over = refl; upgrade = refl; refused = inl (refl, refl) }
+  row (RefuseNotify Refusal.Readers) _ e n t = absurd e
   row (RefuseNotify _) _ e n t = absurd (n refl)
   row CancelRead Done e n t = record { reading = refl; sharing = inr ((λ p t. refl), refl); starving = λ p s. refl; valued = λ u. refl; unturned = λ p a. refl; no_writer = λ p a b o. o; no_readers = λ p a b o. o; finding = tt; judged = λ t u. (refl, refl); room = tt; holds_on = λ t. refl; over = refl; upgrade = tt; refused = tt }
   row CancelRead _ e n t = absurd e
@@ -277,10 +239,10 @@ module _ (memory : Bool) (l : RwLock) (v : ℕ) where
   row (Add true) Full e n t = record { reading = refl; sharing = inr ((λ p t. refl), refl); starving = λ p s. refl; valued = λ u. refl; unturned = λ p a. refl; no_writer = λ p a b o. o; no_readers = λ p a b o. o; finding = tt; judged = λ t u. tt; room = tt; holds_on = λ t. refl; over = refl; upgrade = λ t h. refl; refused = tt }
   row (Add true) _ e n t = absurd e
   row (Add false) Done e n t = record { reading = refl; sharing = inl (refl, λ p. refl); starving = λ p s. refl; valued = λ u. refl; unturned = λ p a. refl; no_writer = λ p a b o. o; no_readers = λ p a b o. o; finding = (refl, refl, e); judged = λ t u. (refl, refl); room = tt; holds_on = λ t. refl; over = refl; upgrade = tt; refused = tt }
-  row (Add false) Full e n t = record { reading = refl; sharing = inr ((λ p t. refl), refl); starving = λ p s. refl; valued = λ u. refl; unturned = λ p a. refl; no_writer = λ p a b o. o; no_readers = λ p a b o. o; finding = tt; judged = λ t u. (refusal.Readers, refl, (e, refl)); room = tt; holds_on = λ t. refl; over = refl; upgrade = λ t h. refl; refused = tt }
+  row (Add false) Full e n t = record { reading = refl; sharing = inr ((λ p t. refl), refl); starving = λ p s. refl; valued = λ u. refl; unturned = λ p a. refl; no_writer = λ p a b o. o; no_readers = λ p a b o. o; finding = tt; judged = λ t u. (Refusal.Readers, refl, (e, refl)); room = tt; holds_on = λ t. refl; over = refl; upgrade = λ t h. refl; refused = tt }
   row (Add false) _ e n t = absurd e
   row TryUpgrade Done e n t = record { reading = refl; sharing = inl (refl, λ p. refl); starving = λ p s. refl; valued = λ u. refl; unturned = λ p a. refl; no_writer = λ p a b o. o; no_readers = λ p a b o. o; finding = (refl, refl, e.1); judged = λ t u. (refl, refl); room = tt; holds_on = λ t. refl; over = refl; upgrade = tt; refused = tt }
-  row TryUpgrade found.NotFree e n t = record { reading = refl; sharing = inr ((λ p t. refl), refl); starving = λ p s. refl; valued = λ u. refl; unturned = λ p a. refl; no_writer = λ p a b o. o; no_readers = λ p a b o. o; finding = tt; judged = λ t u. tt; room = tt; holds_on = λ t. refl; over = refl; upgrade = tt; refused = tt }
+  row TryUpgrade Found.NotFree e n t = record { reading = refl; sharing = inr ((λ p t. refl), refl); starving = λ p s. refl; valued = λ u. refl; unturned = λ p a. refl; no_writer = λ p a b o. o; no_readers = λ p a b o. o; finding = tt; judged = λ t u. tt; room = tt; holds_on = λ t. refl; over = refl; upgrade = tt; refused = tt }
   row TryUpgrade _ e n t = absurd e
   row Upgrade Done e n t = record { reading = refl; sharing = inl (refl, λ p. refl); starving = λ p s. refl; valued = λ u. refl; unturned = λ p a. refl; no_writer = λ p a b o. o; no_readers = λ p a b o. o; finding = (refl, refl); judged = λ t u. tt; room = tt; holds_on = λ t. refl; over = refl; upgrade = refl; refused = tt }
   row Upgrade _ e n t = absurd e
@@ -288,13 +250,13 @@ module _ (memory : Bool) (l : RwLock) (v : ℕ) where
   row Mark SomeLeft e n t = record { reading = refl; sharing = inl (refl, λ p. refl); starving = λ p s. refl; valued = λ u. refl; unturned = λ p a. refl; no_writer = λ p a b o. o; no_readers = λ p a b o. o; finding = (refl, refl, e); judged = λ t u. tt; room = tt; holds_on = λ t. refl; over = refl; upgrade = λ t h. refl; refused = tt }
   row Mark _ e n t = absurd e
   row TryWrite Done e n t = record { reading = refl; sharing = inl (refl, λ p. refl); starving = λ p s. refl; valued = λ u. refl; unturned = λ p a. refl; no_writer = λ p a b o. o; no_readers = λ p a b o. o; finding = (refl, inl refl, e.1); judged = λ t u. (refl, refl); room = tt; holds_on = λ t. refl; over = refl; upgrade = tt; refused = tt }
-  row TryWrite found.NotFree e n t = record { reading = refl; sharing = inr ((λ p t. refl), refl); starving = λ p s. refl; valued = λ u. refl; unturned = λ p a. refl; no_writer = λ p a b o. o; no_readers = λ p a b o. o; finding = tt; judged = λ t u. tt; room = tt; holds_on = λ t. refl; over = refl; upgrade = λ t h. refl; refused = tt }
+  row TryWrite Found.NotFree e n t = record { reading = refl; sharing = inr ((λ p t. refl), refl); starving = λ p s. refl; valued = λ u. refl; unturned = λ p a. refl; no_writer = λ p a b o. o; no_readers = λ p a b o. o; finding = tt; judged = λ t u. tt; room = tt; holds_on = λ t. refl; over = refl; upgrade = λ t h. refl; refused = tt }
   row TryWrite _ e n t = absurd e
   row (JoinNoReaders true) Done e n t = record { reading = refl; sharing = inr ((λ p t. refl), refl); starving = λ p s. refl; valued = λ u. refl; unturned = λ p a. refl; no_writer = λ p a b o. o; no_readers = λ p a b o. o; finding = tt; judged = λ t u. tt; room = e; holds_on = λ t. refl; over = refl; upgrade = λ t h. refl; refused = tt }
-  row (JoinNoReaders true) NoMemory e n t = record { reading = refl; sharing = inr ((λ p t. refl), refl); starving = λ p s. refl; valued = λ u. refl; unturned = λ p a. refl; no_writer = λ p a b o. o; no_readers = λ p a b o. o; finding = tt; judged = λ t u. (refusal.Memory, refl, (e, refl, refl, (λ t h. inr (h, refl, refl)), refl)); room = tt; holds_on = λ t. refl; over = refl; upgrade = refl; refused = inr (refl, refl) }
+  row (JoinNoReaders true) NoMemory e n t = record { reading = refl; sharing = inr ((λ p t. refl), refl); starving = λ p s. refl; valued = λ u. refl; unturned = λ p a. refl; no_writer = λ p a b o. o; no_readers = λ p a b o. o; finding = tt; judged = λ t u. (Refusal.Memory, refl, (e, refl, refl, (λ t h. inr (h, refl, refl)), refl)); room = tt; holds_on = λ t. refl; over = refl; upgrade = refl; refused = inr (refl, refl) }
   row (JoinNoReaders true) _ e n t = absurd e
   row (JoinNoReaders false) Done e n t = record { reading = refl; sharing = inr ((λ p t. refl), refl); starving = λ p s. refl; valued = λ u. refl; unturned = λ p a. refl; no_writer = λ p a b o. o; no_readers = λ p a b o. o; finding = tt; judged = λ t u. tt; room = e; holds_on = λ t. refl; over = refl; upgrade = λ t h. refl; refused = tt }
-  row (JoinNoReaders false) NoMemory e n t = record { reading = refl; sharing = inr ((λ p t. refl), refl); starving = λ p s. refl; valued = λ u. refl; unturned = λ p a. refl; no_writer = λ p a b o. o; no_readers = λ p a b o. o; finding = tt; judged = λ t u. (refusal.Memory, refl, (e, refl, refl, (λ t h. inr (h, refl, refl)), refl)); room = tt; holds_on = λ t. refl; over = refl; upgrade = λ t h. refl; refused = tt }
+  row (JoinNoReaders false) NoMemory e n t = record { reading = refl; sharing = inr ((λ p t. refl), refl); starving = λ p s. refl; valued = λ u. refl; unturned = λ p a. refl; no_writer = λ p a b o. o; no_readers = λ p a b o. o; finding = tt; judged = λ t u. (Refusal.Memory, refl, (e, refl, refl, (λ t h. inr (h, refl, refl)), refl)); room = tt; holds_on = λ t. refl; over = refl; upgrade = λ t h. refl; refused = tt }
   row (JoinNoReaders false) _ e n t = absurd e
   row (LookNoReaders u) NoneLeft e n t = record { reading = refl; sharing = inl (refl, λ p. refl); starving = λ p s. refl; valued = λ u. refl; unturned = λ p a. refl; no_writer = λ p a b o. o; no_readers = λ p a b o. o; finding = (refl, inr refl, e); judged = λ t u. (refl, refl); room = tt; holds_on = λ t. refl; over = refl; upgrade = λ t h. absurd (cc); refused = tt }
   row (LookNoReaders u) SomeLeft e n t = record { reading = refl; sharing = inr ((λ p t. refl), refl); starving = λ p s. refl; valued = λ u. refl; unturned = λ p a. refl; no_writer = λ p a b o. o; no_readers = λ p a b o. o; finding = tt; judged = λ t u. tt; room = tt; holds_on = λ t. refl; over = refl; upgrade = λ t h. refl; refused = tt }
@@ -351,104 +313,104 @@ pub record TurnRow (v : ℕ) (x : Place) (f : Found) : Type 0 where
   pub refused : RefusedAt x (next_of x f)
 
 pub turn_row : (v : ℕ) (u : TurnCourse) (x : Place) (f : Found) → steps_in_turn x ≡ true → Led x f u → TurnRow v x f
-turn_row v u (EnterTurn purpose.UpgradableRead) (Turn turn_step.More) t e = record { reading = refl; sharing = refl; over = refl; upgrade = λ t h. refl; refused = tt }
-turn_row v u (EnterTurn purpose.UpgradableRead) (Turn (turn_step.End turn_end.Got)) t e = record { reading = refl; sharing = refl; over = refl; upgrade = λ t h. refl; refused = tt }
-turn_row v u (EnterTurn purpose.UpgradableRead) (Turn (turn_step.End turn_end.Pending)) t e = record { reading = refl; sharing = refl; over = refl; upgrade = refl; refused = tt }
-turn_row v u (EnterTurn purpose.UpgradableRead) (Turn (turn_step.End (turn_end.Refused refusal.Memory))) t e = record { reading = refl; sharing = refl; over = refl; upgrade = refl; refused = inl (refl, refl) }
-turn_row v u (EnterTurn purpose.UpgradableRead) (Turn (turn_step.End (turn_end.Refused refusal.Starved))) t e = record { reading = refl; sharing = refl; over = refl; upgrade = refl; refused = inl (refl, refl) }
-turn_row v u (EnterTurn purpose.UpgradableRead) (Turn _) t e = absurd e
-turn_row v u (EnterTurn purpose.UpgradableRead) _ t e = absurd e
-turn_row v u (EnterTurn purpose.Write) (Turn turn_step.More) t e = record { reading = refl; sharing = refl; over = refl; upgrade = λ t h. refl; refused = tt }
-turn_row v u (EnterTurn purpose.Write) (Turn (turn_step.End turn_end.Got)) t e = record { reading = refl; sharing = refl; over = refl; upgrade = λ t h. refl; refused = tt }
-turn_row v u (EnterTurn purpose.Write) (Turn (turn_step.End turn_end.Pending)) t e = record { reading = refl; sharing = refl; over = refl; upgrade = refl; refused = tt }
-turn_row v u (EnterTurn purpose.Write) (Turn (turn_step.End (turn_end.Refused refusal.Memory))) t e = record { reading = refl; sharing = refl; over = refl; upgrade = refl; refused = inl (refl, refl) }
-turn_row v u (EnterTurn purpose.Write) (Turn (turn_step.End (turn_end.Refused refusal.Starved))) t e = record { reading = refl; sharing = refl; over = refl; upgrade = refl; refused = inl (refl, refl) }
-turn_row v u (EnterTurn purpose.Write) (Turn _) t e = absurd e
-turn_row v u (EnterTurn purpose.Write) _ t e = absurd e
-turn_row v u (WaitTurn purpose.UpgradableRead) (Turn turn_step.More) t e = record { reading = refl; sharing = refl; over = refl; upgrade = λ t h. refl; refused = tt }
-turn_row v u (WaitTurn purpose.UpgradableRead) (Turn (turn_step.End turn_end.Got)) t e = record { reading = refl; sharing = refl; over = refl; upgrade = λ t h. refl; refused = tt }
-turn_row v u (WaitTurn purpose.UpgradableRead) (Turn (turn_step.End turn_end.Pending)) t e = record { reading = refl; sharing = refl; over = refl; upgrade = refl; refused = tt }
-turn_row v u (WaitTurn purpose.UpgradableRead) (Turn (turn_step.End (turn_end.Refused refusal.Memory))) t e = record { reading = refl; sharing = refl; over = refl; upgrade = refl; refused = inl (refl, refl) }
-turn_row v u (WaitTurn purpose.UpgradableRead) (Turn (turn_step.End (turn_end.Refused refusal.Starved))) t e = record { reading = refl; sharing = refl; over = refl; upgrade = refl; refused = inl (refl, refl) }
-turn_row v u (WaitTurn purpose.UpgradableRead) (Turn _) t e = absurd e
-turn_row v u (WaitTurn purpose.UpgradableRead) _ t e = absurd e
-turn_row v u (WaitTurn purpose.Write) (Turn turn_step.More) t e = record { reading = refl; sharing = refl; over = refl; upgrade = λ t h. refl; refused = tt }
-turn_row v u (WaitTurn purpose.Write) (Turn (turn_step.End turn_end.Got)) t e = record { reading = refl; sharing = refl; over = refl; upgrade = λ t h. refl; refused = tt }
-turn_row v u (WaitTurn purpose.Write) (Turn (turn_step.End turn_end.Pending)) t e = record { reading = refl; sharing = refl; over = refl; upgrade = refl; refused = tt }
-turn_row v u (WaitTurn purpose.Write) (Turn (turn_step.End (turn_end.Refused refusal.Memory))) t e = record { reading = refl; sharing = refl; over = refl; upgrade = refl; refused = inl (refl, refl) }
-turn_row v u (WaitTurn purpose.Write) (Turn (turn_step.End (turn_end.Refused refusal.Starved))) t e = record { reading = refl; sharing = refl; over = refl; upgrade = refl; refused = inl (refl, refl) }
-turn_row v u (WaitTurn purpose.Write) (Turn _) t e = absurd e
-turn_row v u (WaitTurn purpose.Write) _ t e = absurd e
-turn_row v u (TakeTurn purpose.UpgradableRead) (Turn turn_step.More) t e = record { reading = refl; sharing = refl; over = refl; upgrade = λ t h. refl; refused = tt }
-turn_row v u (TakeTurn purpose.UpgradableRead) (Turn (turn_step.End turn_end.Got)) t e = record { reading = refl; sharing = refl; over = refl; upgrade = λ t h. refl; refused = tt }
-turn_row v u (TakeTurn purpose.UpgradableRead) (Turn (turn_step.End turn_end.Pending)) t e = record { reading = refl; sharing = refl; over = refl; upgrade = refl; refused = tt }
-turn_row v u (TakeTurn purpose.UpgradableRead) (Turn (turn_step.End (turn_end.Refused refusal.Memory))) t e = record { reading = refl; sharing = refl; over = refl; upgrade = refl; refused = inl (refl, refl) }
-turn_row v u (TakeTurn purpose.UpgradableRead) (Turn (turn_step.End (turn_end.Refused refusal.Starved))) t e = record { reading = refl; sharing = refl; over = refl; upgrade = refl; refused = inl (refl, refl) }
-turn_row v u (TakeTurn purpose.UpgradableRead) (Turn _) t e = absurd e
-turn_row v u (TakeTurn purpose.UpgradableRead) _ t e = absurd e
-turn_row v u (TakeTurn purpose.Write) (Turn turn_step.More) t e = record { reading = refl; sharing = refl; over = refl; upgrade = λ t h. refl; refused = tt }
-turn_row v u (TakeTurn purpose.Write) (Turn (turn_step.End turn_end.Got)) t e = record { reading = refl; sharing = refl; over = refl; upgrade = λ t h. refl; refused = tt }
-turn_row v u (TakeTurn purpose.Write) (Turn (turn_step.End turn_end.Pending)) t e = record { reading = refl; sharing = refl; over = refl; upgrade = refl; refused = tt }
-turn_row v u (TakeTurn purpose.Write) (Turn (turn_step.End (turn_end.Refused refusal.Memory))) t e = record { reading = refl; sharing = refl; over = refl; upgrade = refl; refused = inl (refl, refl) }
-turn_row v u (TakeTurn purpose.Write) (Turn (turn_step.End (turn_end.Refused refusal.Starved))) t e = record { reading = refl; sharing = refl; over = refl; upgrade = refl; refused = inl (refl, refl) }
-turn_row v u (TakeTurn purpose.Write) (Turn _) t e = absurd e
-turn_row v u (TakeTurn purpose.Write) _ t e = absurd e
-turn_row v u (TryTurn purpose.UpgradableRead) (Turn (turn_step.End turn_end.Got)) t e = record { reading = refl; sharing = refl; over = refl; upgrade = λ t h. refl; refused = tt }
-turn_row v u (TryTurn purpose.UpgradableRead) (Turn (turn_step.End turn_end.NotFree)) t e = record { reading = refl; sharing = refl; over = refl; upgrade = tt; refused = tt }
-turn_row v u (TryTurn purpose.UpgradableRead) (Turn _) t e = absurd e
-turn_row v u (TryTurn purpose.UpgradableRead) _ t e = absurd e
-turn_row v u (TryTurn purpose.Write) (Turn (turn_step.End turn_end.Got)) t e = record { reading = refl; sharing = refl; over = refl; upgrade = λ t h. refl; refused = tt }
-turn_row v u (TryTurn purpose.Write) (Turn (turn_step.End turn_end.NotFree)) t e = record { reading = refl; sharing = refl; over = refl; upgrade = tt; refused = tt }
-turn_row v u (TryTurn purpose.Write) (Turn _) t e = absurd e
-turn_row v u (TryTurn purpose.Write) _ t e = absurd e
-turn_row v u CancelTurn (Turn turn_step.More) t e = record { reading = refl; sharing = refl; over = refl; upgrade = λ t h. refl; refused = tt }
-turn_row v u CancelTurn (Turn (turn_step.End turn_end.GivenBack)) t e = record { reading = refl; sharing = refl; over = refl; upgrade = tt; refused = tt }
+turn_row v u (EnterTurn Purpose.UpgradableRead) (Turn Step.More) t e = record { reading = refl; sharing = refl; over = refl; upgrade = λ t h. refl; refused = tt }
+turn_row v u (EnterTurn Purpose.UpgradableRead) (Turn (Step.End End.Got)) t e = record { reading = refl; sharing = refl; over = refl; upgrade = λ t h. refl; refused = tt }
+turn_row v u (EnterTurn Purpose.UpgradableRead) (Turn (Step.End End.Pending)) t e = record { reading = refl; sharing = refl; over = refl; upgrade = refl; refused = tt }
+turn_row v u (EnterTurn Purpose.UpgradableRead) (Turn (Step.End (End.Refused Refusal.Memory))) t e = record { reading = refl; sharing = refl; over = refl; upgrade = refl; refused = inl (refl, refl) }
+turn_row v u (EnterTurn Purpose.UpgradableRead) (Turn (Step.End (End.Refused Refusal.Starved))) t e = record { reading = refl; sharing = refl; over = refl; upgrade = refl; refused = inl (refl, refl) }
+turn_row v u (EnterTurn Purpose.UpgradableRead) (Turn _) t e = absurd e
+turn_row v u (EnterTurn Purpose.UpgradableRead) _ t e = absurd e
+turn_row v u (EnterTurn Purpose.Write) (Turn Step.More) t e = record { reading = refl; sharing = refl; over = refl; upgrade = λ t h. refl; refused = tt }
+turn_row v u (EnterTurn Purpose.Write) (Turn (Step.End End.Got)) t e = record { reading = refl; sharing = refl; over = refl; upgrade = λ t h. refl; refused = tt }
+turn_row v u (EnterTurn Purpose.Write) (Turn (Step.End End.Pending)) t e = record { reading = refl; sharing = refl; over = refl; upgrade = refl; refused = tt }
+turn_row v u (EnterTurn Purpose.Write) (Turn (Step.End (End.Refused Refusal.Memory))) t e = record { reading = refl; sharing = refl; over = refl; upgrade = refl; refused = inl (refl, refl) }
+turn_row v u (EnterTurn Purpose.Write) (Turn (Step.End (End.Refused Refusal.Starved))) t e = record { reading = refl; sharing = refl; over = refl; upgrade = refl; refused = inl (refl, refl) }
+turn_row v u (EnterTurn Purpose.Write) (Turn _) t e = absurd e
+turn_row v u (EnterTurn Purpose.Write) _ t e = absurd e
+turn_row v u (WaitTurn Purpose.UpgradableRead) (Turn Step.More) t e = record { reading = refl; sharing = refl; over = refl; upgrade = λ t h. refl; refused = tt }
+turn_row v u (WaitTurn Purpose.UpgradableRead) (Turn (Step.End End.Got)) t e = record { reading = refl; sharing = refl; over = refl; upgrade = λ t h. refl; refused = tt }
+turn_row v u (WaitTurn Purpose.UpgradableRead) (Turn (Step.End End.Pending)) t e = record { reading = refl; sharing = refl; over = refl; upgrade = refl; refused = tt }
+turn_row v u (WaitTurn Purpose.UpgradableRead) (Turn (Step.End (End.Refused Refusal.Memory))) t e = record { reading = refl; sharing = refl; over = refl; upgrade = refl; refused = inl (refl, refl) }
+turn_row v u (WaitTurn Purpose.UpgradableRead) (Turn (Step.End (End.Refused Refusal.Starved))) t e = record { reading = refl; sharing = refl; over = refl; upgrade = refl; refused = inl (refl, refl) }
+turn_row v u (WaitTurn Purpose.UpgradableRead) (Turn _) t e = absurd e
+turn_row v u (WaitTurn Purpose.UpgradableRead) _ t e = absurd e
+turn_row v u (WaitTurn Purpose.Write) (Turn Step.More) t e = record { reading = refl; sharing = refl; over = refl; upgrade = λ t h. refl; refused = tt }
+turn_row v u (WaitTurn Purpose.Write) (Turn (Step.End End.Got)) t e = record { reading = refl; sharing = refl; over = refl; upgrade = λ t h. refl; refused = tt }
+turn_row v u (WaitTurn Purpose.Write) (Turn (Step.End End.Pending)) t e = record { reading = refl; sharing = refl; over = refl; upgrade = refl; refused = tt }
+turn_row v u (WaitTurn Purpose.Write) (Turn (Step.End (End.Refused Refusal.Memory))) t e = record { reading = refl; sharing = refl; over = refl; upgrade = refl; refused = inl (refl, refl) }
+turn_row v u (WaitTurn Purpose.Write) (Turn (Step.End (End.Refused Refusal.Starved))) t e = record { reading = refl; sharing = refl; over = refl; upgrade = refl; refused = inl (refl, refl) }
+turn_row v u (WaitTurn Purpose.Write) (Turn _) t e = absurd e
+turn_row v u (WaitTurn Purpose.Write) _ t e = absurd e
+turn_row v u (TakeTurn Purpose.UpgradableRead) (Turn Step.More) t e = record { reading = refl; sharing = refl; over = refl; upgrade = λ t h. refl; refused = tt }
+turn_row v u (TakeTurn Purpose.UpgradableRead) (Turn (Step.End End.Got)) t e = record { reading = refl; sharing = refl; over = refl; upgrade = λ t h. refl; refused = tt }
+turn_row v u (TakeTurn Purpose.UpgradableRead) (Turn (Step.End End.Pending)) t e = record { reading = refl; sharing = refl; over = refl; upgrade = refl; refused = tt }
+turn_row v u (TakeTurn Purpose.UpgradableRead) (Turn (Step.End (End.Refused Refusal.Memory))) t e = record { reading = refl; sharing = refl; over = refl; upgrade = refl; refused = inl (refl, refl) }
+turn_row v u (TakeTurn Purpose.UpgradableRead) (Turn (Step.End (End.Refused Refusal.Starved))) t e = record { reading = refl; sharing = refl; over = refl; upgrade = refl; refused = inl (refl, refl) }
+turn_row v u (TakeTurn Purpose.UpgradableRead) (Turn _) t e = absurd e
+turn_row v u (TakeTurn Purpose.UpgradableRead) _ t e = absurd e
+turn_row v u (TakeTurn Purpose.Write) (Turn Step.More) t e = record { reading = refl; sharing = refl; over = refl; upgrade = λ t h. refl; refused = tt }
+turn_row v u (TakeTurn Purpose.Write) (Turn (Step.End End.Got)) t e = record { reading = refl; sharing = refl; over = refl; upgrade = λ t h. refl; refused = tt }
+turn_row v u (TakeTurn Purpose.Write) (Turn (Step.End End.Pending)) t e = record { reading = refl; sharing = refl; over = refl; upgrade = refl; refused = tt }
+turn_row v u (TakeTurn Purpose.Write) (Turn (Step.End (End.Refused Refusal.Memory))) t e = record { reading = refl; sharing = refl; over = refl; upgrade = refl; refused = inl (refl, refl) }
+turn_row v u (TakeTurn Purpose.Write) (Turn (Step.End (End.Refused Refusal.Starved))) t e = record { reading = refl; sharing = refl; over = refl; upgrade = refl; refused = inl (refl, refl) }
+turn_row v u (TakeTurn Purpose.Write) (Turn _) t e = absurd e
+turn_row v u (TakeTurn Purpose.Write) _ t e = absurd e
+turn_row v u (TryTurn Purpose.UpgradableRead) (Turn (Step.End End.Got)) t e = record { reading = refl; sharing = refl; over = refl; upgrade = λ t h. refl; refused = tt }
+turn_row v u (TryTurn Purpose.UpgradableRead) (Turn (Step.End End.NotFree)) t e = record { reading = refl; sharing = refl; over = refl; upgrade = tt; refused = tt }
+turn_row v u (TryTurn Purpose.UpgradableRead) (Turn _) t e = absurd e
+turn_row v u (TryTurn Purpose.UpgradableRead) _ t e = absurd e
+turn_row v u (TryTurn Purpose.Write) (Turn (Step.End End.Got)) t e = record { reading = refl; sharing = refl; over = refl; upgrade = λ t h. refl; refused = tt }
+turn_row v u (TryTurn Purpose.Write) (Turn (Step.End End.NotFree)) t e = record { reading = refl; sharing = refl; over = refl; upgrade = tt; refused = tt }
+turn_row v u (TryTurn Purpose.Write) (Turn _) t e = absurd e
+turn_row v u (TryTurn Purpose.Write) _ t e = absurd e
+turn_row v u CancelTurn (Turn Step.More) t e = record { reading = refl; sharing = refl; over = refl; upgrade = λ t h. refl; refused = tt }
+turn_row v u CancelTurn (Turn (Step.End End.GivenBack)) t e = record { reading = refl; sharing = refl; over = refl; upgrade = tt; refused = tt }
 turn_row v u CancelTurn (Turn _) t e = absurd e
 turn_row v u CancelTurn _ t e = absurd e
-turn_row v u CancellingTurn (Turn turn_step.More) t e = record { reading = refl; sharing = refl; over = refl; upgrade = λ t h. refl; refused = tt }
-turn_row v u CancellingTurn (Turn (turn_step.End turn_end.GivenBack)) t e = record { reading = refl; sharing = refl; over = refl; upgrade = tt; refused = tt }
+turn_row v u CancellingTurn (Turn Step.More) t e = record { reading = refl; sharing = refl; over = refl; upgrade = λ t h. refl; refused = tt }
+turn_row v u CancellingTurn (Turn (Step.End End.GivenBack)) t e = record { reading = refl; sharing = refl; over = refl; upgrade = tt; refused = tt }
 turn_row v u CancellingTurn (Turn _) t e = absurd e
 turn_row v u CancellingTurn _ t e = absurd e
-turn_row v u (ReleaseTurn ending.GivenBack) (Turn turn_step.More) t e = record { reading = refl; sharing = refl; over = refl; upgrade = λ t h. refl; refused = tt }
-turn_row v u (ReleaseTurn ending.GivenBack) (Turn (turn_step.End turn_end.GivenBack)) t e = record { reading = refl; sharing = refl; over = refl; upgrade = tt; refused = tt }
-turn_row v u (ReleaseTurn ending.GivenBack) (Turn _) t e = absurd e
-turn_row v u (ReleaseTurn ending.GivenBack) _ t e = absurd e
-turn_row v u (ReleasingTurn ending.GivenBack) (Turn (turn_step.End turn_end.GivenBack)) t e = record { reading = refl; sharing = refl; over = refl; upgrade = tt; refused = tt }
-turn_row v u (ReleasingTurn ending.GivenBack) (Turn _) t e = absurd e
-turn_row v u (ReleasingTurn ending.GivenBack) _ t e = absurd e
-turn_row v u (ReleaseTurn (ending.NotFree p)) (Turn turn_step.More) t e = record { reading = refl; sharing = refl; over = refl; upgrade = λ t h. refl; refused = tt }
-turn_row v u (ReleaseTurn (ending.NotFree p)) (Turn (turn_step.End turn_end.GivenBack)) t e = record { reading = refl; sharing = refl; over = refl; upgrade = tt; refused = tt }
-turn_row v u (ReleaseTurn (ending.NotFree p)) (Turn _) t e = absurd e
-turn_row v u (ReleaseTurn (ending.NotFree p)) _ t e = absurd e
-turn_row v u (ReleasingTurn (ending.NotFree p)) (Turn (turn_step.End turn_end.GivenBack)) t e = record { reading = refl; sharing = refl; over = refl; upgrade = tt; refused = tt }
-turn_row v u (ReleasingTurn (ending.NotFree p)) (Turn _) t e = absurd e
-turn_row v u (ReleasingTurn (ending.NotFree p)) _ t e = absurd e
-turn_row v u (ReleaseTurn ending.RefuseReaders) (Turn turn_step.More) t e = record { reading = refl; sharing = refl; over = refl; upgrade = λ t h. refl; refused = tt }
-turn_row v u (ReleaseTurn ending.RefuseReaders) (Turn (turn_step.End turn_end.GivenBack)) t e = record { reading = refl; sharing = refl; over = refl; upgrade = refl; refused = inl (refl, refl) }
-turn_row v u (ReleaseTurn ending.RefuseReaders) (Turn _) t e = absurd e
-turn_row v u (ReleaseTurn ending.RefuseReaders) _ t e = absurd e
-turn_row v u (ReleasingTurn ending.RefuseReaders) (Turn (turn_step.End turn_end.GivenBack)) t e = record { reading = refl; sharing = refl; over = refl; upgrade = refl; refused = inl (refl, refl) }
-turn_row v u (ReleasingTurn ending.RefuseReaders) (Turn _) t e = absurd e
-turn_row v u (ReleasingTurn ending.RefuseReaders) _ t e = absurd e
-turn_row v u (ReleaseTurn ending.RefuseMemory) (Turn turn_step.More) t e = record { reading = refl; sharing = refl; over = refl; upgrade = λ t h. refl; refused = tt }
-turn_row v u (ReleaseTurn ending.RefuseMemory) (Turn (turn_step.End turn_end.GivenBack)) t e = record { reading = refl; sharing = refl; over = refl; upgrade = refl; refused = inl (refl, refl) }
-turn_row v u (ReleaseTurn ending.RefuseMemory) (Turn _) t e = absurd e
-turn_row v u (ReleaseTurn ending.RefuseMemory) _ t e = absurd e
-turn_row v u (ReleasingTurn ending.RefuseMemory) (Turn (turn_step.End turn_end.GivenBack)) t e = record { reading = refl; sharing = refl; over = refl; upgrade = refl; refused = inl (refl, refl) }
-turn_row v u (ReleasingTurn ending.RefuseMemory) (Turn _) t e = absurd e
-turn_row v u (ReleasingTurn ending.RefuseMemory) _ t e = absurd e
-turn_row v u (ReleaseTurn ending.Reading) (Turn turn_step.More) t e = record { reading = refl; sharing = refl; over = refl; upgrade = λ t h. refl; refused = tt }
-turn_row v u (ReleaseTurn ending.Reading) (Turn (turn_step.End turn_end.GivenBack)) t e = record { reading = refl; sharing = refl; over = refl; upgrade = tt; refused = tt }
-turn_row v u (ReleaseTurn ending.Reading) (Turn _) t e = absurd e
-turn_row v u (ReleaseTurn ending.Reading) _ t e = absurd e
-turn_row v u (ReleasingTurn ending.Reading) (Turn (turn_step.End turn_end.GivenBack)) t e = record { reading = refl; sharing = refl; over = refl; upgrade = tt; refused = tt }
-turn_row v u (ReleasingTurn ending.Reading) (Turn _) t e = absurd e
-turn_row v u (ReleasingTurn ending.Reading) _ t e = absurd e
-turn_row v u (ReleaseTurn ending.NotifyReaders) (Turn turn_step.More) t e = record { reading = refl; sharing = refl; over = refl; upgrade = λ t h. refl; refused = tt }
-turn_row v u (ReleaseTurn ending.NotifyReaders) (Turn (turn_step.End turn_end.GivenBack)) t e = record { reading = refl; sharing = refl; over = refl; upgrade = λ t h. refl; refused = tt }
-turn_row v u (ReleaseTurn ending.NotifyReaders) (Turn _) t e = absurd e
-turn_row v u (ReleaseTurn ending.NotifyReaders) _ t e = absurd e
-turn_row v u (ReleasingTurn ending.NotifyReaders) (Turn (turn_step.End turn_end.GivenBack)) t e = record { reading = refl; sharing = refl; over = refl; upgrade = λ t h. refl; refused = tt }
-turn_row v u (ReleasingTurn ending.NotifyReaders) (Turn _) t e = absurd e
-turn_row v u (ReleasingTurn ending.NotifyReaders) _ t e = absurd e
+turn_row v u (ReleaseTurn Ending.GivenBack) (Turn Step.More) t e = record { reading = refl; sharing = refl; over = refl; upgrade = λ t h. refl; refused = tt }
+turn_row v u (ReleaseTurn Ending.GivenBack) (Turn (Step.End End.GivenBack)) t e = record { reading = refl; sharing = refl; over = refl; upgrade = tt; refused = tt }
+turn_row v u (ReleaseTurn Ending.GivenBack) (Turn _) t e = absurd e
+turn_row v u (ReleaseTurn Ending.GivenBack) _ t e = absurd e
+turn_row v u (ReleasingTurn Ending.GivenBack) (Turn (Step.End End.GivenBack)) t e = record { reading = refl; sharing = refl; over = refl; upgrade = tt; refused = tt }
+turn_row v u (ReleasingTurn Ending.GivenBack) (Turn _) t e = absurd e
+turn_row v u (ReleasingTurn Ending.GivenBack) _ t e = absurd e
+turn_row v u (ReleaseTurn (Ending.NotFree p)) (Turn Step.More) t e = record { reading = refl; sharing = refl; over = refl; upgrade = λ t h. refl; refused = tt }
+turn_row v u (ReleaseTurn (Ending.NotFree p)) (Turn (Step.End End.GivenBack)) t e = record { reading = refl; sharing = refl; over = refl; upgrade = tt; refused = tt }
+turn_row v u (ReleaseTurn (Ending.NotFree p)) (Turn _) t e = absurd e
+turn_row v u (ReleaseTurn (Ending.NotFree p)) _ t e = absurd e
+turn_row v u (ReleasingTurn (Ending.NotFree p)) (Turn (Step.End End.GivenBack)) t e = record { reading = refl; sharing = refl; over = refl; upgrade = tt; refused = tt }
+turn_row v u (ReleasingTurn (Ending.NotFree p)) (Turn _) t e = absurd e
+turn_row v u (ReleasingTurn (Ending.NotFree p)) _ t e = absurd e
+turn_row v u (ReleaseTurn Ending.RefuseReaders) (Turn Step.More) t e = record { reading = refl; sharing = refl; over = refl; upgrade = λ t h. refl; refused = tt }
+turn_row v u (ReleaseTurn Ending.RefuseReaders) (Turn (Step.End End.GivenBack)) t e = record { reading = refl; sharing = refl; over = refl; upgrade = refl; refused = inl (refl, refl) }
+turn_row v u (ReleaseTurn Ending.RefuseReaders) (Turn _) t e = absurd e
+turn_row v u (ReleaseTurn Ending.RefuseReaders) _ t e = absurd e
+turn_row v u (ReleasingTurn Ending.RefuseReaders) (Turn (Step.End End.GivenBack)) t e = record { reading = refl; sharing = refl; over = refl; upgrade = refl; refused = inl (refl, refl) }
+turn_row v u (ReleasingTurn Ending.RefuseReaders) (Turn _) t e = absurd e
+turn_row v u (ReleasingTurn Ending.RefuseReaders) _ t e = absurd e
+turn_row v u (ReleaseTurn Ending.RefuseMemory) (Turn Step.More) t e = record { reading = refl; sharing = refl; over = refl; upgrade = λ t h. refl; refused = tt }
+turn_row v u (ReleaseTurn Ending.RefuseMemory) (Turn (Step.End End.GivenBack)) t e = record { reading = refl; sharing = refl; over = refl; upgrade = refl; refused = inl (refl, refl) }
+turn_row v u (ReleaseTurn Ending.RefuseMemory) (Turn _) t e = absurd e
+turn_row v u (ReleaseTurn Ending.RefuseMemory) _ t e = absurd e
+turn_row v u (ReleasingTurn Ending.RefuseMemory) (Turn (Step.End End.GivenBack)) t e = record { reading = refl; sharing = refl; over = refl; upgrade = refl; refused = inl (refl, refl) }
+turn_row v u (ReleasingTurn Ending.RefuseMemory) (Turn _) t e = absurd e
+turn_row v u (ReleasingTurn Ending.RefuseMemory) _ t e = absurd e
+turn_row v u (ReleaseTurn Ending.Reading) (Turn Step.More) t e = record { reading = refl; sharing = refl; over = refl; upgrade = λ t h. refl; refused = tt }
+turn_row v u (ReleaseTurn Ending.Reading) (Turn (Step.End End.GivenBack)) t e = record { reading = refl; sharing = refl; over = refl; upgrade = tt; refused = tt }
+turn_row v u (ReleaseTurn Ending.Reading) (Turn _) t e = absurd e
+turn_row v u (ReleaseTurn Ending.Reading) _ t e = absurd e
+turn_row v u (ReleasingTurn Ending.Reading) (Turn (Step.End End.GivenBack)) t e = record { reading = refl; sharing = refl; over = refl; upgrade = tt; refused = tt }
+turn_row v u (ReleasingTurn Ending.Reading) (Turn _) t e = absurd e
+turn_row v u (ReleasingTurn Ending.Reading) _ t e = absurd e
+turn_row v u (ReleaseTurn Ending.NotifyReaders) (Turn Step.More) t e = record { reading = refl; sharing = refl; over = refl; upgrade = λ t h. refl; refused = tt }
+turn_row v u (ReleaseTurn Ending.NotifyReaders) (Turn (Step.End End.GivenBack)) t e = record { reading = refl; sharing = refl; over = refl; upgrade = λ t h. refl; refused = tt }
+turn_row v u (ReleaseTurn Ending.NotifyReaders) (Turn _) t e = absurd e
+turn_row v u (ReleaseTurn Ending.NotifyReaders) _ t e = absurd e
+turn_row v u (ReleasingTurn Ending.NotifyReaders) (Turn (Step.End End.GivenBack)) t e = record { reading = refl; sharing = refl; over = refl; upgrade = λ t h. refl; refused = tt }
+turn_row v u (ReleasingTurn Ending.NotifyReaders) (Turn _) t e = absurd e
+turn_row v u (ReleasingTurn Ending.NotifyReaders) _ t e = absurd e
 turn_row v u _ f t e = absurd (cc)

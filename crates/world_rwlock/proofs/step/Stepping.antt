@@ -1,34 +1,14 @@
 -- A table's step as callers see it.
-use Rattle.std.proofs.Common.{◌≡◌, ℕ, false, Some, inl, inr, refl, ap, sym, subst}
-use Rattle.world_base.specs.declared.moves.Answer.{Answer}
-use Rattle.world_base.specs.declared.moves.Answer.TheVariants as answer
-use Rattle.world_base.specs.declared.moves.Call.TheVariants as call
-use Rattle.world_base.specs.declared.moves.Got.TheVariants.{Value}
-use Rattle.world_base.specs.declared.moves.Inputs.{Inputs}
-use Rattle.world_base.specs.declared.moves.Move.{Move}
-use Rattle.world_base.specs.declared.moves.What.{What}
-use Rattle.world_base.specs.declared.moves.What.TheVariants.{Begin}
-use Rattle.lock_program.specs.declared.refusal.Refusal.TheVariants as refusal
-use Rattle.world_base.specs.Frame.{put_in}
-use Rattle.world_base.specs.Standings.{refused}
-use Rattle.world_base.proofs.Equations.{some_eq, none_some}
-use Rattle.world_base.specs.table.Stages.{stage_at, polls_again}
-use Rattle.world_base.specs.table.Tables.{Table}
-use Rattle.world_rwlock.specs.machine.Machine.{place_at}
-use Rattle.world_rwlock.specs.Legal.{Legal, AnswersAtOnce}
-use Rattle.world_rwlock.specs.Guarded.{Guarded}
-use Rattle.world_rwlock.specs.Steps.{TableSteps, Stands, Steps}
-use Rattle.world_rwlock.specs.View.{view_of}
+use Rattle.world_rwlock.proofs.Prelude.{◌≡◌, ℕ, false, Some, inl, inr, refl, ap, sym, subst, Answer, Call, Value, Inputs, Move, What, Begin, Refusal, put_in, refused, some_eq, none_some, stage_at, polls_again, Table, place_at, Legal, AnswersAtOnce, Guarded, TableSteps, Stands, Moved as Steps, view_of, inside_or_past}
 use Rattle.world_rwlock.proofs.step.Acting.{Way, impossible, over, puts, acts, way, legal}
 use Rattle.world_rwlock.proofs.step.Idle as idle
 use Rattle.world_rwlock.proofs.step.Idle.{Laws}
 use Rattle.world_rwlock.proofs.step.Instants.{at_once, still_at_once, impossible_at_once}
 use Rattle.world_rwlock.proofs.table.Kept.{put_is}
-use Rattle.world_base.proofs.of_table.Past.{inside_or_past}
 
 -- the call that puts a value
-put_call : (what : What) (v : ℕ) → put_in what ≡ Some v → (i : Inputs) × (what ≡ Begin (call.Put v) i)
-put_call (Begin (call.Put k) i) v e = (i, ap (λ n. Begin (call.Put n) i) (some_eq e))
+put_call : (what : What) (v : ℕ) → put_in what ≡ Some v → (i : Inputs) × (what ≡ Begin (Call.Put v) i)
+put_call (Begin (Call.Put k) i) v e = (i, ap (λ n. Begin (Call.Put n) i) (some_eq e))
 put_call _ v e = absurd (none_some e)
 
 stands : (t : Table Guarded) → Laws t → Stands (view_of t)
@@ -45,17 +25,17 @@ module _ (t u : Table Guarded) (m : Move) (a : Answer) (old : Laws t) (new : Law
       subst (Good m a) (sym eu) (subst A (sym ea) (subst W (sym ew) g))
 
   good : Way t u m a → Good m a u
-  good (impossible e ea eu) = moved answer.NotPossible t m.what ea eu refl (idle.impossible t m old e, impossible_at_once (view_of t) m e)
+  good (impossible e ea eu) = moved Answer.NotPossible t m.what ea eu refl (idle.impossible t m old e, impossible_at_once (view_of t) m e)
   good (over w e f ea eu) = elim (inside_or_past t.stages m.party) as (λ _. Good m a u) [
     | inl inside ↦ (let it = idle.again_is (stage_at t.stages m.party) m.what (place_at t.machine.lock.places m.party) f (old.fits.stands m.party inside) in
-        moved (refused refusal.Finished) t (Begin call.Poll it.0) ea eu it.2 (idle.polled_again t m.party it.0 old it.1, still_at_once t (record { party = m.party; what = Begin call.Poll it.0 }) (refused refusal.Finished) (view_of t) old it.1 refl refl refl))
+        moved (refused Refusal.Finished) t (Begin Call.Poll it.0) ea eu it.2 (idle.polled_again t m.party it.0 old it.1, still_at_once t (record { party = m.party; what = Begin Call.Poll it.0 }) (refused Refusal.Finished) (view_of t) old it.1 refl refl refl))
     | inr past ↦ (let never : polls_again (stage_at t.stages m.party) m.what ≡ false = ap (λ s. polls_again s m.what) past.1 in absurd (cc))
   ]
   good (puts w v inside o e ea eu) =
       let put = put_is (stage_at t.stages m.party) m.what v w (place_at t.machine.lock.places m.party) o e in
       let it = put_call m.what v o in
-      moved (answer.Granted (Value v)) (idle.left t v m.party it.0) (Begin (call.Put v) it.0) ea eu it.1
-      (idle.putting t v m.party it.0 old inside put.stage put.place, still_at_once t (idle.the_move t v m.party it.0) (answer.Granted (Value v)) (view_of (idle.left t v m.party it.0)) old put.stage refl refl refl)
+      moved (Answer.Granted (Value v)) (idle.left t v m.party it.0) (Begin (Call.Put v) it.0) ea eu it.1
+      (idle.putting t v m.party it.0 old inside put.stage put.place, still_at_once t (idle.the_move t v m.party it.0) (Answer.Granted (Value v)) (view_of (idle.left t v m.party it.0)) old put.stage refl refl refl)
   good (acts w c) = (legal t u m a w c, at_once t u m a w c)
 
   pub stepped : TableSteps t m a u → Steps (view_of t) m a (view_of u)

@@ -1,61 +1,22 @@
 -- What one action on the turn does and decides, as callers see it.
-use Rattle.std.proofs.Common.{◌≡◌, ℕ, ◌==◌, ◌||◌, not, inl, inr, Bool, true, false, List, map, Option, Some, None, refl, arith, ap, sym, ◌∙◌, subst}
+use Rattle.world_rwlock.proofs.Prelude.{◌≡◌, ℕ, ◌==◌, ◌||◌, not, inl, inr, Bool, true, false, List, map, Option, Some, None, refl, arith, ap, sym, ◌∙◌, subst, false≢true, Answer, Move, Refusal, Stage, inputs_of, refused, Deed, changes, does, joins, TurnCourse, is_out, is_taking, Takes, Tries, Releases, Cancels, holds, decision, LockCall, TurnStep, End as TurnEnd, turn_at, holder_of, decided_then, IsReason, decided_by, out_free, waiting_free, releasing_free, releasing_decided, cancelling_decided, IsPolls, taking_decided, holding_holds, Found, Turn, Ending, Purpose, Place, action_of, next_of, place_after, after_lock, after_turn, in_no_writer, in_no_readers, fits_turn, OnTurn, LockBegins, LockGoesOn, RwLock, IsRwLock, Change, entries_after, gives_up, ListName, for_the_turn, for_no_readers, for_no_writer, MayMeet, World, list_of, told_in, HasTurn, sought_at, passing, is_reading, verdict, verdict_until, refused_by, seen, is_counted}
 use Rattle.std.proofs.Math.Seq.{map-set_same}
-use Rattle.std.proofs.lemmas.Bool.{false≢true}
 use Rattle.lock_event.specs.declared.event.Mark.TheVariants.{Waiting}
-use Rattle.world_base.specs.declared.moves.Answer.{Answer}
-use Rattle.world_base.specs.declared.moves.Answer.TheVariants as answer
-use Rattle.world_base.specs.declared.moves.Move.{Move}
-use Rattle.lock_program.specs.declared.refusal.Refusal.{Refusal}
-use Rattle.lock_program.specs.declared.refusal.Refusal.TheVariants as refusal
-use Rattle.world_base.specs.declared.standing.Stage.{Stage}
-use Rattle.world_base.specs.Standings.{inputs_of, refused}
-use Rattle.world_base.specs.Steps.{Deed, changes, does, joins}
-use Rattle.world_mutex.specs.machine.Course.{Course as TurnCourse, is_out, is_taking, Takes, Tries, Releases, Cancels, holds, decision}
 use Rattle.world_mutex.specs.machine.Course as course
-use Rattle.lock_program.specs.declared.mutex.LockCall.{LockCall}
-use Rattle.lock_program.specs.declared.mutex.LockCall.TheVariants as turn_call
-use Rattle.lock_program.specs.declared.mutex.Step.{Step as TurnStep}
-use Rattle.lock_program.specs.declared.mutex.Step.TheVariants as turn_step
-use Rattle.lock_program.specs.declared.end.End.{End as TurnEnd}
-use Rattle.lock_program.specs.declared.end.End.TheVariants as turn_end
-use Rattle.world_mutex.specs.machine.Mutex.{course_at as turn_at, holder_of}
 use Rattle.world_mutex.specs.machine.Deeds as mutex
-use Rattle.world_mutex.specs.machine.Conduct.{decided_then, IsReason}
-use Rattle.world_mutex.specs.machine.Deeds.{decided_by}
-use Rattle.world_mutex.proofs.of_machine.callers.Callers.{out_free, waiting_free, releasing_free, releasing_decided, cancelling_decided, IsPolls, taking_decided, holding_holds}
 use Rattle.world_mutex.proofs.of_machine.callers.Holders as sees
-use Rattle.lock_program.specs.declared.rwlock.Found.{Found}
-use Rattle.lock_program.specs.declared.rwlock.Found.TheVariants.{Turn}
-use Rattle.lock_program.specs.declared.rwlock.Ending.TheVariants as ending
-use Rattle.lock_program.specs.declared.rwlock.Purpose.{Purpose}
-use Rattle.lock_program.specs.declared.rwlock.Purpose.TheVariants as purpose
-use Rattle.lock_program.specs.declared.rwlock.Place.{Place}
-use Rattle.lock_program.specs.declared.rwlock.Place.TheVariants as place
-use Rattle.world_rwlock.specs.program.Program.{action_of, next_of, place_after, after_lock, after_turn}
-use Rattle.world_rwlock.specs.machine.Roles.{in_no_writer, in_no_readers, fits_turn}
-use Rattle.world_rwlock.specs.program.Turns.{OnTurn, LockBegins, LockGoesOn}
-use Rattle.world_rwlock.specs.machine.Machine.{RwLock}
-use Rattle.world_rwlock.specs.machine.Acts.{IsRwLock}
 use Rattle.world_rwlock.proofs.of_machine.stages.Leads.{Led, Ends, steps_in_turn}
-use Rattle.world_rwlock.specs.Changes.{Change, entries_after, gives_up}
-use Rattle.world_rwlock.specs.State.{ListName, for_the_turn, for_no_readers, for_no_writer}
-use Rattle.world_rwlock.specs.Legal.{MayMeet}
-use Rattle.world_rwlock.specs.State.{World, list_of, told_in, HasTurn}
-use Rattle.world_rwlock.specs.Stages.{sought_at}
-use Rattle.world_rwlock.specs.View.{passing, is_reading, verdict, verdict_until, refused_by, seen}
 use Rattle.world_rwlock.proofs.step.Rows.{verdict_then, Room, keeps_what_it_has, TurnRow, turn_row}
 use Rattle.world_rwlock.proofs.step.Owns as owns
 use Rattle.world_rwlock.proofs.step.Facts.{WaitsIn, CauseAs, Fitting, JudgedAs, Facts, Known}
 use Rattle.world_rwlock.proofs.step.TurnSteps.{TurnDid, TurnMoved, moved, left}
 use Rattle.world_mutex.proofs.of_machine.callers.Rosters.{is_zero}
-use Rattle.world_mutex.specs.machine.Mutex.{is_counted}
 
 -- ---- what a step of a poll decides there decides the call, but that the turn was got
 
 abbrev pub poll_says : Option TurnEnd → Option Answer
-poll_says (Some turn_end.Pending) = Some answer.Pending
-poll_says (Some (turn_end.Refused r)) = Some (refused r)
+poll_says (Some TurnEnd.Pending) = Some Answer.Pending
+poll_says (Some (TurnEnd.Refused r)) = Some (refused r)
 poll_says _ = None
 
 says_refused : (o : Option TurnEnd) → IsPolls o → refused_by o ≡ poll_says o
@@ -63,47 +24,47 @@ says_refused o (inl e) = rw e refl
 says_refused o (inr (inl e)) = rw e refl
 says_refused o (inr (inr h)) = rw h.1 refl
 
-never_pending : (o : Option TurnEnd) → IsPolls o → o ≡ Some turn_end.Pending → ⊥
+never_pending : (o : Option TurnEnd) → IsPolls o → o ≡ Some TurnEnd.Pending → ⊥
 never_pending o (inl e) h = absurd (cc)
 never_pending o (inr (inl e)) h = absurd (cc)
 never_pending o (inr (inr r)) h = let e = r.1 in absurd (cc)
 
 now_polled : (v : ℕ) (u : TurnCourse) (pr : Purpose) (tn : TurnStep) → Takes tn u → verdict_then v u (after_lock pr (Turn tn)) ≡ poll_says (decided_then tn u)
-now_polled v u pr turn_step.More h = says_refused (decision u) (taking_decided u h)
-now_polled v u purpose.UpgradableRead (turn_step.End turn_end.Got) h = refl
-now_polled v u purpose.Write (turn_step.End turn_end.Got) h = refl
-now_polled v u pr (turn_step.End turn_end.Pending) h = refl
-now_polled v u pr (turn_step.End (turn_end.Refused refusal.Memory)) h = refl
-now_polled v u pr (turn_step.End (turn_end.Refused refusal.Starved)) h = refl
-now_polled v u pr (turn_step.End _) h = absurd h
+now_polled v u pr TurnStep.More h = says_refused (decision u) (taking_decided u h)
+now_polled v u Purpose.UpgradableRead (TurnStep.End TurnEnd.Got) h = refl
+now_polled v u Purpose.Write (TurnStep.End TurnEnd.Got) h = refl
+now_polled v u pr (TurnStep.End TurnEnd.Pending) h = refl
+now_polled v u pr (TurnStep.End (TurnEnd.Refused Refusal.Memory)) h = refl
+now_polled v u pr (TurnStep.End (TurnEnd.Refused Refusal.Starved)) h = refl
+now_polled v u pr (TurnStep.End _) h = absurd h
 
-now_cancelled : (v : ℕ) (u : TurnCourse) (tn : TurnStep) → Cancels tn u → (verdict_then v u (after_turn place.CancelTurn (Turn tn)) ≡ Some answer.GivenBack) × (verdict_then v u (after_turn place.CancellingTurn (Turn tn)) ≡ Some answer.GivenBack)
-now_cancelled v u turn_step.More h = (refl, refl)
-now_cancelled v u (turn_step.End turn_end.GivenBack) h = (refl, refl)
-now_cancelled v u (turn_step.End _) h = absurd h
+now_cancelled : (v : ℕ) (u : TurnCourse) (tn : TurnStep) → Cancels tn u → (verdict_then v u (after_turn Place.CancelTurn (Turn tn)) ≡ Some Answer.GivenBack) × (verdict_then v u (after_turn Place.CancellingTurn (Turn tn)) ≡ Some Answer.GivenBack)
+now_cancelled v u TurnStep.More h = (refl, refl)
+now_cancelled v u (TurnStep.End TurnEnd.GivenBack) h = (refl, refl)
+now_cancelled v u (TurnStep.End _) h = absurd h
 
-now_given_back : (v : ℕ) (u : TurnCourse) (e : _) → (verdict_then v u (after_turn (place.ReleaseTurn e) (Turn (turn_step.End turn_end.GivenBack))) ≡ Some (verdict_until e)) × (verdict_then v u (after_turn (place.ReleasingTurn e) (Turn (turn_step.End turn_end.GivenBack))) ≡ Some (verdict_until e))
-now_given_back v u ending.GivenBack = (refl, refl)
-now_given_back v u (ending.NotFree q) = (refl, refl)
-now_given_back v u ending.RefuseReaders = (refl, refl)
-now_given_back v u ending.RefuseMemory = (refl, refl)
-now_given_back v u ending.Reading = (refl, refl)
-now_given_back v u ending.NotifyReaders = (refl, refl)
+now_given_back : (v : ℕ) (u : TurnCourse) (e : _) → (verdict_then v u (after_turn (Place.ReleaseTurn e) (Turn (TurnStep.End TurnEnd.GivenBack))) ≡ Some (verdict_until e)) × (verdict_then v u (after_turn (Place.ReleasingTurn e) (Turn (TurnStep.End TurnEnd.GivenBack))) ≡ Some (verdict_until e))
+now_given_back v u Ending.GivenBack = (refl, refl)
+now_given_back v u (Ending.NotFree q) = (refl, refl)
+now_given_back v u Ending.RefuseReaders = (refl, refl)
+now_given_back v u Ending.RefuseMemory = (refl, refl)
+now_given_back v u Ending.Reading = (refl, refl)
+now_given_back v u Ending.NotifyReaders = (refl, refl)
 
-now_released : (v : ℕ) (u : TurnCourse) (e : _) (tn : TurnStep) → Releases tn u → verdict_then v u (after_turn (place.ReleaseTurn e) (Turn tn)) ≡ Some (verdict_until e)
-now_released v u e turn_step.More h = refl
-now_released v u e (turn_step.End turn_end.GivenBack) h = (now_given_back v u e).0
-now_released v u e (turn_step.End _) h = absurd h
+now_released : (v : ℕ) (u : TurnCourse) (e : _) (tn : TurnStep) → Releases tn u → verdict_then v u (after_turn (Place.ReleaseTurn e) (Turn tn)) ≡ Some (verdict_until e)
+now_released v u e TurnStep.More h = refl
+now_released v u e (TurnStep.End TurnEnd.GivenBack) h = (now_given_back v u e).0
+now_released v u e (TurnStep.End _) h = absurd h
 
-now_releasing : (v : ℕ) (u : TurnCourse) (e : _) (tn : TurnStep) → Ends tn u → verdict_then v u (after_turn (place.ReleasingTurn e) (Turn tn)) ≡ Some (verdict_until e)
-now_releasing v u e (turn_step.End turn_end.GivenBack) h = (now_given_back v u e).1
-now_releasing v u e (turn_step.End _) h = absurd h
-now_releasing v u e turn_step.More h = absurd h
+now_releasing : (v : ℕ) (u : TurnCourse) (e : _) (tn : TurnStep) → Ends tn u → verdict_then v u (after_turn (Place.ReleasingTurn e) (Turn tn)) ≡ Some (verdict_until e)
+now_releasing v u e (TurnStep.End TurnEnd.GivenBack) h = (now_given_back v u e).1
+now_releasing v u e (TurnStep.End _) h = absurd h
+now_releasing v u e TurnStep.More h = absurd h
 
 released_free : (u : TurnCourse) (tn : TurnStep) → Releases tn u → holds u ≡ 0
-released_free u turn_step.More h = releasing_free u h
-released_free u (turn_step.End turn_end.GivenBack) h = out_free u (ap is_out h)
-released_free u (turn_step.End _) h = absurd h
+released_free u TurnStep.More h = releasing_free u h
+released_free u (TurnStep.End TurnEnd.GivenBack) h = out_free u (ap is_out h)
+released_free u (TurnStep.End _) h = absurd h
 
 -- a poll that isn't decided hasn't the turn
 undecided_free : (t : TurnCourse) → is_taking t ≡ true → decision t ≡ None → holds t ≡ 0
@@ -116,18 +77,18 @@ undecided_free (course.taking (course.gives_up refusal) starved stands told) h n
 undecided_free _ h n = absurd (false≢true h)
 
 -- whoever is refused on its way to the turn seeks what needs it
-meets_turn : (w : World) (p : ℕ) (pr : Purpose) (u : TurnCourse) (tn : TurnStep) → Takes tn u → (r : Refusal) → decided_then tn u ≡ Some (turn_end.Refused r) → (HasTurn w.state.turn p → ⊥) → MayMeet (sought_at (place_after (after_lock pr (Turn tn)))) w p refusal.Starved
-meets_turn w p purpose.UpgradableRead u turn_step.More h r e out = out
-meets_turn w p purpose.Write u turn_step.More h r e out = out
-meets_turn w p purpose.UpgradableRead u (turn_step.End turn_end.Got) h r e out = absurd (cc)
-meets_turn w p purpose.Write u (turn_step.End turn_end.Got) h r e out = absurd (cc)
-meets_turn w p purpose.UpgradableRead u (turn_step.End turn_end.Pending) h r e out = absurd (cc)
-meets_turn w p purpose.Write u (turn_step.End turn_end.Pending) h r e out = absurd (cc)
-meets_turn w p purpose.UpgradableRead u (turn_step.End (turn_end.Refused refusal.Memory)) h r e out = out
-meets_turn w p purpose.Write u (turn_step.End (turn_end.Refused refusal.Memory)) h r e out = out
-meets_turn w p purpose.UpgradableRead u (turn_step.End (turn_end.Refused refusal.Starved)) h r e out = out
-meets_turn w p purpose.Write u (turn_step.End (turn_end.Refused refusal.Starved)) h r e out = out
-meets_turn w p pr u (turn_step.End _) h r e out = absurd h
+meets_turn : (w : World) (p : ℕ) (pr : Purpose) (u : TurnCourse) (tn : TurnStep) → Takes tn u → (r : Refusal) → decided_then tn u ≡ Some (TurnEnd.Refused r) → (HasTurn w.state.turn p → ⊥) → MayMeet (sought_at (place_after (after_lock pr (Turn tn)))) w p Refusal.Starved
+meets_turn w p Purpose.UpgradableRead u TurnStep.More h r e out = out
+meets_turn w p Purpose.Write u TurnStep.More h r e out = out
+meets_turn w p Purpose.UpgradableRead u (TurnStep.End TurnEnd.Got) h r e out = absurd (cc)
+meets_turn w p Purpose.Write u (TurnStep.End TurnEnd.Got) h r e out = absurd (cc)
+meets_turn w p Purpose.UpgradableRead u (TurnStep.End TurnEnd.Pending) h r e out = absurd (cc)
+meets_turn w p Purpose.Write u (TurnStep.End TurnEnd.Pending) h r e out = absurd (cc)
+meets_turn w p Purpose.UpgradableRead u (TurnStep.End (TurnEnd.Refused Refusal.Memory)) h r e out = out
+meets_turn w p Purpose.Write u (TurnStep.End (TurnEnd.Refused Refusal.Memory)) h r e out = out
+meets_turn w p Purpose.UpgradableRead u (TurnStep.End (TurnEnd.Refused Refusal.Starved)) h r e out = out
+meets_turn w p Purpose.Write u (TurnStep.End (TurnEnd.Refused Refusal.Starved)) h r e out = out
+meets_turn w p pr u (TurnStep.End _) h r e out = absurd h
 
 -- what a deed gives up, and that a join found room
 room_of : (memory : Bool) (d : Deed Change ListName) → ((list : ListName) → d ≡ does list joins → memory ≡ true) → Room memory d
@@ -180,7 +141,7 @@ module _ (m : Move) (l k : RwLock) (ss : List Stage) (opening : ℕ) (ts : List 
       → Judges x (place_after (next_of x f)) mv.deed (verdict v x t) (verdict_then v u (next_of x f)) → Facts m l k ss opening ts v x (next_of x f)
   facts x f c row decided n did mv kept_on nw nr judged = record {
     deed = mv.deed;
-    readers = ap (map is_reading) c.places ∙ (map-set_same is_reading l.places p (place_after (next_of x f)) place.Out (row.reading ∙ ap (λ (n : ℕ). n == 1) c.same.reading) ∙ sym (mv.readers (map is_reading l.places)));
+    readers = ap (map is_reading) c.places ∙ (map-set_same is_reading l.places p (place_after (next_of x f)) Place.Out (row.reading ∙ ap (λ (n : ℕ). n == 1) c.same.reading) ∙ sym (mv.readers (map is_reading l.places)));
     turn = mv.turn;
     starved = mv.starved;
     valued = mv.valued v;
@@ -201,41 +162,41 @@ module _ (m : Move) (l k : RwLock) (ss : List Stage) (opening : ℕ) (ts : List 
     by_list for_no_writer = nw ∙ sym (mv.no_writer l.no_writer)
 
   -- a refusal in the turn has its cause
-  cause : (x : Place) (f : Found) (c : Known m l k ss v x f) → in_no_writer x ≡ 0 → in_no_readers x ≡ 0 → k.no_writer ≡ l.no_writer → k.no_readers ≡ l.no_readers → (HasTurn old.state.turn p → ⊥) → (r : Refusal) → IsReason memory p l.turn k.turn (turn_end.Refused r) → CauseAs m old new r
-  cause x f c ew er nw nr out refusal.Memory h = (h.0, omega (arith, h.1, c.laws.owners_no_writer p, c.laws.owners_no_readers p, c.same.standing_w, c.same.standing_r, ew, er), by_list, (λ e. out (owns.has_as old.state.turn p passing e))) where
+  cause : (x : Place) (f : Found) (c : Known m l k ss v x f) → in_no_writer x ≡ 0 → in_no_readers x ≡ 0 → k.no_writer ≡ l.no_writer → k.no_readers ≡ l.no_readers → (HasTurn old.state.turn p → ⊥) → (r : Refusal) → IsReason memory p l.turn k.turn (TurnEnd.Refused r) → CauseAs m old new r
+  cause x f c ew er nw nr out Refusal.Memory h = (h.0, omega (arith, h.1, c.laws.owners_no_writer p, c.laws.owners_no_readers p, c.same.standing_w, c.same.standing_r, ew, er), by_list, (λ e. out (owns.has_as old.state.turn p passing e))) where
     by_list : (list : ListName) → list_of new list ≡ list_of old list
     by_list for_the_turn = h.2
     by_list for_no_readers = nr
     by_list for_no_writer = nw
-  cause x f c ew er nw nr out refusal.Starved h = (sees.how_many_counted l.turn.courses ∙ h.0, sees.starved_at l.turn.courses p ∙ is_zero (is_counted t) (sees.counted_bit t ∙ h.1), h.5)
-  cause x f c ew er nw nr out refusal.Readers h = absurd h
-  cause x f c ew er nw nr out refusal.Permits h = absurd h
-  cause x f c ew er nw nr out refusal.Generations h = absurd h
-  cause x f c ew er nw nr out refusal.Finished h = absurd h
+  cause x f c ew er nw nr out Refusal.Starved h = (sees.how_many_counted l.turn.courses ∙ h.0, sees.starved_at l.turn.courses p ∙ is_zero (is_counted t) (sees.counted_bit t ∙ h.1), h.5)
+  cause x f c ew er nw nr out Refusal.Readers h = absurd h
+  cause x f c ew er nw nr out Refusal.Permits h = absurd h
+  cause x f c ew er nw nr out Refusal.Generations h = absurd h
+  cause x f c ew er nw nr out Refusal.Finished h = absurd h
 
-  waits_then : (pr : Purpose) (tn : TurnStep) → Takes tn u → decided_then tn u ≡ Some turn_end.Pending → told_in k.turn.entries p ≡ Some Waiting → WaitsIn k p (place_after (after_lock pr (Turn tn)))
-  waits_then pr turn_step.More h e w = absurd (never_pending (decision u) (taking_decided u h) e)
-  waits_then pr (turn_step.End turn_end.Pending) h e w = w
-  waits_then pr (turn_step.End turn_end.Got) h e w = absurd (cc)
-  waits_then pr (turn_step.End turn_end.NotFree) h e w = absurd h
-  waits_then pr (turn_step.End turn_end.Granted) h e w = absurd h
-  waits_then pr (turn_step.End turn_end.Waiting) h e w = absurd h
-  waits_then pr (turn_step.End turn_end.GivenBack) h e w = absurd h
-  waits_then pr (turn_step.End (turn_end.Refused r)) h e w = absurd (cc)
+  waits_then : (pr : Purpose) (tn : TurnStep) → Takes tn u → decided_then tn u ≡ Some TurnEnd.Pending → told_in k.turn.entries p ≡ Some Waiting → WaitsIn k p (place_after (after_lock pr (Turn tn)))
+  waits_then pr TurnStep.More h e w = absurd (never_pending (decision u) (taking_decided u h) e)
+  waits_then pr (TurnStep.End TurnEnd.Pending) h e w = w
+  waits_then pr (TurnStep.End TurnEnd.Got) h e w = absurd (cc)
+  waits_then pr (TurnStep.End TurnEnd.NotFree) h e w = absurd h
+  waits_then pr (TurnStep.End TurnEnd.Granted) h e w = absurd h
+  waits_then pr (TurnStep.End TurnEnd.Waiting) h e w = absurd h
+  waits_then pr (TurnStep.End TurnEnd.GivenBack) h e w = absurd h
+  waits_then pr (TurnStep.End (TurnEnd.Refused r)) h e w = absurd (cc)
 
   -- a poll that wasn't decided there
-  undecided : (x to : Place) (d : Deed Change ListName) (o : Option TurnEnd) → ((e : TurnEnd) → o ≡ Some e → IsReason memory p l.turn k.turn e) → ((r : Refusal) → IsReason memory p l.turn k.turn (turn_end.Refused r) → CauseAs m old new r)
-      → (o ≡ Some turn_end.Pending → told_in k.turn.entries p ≡ Some Waiting → WaitsIn k p to) → ((r : Refusal) → o ≡ Some (turn_end.Refused r) → Fitting old p x to d r) → Judges x to d None (poll_says o)
+  undecided : (x to : Place) (d : Deed Change ListName) (o : Option TurnEnd) → ((e : TurnEnd) → o ≡ Some e → IsReason memory p l.turn k.turn e) → ((r : Refusal) → IsReason memory p l.turn k.turn (TurnEnd.Refused r) → CauseAs m old new r)
+      → (o ≡ Some TurnEnd.Pending → told_in k.turn.entries p ≡ Some Waiting → WaitsIn k p to) → ((r : Refusal) → o ≡ Some (TurnEnd.Refused r) → Fitting old p x to d r) → Judges x to d None (poll_says o)
   undecided x to d None why causes waits idle = tt
-  undecided x to d (Some turn_end.Got) why causes waits idle = tt
-  undecided x to d (Some turn_end.NotFree) why causes waits idle = tt
-  undecided x to d (Some turn_end.Granted) why causes waits idle = tt
-  undecided x to d (Some turn_end.Waiting) why causes waits idle = tt
-  undecided x to d (Some turn_end.GivenBack) why causes waits idle = tt
-  undecided x to d (Some turn_end.Pending) why causes waits idle = waits refl (why turn_end.Pending refl)
-  undecided x to d (Some (turn_end.Refused r)) why causes waits idle = (r, refl, causes r (why (turn_end.Refused r) refl), idle r refl)
+  undecided x to d (Some TurnEnd.Got) why causes waits idle = tt
+  undecided x to d (Some TurnEnd.NotFree) why causes waits idle = tt
+  undecided x to d (Some TurnEnd.Granted) why causes waits idle = tt
+  undecided x to d (Some TurnEnd.Waiting) why causes waits idle = tt
+  undecided x to d (Some TurnEnd.GivenBack) why causes waits idle = tt
+  undecided x to d (Some TurnEnd.Pending) why causes waits idle = waits refl (why TurnEnd.Pending refl)
+  undecided x to d (Some (TurnEnd.Refused r)) why causes waits idle = (r, refl, causes r (why (TurnEnd.Refused r) refl), idle r refl)
 
-  polled : (x : Place) (pr : Purpose) (tn : TurnStep) (decided : Option TurnEnd) (did : TurnDid memory p decided tn l.turn k.turn) (mv : TurnMoved p l k old did.legal.deed) → IsPolls decided → Takes tn u → ((r : Refusal) → decided ≡ None → IsReason memory p l.turn k.turn (turn_end.Refused r) → CauseAs m old new r) → ((r : Refusal) → decided ≡ None → decided_then tn u ≡ Some (turn_end.Refused r) → Fitting old p x (place_after (after_lock pr (Turn tn))) mv.deed r)
+  polled : (x : Place) (pr : Purpose) (tn : TurnStep) (decided : Option TurnEnd) (did : TurnDid memory p decided tn l.turn k.turn) (mv : TurnMoved p l k old did.legal.deed) → IsPolls decided → Takes tn u → ((r : Refusal) → decided ≡ None → IsReason memory p l.turn k.turn (TurnEnd.Refused r) → CauseAs m old new r) → ((r : Refusal) → decided ≡ None → decided_then tn u ≡ Some (TurnEnd.Refused r) → Fitting old p x (place_after (after_lock pr (Turn tn))) mv.deed r)
       → Judges x (place_after (after_lock pr (Turn tn))) mv.deed (refused_by decided) (verdict_then v u (after_lock pr (Turn tn)))
   polled x pr tn decided did mv dec takes causes idle =
       let to : Place = place_after (after_lock pr (Turn tn)) in
@@ -246,18 +207,18 @@ module _ (m : Move) (l k : RwLock) (ss : List Stage) (opening : ℕ) (ts : List 
             let Q : Option TurnEnd → Type 0 = λ o. Judges x (place_after (after_lock pr (Turn tn))) mv.deed (refused_by o) (poll_says (decided_then tn u)) in
             subst Q (sym e) (undecided x (place_after (after_lock pr (Turn tn))) mv.deed (decided_then tn u) (λ b y. did.legal.reason b e y) (λ r why. causes r e why) (waits_then pr tn takes) (λ r y. idle r e y))
         by_decided (inr (inl e)) =
-            let kept = did.legal.kept turn_end.Got e in
+            let kept = did.legal.kept TurnEnd.Got e in
             rw (e, kept.0) tt
         by_decided (inr (inr h)) =
-            let kept = did.legal.kept (turn_end.Refused h.0) h.1 in
+            let kept = did.legal.kept (TurnEnd.Refused h.0) h.1 in
             rw (h.1, kept.0) (refl, mv.parting kept.1)
 
-  tried : (pr : Purpose) (tn : TurnStep) (d : Deed Change ListName) → Tries tn u → Judges (place.TryTurn pr) (place_after (after_turn (place.TryTurn pr) (Turn tn))) d None (verdict_then v u (after_turn (place.TryTurn pr) (Turn tn)))
-  tried purpose.UpgradableRead (turn_step.End turn_end.Got) d h = tt
-  tried purpose.Write (turn_step.End turn_end.Got) d h = tt
-  tried pr (turn_step.End turn_end.NotFree) d h = tt
-  tried pr (turn_step.End _) d h = absurd h
-  tried pr turn_step.More d h = absurd h
+  tried : (pr : Purpose) (tn : TurnStep) (d : Deed Change ListName) → Tries tn u → Judges (Place.TryTurn pr) (place_after (after_turn (Place.TryTurn pr) (Turn tn))) d None (verdict_then v u (after_turn (Place.TryTurn pr) (Turn tn)))
+  tried Purpose.UpgradableRead (TurnStep.End TurnEnd.Got) d h = tt
+  tried Purpose.Write (TurnStep.End TurnEnd.Got) d h = tt
+  tried pr (TurnStep.End TurnEnd.NotFree) d h = tt
+  tried pr (TurnStep.End _) d h = absurd h
+  tried pr TurnStep.More d h = absurd h
 
   -- whoever isn't decided there, or has the turn, keeps what it has
   on_hold : (decided : Option TurnEnd) (n : TurnStep) (did : TurnDid memory p decided n l.turn k.turn) (mv : TurnMoved p l k old did.legal.deed) → IsPolls decided → keeps_what_it_has (refused_by decided) mv.deed ≡ true
@@ -266,10 +227,10 @@ module _ (m : Move) (l k : RwLock) (ss : List Stage) (opening : ℕ) (ts : List 
   on_hold decided n did mv (inr (inr h)) = let P : Option TurnEnd → Type 0 = λ o. keeps_what_it_has (refused_by o) mv.deed ≡ true in subst P (sym h.1) (judged_so (refused h.0) mv.deed)
 
   -- a refusal for memory on the way does nothing else
-  idle_there : (pr : Purpose) (n : TurnStep) (did : TurnDid memory p (decision t) n l.turn k.turn) (mv : TurnMoved p l k old did.legal.deed) (r : Refusal) → decision t ≡ None → decided_then n u ≡ Some (turn_end.Refused r) → Takes n u → (HasTurn old.state.turn p → ⊥) → Fitting old p (place.TakeTurn pr) (place_after (after_lock pr (Turn n))) mv.deed r
-  idle_there pr n did mv refusal.Memory e h takes out = (mv.idle (did.legal.refused_idly refusal.Memory e h), refl)
-  idle_there pr n did mv refusal.Starved e h takes out = (mv.idle (did.legal.refused_idly refusal.Starved e h), refl, meets_turn old p pr u n takes refusal.Starved h out)
-  idle_there pr n did mv refusal.Readers e h takes out = absurd (did.legal.reason (turn_end.Refused refusal.Readers) e h)
+  idle_there : (pr : Purpose) (n : TurnStep) (did : TurnDid memory p (decision t) n l.turn k.turn) (mv : TurnMoved p l k old did.legal.deed) (r : Refusal) → decision t ≡ None → decided_then n u ≡ Some (TurnEnd.Refused r) → Takes n u → (HasTurn old.state.turn p → ⊥) → Fitting old p (Place.TakeTurn pr) (place_after (after_lock pr (Turn n))) mv.deed r
+  idle_there pr n did mv Refusal.Memory e h takes out = (mv.idle (did.legal.refused_idly Refusal.Memory e h), refl)
+  idle_there pr n did mv Refusal.Starved e h takes out = (mv.idle (did.legal.refused_idly Refusal.Starved e h), refl, meets_turn old p pr u n takes Refusal.Starved h out)
+  idle_there pr n did mv Refusal.Readers e h takes out = absurd (did.legal.reason (TurnEnd.Refused Refusal.Readers) e h)
   idle_there pr n did mv _ e h takes out = tt
 
   begun : (c : LockCall) (n : TurnStep) → LockBegins memory starving p c n l.turn k.turn → TurnDid memory p (decided_by c) n l.turn k.turn
@@ -279,78 +240,78 @@ module _ (m : Move) (l k : RwLock) (ss : List Stage) (opening : ℕ) (ts : List 
   gone_on n b = record { legal = b.legal; fair = b.fair }
 
   pub on_turn : (x : Place) (f : Found) → Known m l k ss v x f → steps_in_turn x ≡ true → OnTurn memory starving p (action_of x) f l.turn k.turn → Led x f u → fits_turn x t ≡ true → Facts m l k ss opening ts v x (next_of x f)
-  on_turn (place.EnterTurn pr) (Turn tn) c s o e fit =
-      let row = turn_row v u (place.EnterTurn pr) (Turn tn) s e in
-      let did = begun turn_call.Lock tn o in
-      let mv = moved m l k ss opening ts v (place.EnterTurn pr) (Turn tn) c afterwards row.sharing None tn did refl in
-      facts (place.EnterTurn pr) (Turn tn) c row None tn did mv (on_hold None tn did mv (inl refl)) c.no_writer c.no_readers (polled (place.EnterTurn pr) pr tn None did mv (inl refl) e (λ r n. cause (place.EnterTurn pr) (Turn tn) c refl refl c.no_writer c.no_readers (owns.no_turn l ss opening v c.laws c.fits p (out_free t fit)) r) (λ r n y. absurd (o.unrefused r y)))
-  on_turn (place.EnterTurn pr) _ c s o e fit = absurd o
-  on_turn (place.WaitTurn pr) (Turn tn) c s o e fit =
-      let row = turn_row v u (place.WaitTurn pr) (Turn tn) s e in
-      let did = begun turn_call.Poll tn o in
-      let mv = moved m l k ss opening ts v (place.WaitTurn pr) (Turn tn) c afterwards row.sharing None tn did refl in
-      facts (place.WaitTurn pr) (Turn tn) c row None tn did mv (on_hold None tn did mv (inl refl)) c.no_writer c.no_readers (polled (place.WaitTurn pr) pr tn None did mv (inl refl) e (λ r n. cause (place.WaitTurn pr) (Turn tn) c refl refl c.no_writer c.no_readers (owns.no_turn l ss opening v c.laws c.fits p (waiting_free t fit)) r) (λ r n y. absurd (o.unrefused r y)))
-  on_turn (place.WaitTurn pr) _ c s o e fit = absurd o
-  on_turn (place.TakeTurn pr) (Turn tn) c s o e fit =
-      let row = turn_row v u (place.TakeTurn pr) (Turn tn) s e in
+  on_turn (Place.EnterTurn pr) (Turn tn) c s o e fit =
+      let row = turn_row v u (Place.EnterTurn pr) (Turn tn) s e in
+      let did = begun LockCall.Lock tn o in
+      let mv = moved m l k ss opening ts v (Place.EnterTurn pr) (Turn tn) c afterwards row.sharing None tn did refl in
+      facts (Place.EnterTurn pr) (Turn tn) c row None tn did mv (on_hold None tn did mv (inl refl)) c.no_writer c.no_readers (polled (Place.EnterTurn pr) pr tn None did mv (inl refl) e (λ r n. cause (Place.EnterTurn pr) (Turn tn) c refl refl c.no_writer c.no_readers (owns.no_turn l ss opening v c.laws c.fits p (out_free t fit)) r) (λ r n y. absurd (o.unrefused r y)))
+  on_turn (Place.EnterTurn pr) _ c s o e fit = absurd o
+  on_turn (Place.WaitTurn pr) (Turn tn) c s o e fit =
+      let row = turn_row v u (Place.WaitTurn pr) (Turn tn) s e in
+      let did = begun LockCall.Poll tn o in
+      let mv = moved m l k ss opening ts v (Place.WaitTurn pr) (Turn tn) c afterwards row.sharing None tn did refl in
+      facts (Place.WaitTurn pr) (Turn tn) c row None tn did mv (on_hold None tn did mv (inl refl)) c.no_writer c.no_readers (polled (Place.WaitTurn pr) pr tn None did mv (inl refl) e (λ r n. cause (Place.WaitTurn pr) (Turn tn) c refl refl c.no_writer c.no_readers (owns.no_turn l ss opening v c.laws c.fits p (waiting_free t fit)) r) (λ r n y. absurd (o.unrefused r y)))
+  on_turn (Place.WaitTurn pr) _ c s o e fit = absurd o
+  on_turn (Place.TakeTurn pr) (Turn tn) c s o e fit =
+      let row = turn_row v u (Place.TakeTurn pr) (Turn tn) s e in
       let did = gone_on tn o in
-      let mv = moved m l k ss opening ts v (place.TakeTurn pr) (Turn tn) c afterwards row.sharing (decision t) tn did refl in
-      facts (place.TakeTurn pr) (Turn tn) c row (decision t) tn did mv (on_hold (decision t) tn did mv (taking_decided t fit)) c.no_writer c.no_readers (polled (place.TakeTurn pr) pr tn (decision t) did mv (taking_decided t fit) e (λ r n. cause (place.TakeTurn pr) (Turn tn) c refl refl c.no_writer c.no_readers (owns.no_turn l ss opening v c.laws c.fits p (undecided_free t fit n)) r) (λ r n y. idle_there pr tn did mv r n y e (owns.no_turn l ss opening v c.laws c.fits p (undecided_free t fit n))))
-  on_turn (place.TakeTurn pr) _ c s o e fit = absurd o
-  on_turn (place.TryTurn pr) (Turn tn) c s o e fit =
-      let row = turn_row v u (place.TryTurn pr) (Turn tn) s e in
-      let did = begun turn_call.Try tn o in
-      let mv = moved m l k ss opening ts v (place.TryTurn pr) (Turn tn) c afterwards row.sharing None tn did refl in
-      facts (place.TryTurn pr) (Turn tn) c row None tn did mv (on_hold None tn did mv (inl refl)) c.no_writer c.no_readers (tried pr tn mv.deed e)
-  on_turn (place.TryTurn pr) _ c s o e fit = absurd o
-  on_turn place.CancelTurn (Turn tn) c s o e fit =
-      let row = turn_row v u place.CancelTurn (Turn tn) s e in
-      let did = begun turn_call.Cancel tn o in
-      let mv = moved m l k ss opening ts v place.CancelTurn (Turn tn) c afterwards row.sharing (Some turn_end.GivenBack) tn did refl in
-      facts place.CancelTurn (Turn tn) c row (Some turn_end.GivenBack) tn did mv (judged_so answer.GivenBack mv.deed) c.no_writer c.no_readers ((now_cancelled v u tn e).0, mv.parting (did.legal.kept turn_end.GivenBack refl).1)
-  on_turn place.CancelTurn _ c s o e fit = absurd o
-  on_turn place.CancellingTurn (Turn tn) c s o e fit =
-      let row = turn_row v u place.CancellingTurn (Turn tn) s e in
+      let mv = moved m l k ss opening ts v (Place.TakeTurn pr) (Turn tn) c afterwards row.sharing (decision t) tn did refl in
+      facts (Place.TakeTurn pr) (Turn tn) c row (decision t) tn did mv (on_hold (decision t) tn did mv (taking_decided t fit)) c.no_writer c.no_readers (polled (Place.TakeTurn pr) pr tn (decision t) did mv (taking_decided t fit) e (λ r n. cause (Place.TakeTurn pr) (Turn tn) c refl refl c.no_writer c.no_readers (owns.no_turn l ss opening v c.laws c.fits p (undecided_free t fit n)) r) (λ r n y. idle_there pr tn did mv r n y e (owns.no_turn l ss opening v c.laws c.fits p (undecided_free t fit n))))
+  on_turn (Place.TakeTurn pr) _ c s o e fit = absurd o
+  on_turn (Place.TryTurn pr) (Turn tn) c s o e fit =
+      let row = turn_row v u (Place.TryTurn pr) (Turn tn) s e in
+      let did = begun LockCall.Try tn o in
+      let mv = moved m l k ss opening ts v (Place.TryTurn pr) (Turn tn) c afterwards row.sharing None tn did refl in
+      facts (Place.TryTurn pr) (Turn tn) c row None tn did mv (on_hold None tn did mv (inl refl)) c.no_writer c.no_readers (tried pr tn mv.deed e)
+  on_turn (Place.TryTurn pr) _ c s o e fit = absurd o
+  on_turn Place.CancelTurn (Turn tn) c s o e fit =
+      let row = turn_row v u Place.CancelTurn (Turn tn) s e in
+      let did = begun LockCall.Cancel tn o in
+      let mv = moved m l k ss opening ts v Place.CancelTurn (Turn tn) c afterwards row.sharing (Some TurnEnd.GivenBack) tn did refl in
+      facts Place.CancelTurn (Turn tn) c row (Some TurnEnd.GivenBack) tn did mv (judged_so Answer.GivenBack mv.deed) c.no_writer c.no_readers ((now_cancelled v u tn e).0, mv.parting (did.legal.kept TurnEnd.GivenBack refl).1)
+  on_turn Place.CancelTurn _ c s o e fit = absurd o
+  on_turn Place.CancellingTurn (Turn tn) c s o e fit =
+      let row = turn_row v u Place.CancellingTurn (Turn tn) s e in
       let did = gone_on tn o in
-      let mv = moved m l k ss opening ts v place.CancellingTurn (Turn tn) c afterwards row.sharing (decision t) tn did refl in
-      facts place.CancellingTurn (Turn tn) c row (decision t) tn did mv (judged_so answer.GivenBack mv.deed) c.no_writer c.no_readers ((now_cancelled v u tn e).1, mv.parting (did.legal.kept turn_end.GivenBack (cancelling_decided t fit)).1)
-  on_turn place.CancellingTurn _ c s o e fit = absurd o
-  on_turn (place.ReleaseTurn ending.Reading) (Turn tn) c s o e fit =
-      let row = turn_row v u (place.ReleaseTurn ending.Reading) (Turn tn) s e in
-      let did = begun turn_call.Release tn o in
+      let mv = moved m l k ss opening ts v Place.CancellingTurn (Turn tn) c afterwards row.sharing (decision t) tn did refl in
+      facts Place.CancellingTurn (Turn tn) c row (decision t) tn did mv (judged_so Answer.GivenBack mv.deed) c.no_writer c.no_readers ((now_cancelled v u tn e).1, mv.parting (did.legal.kept TurnEnd.GivenBack (cancelling_decided t fit)).1)
+  on_turn Place.CancellingTurn _ c s o e fit = absurd o
+  on_turn (Place.ReleaseTurn Ending.Reading) (Turn tn) c s o e fit =
+      let row = turn_row v u (Place.ReleaseTurn Ending.Reading) (Turn tn) s e in
+      let did = begun LockCall.Release tn o in
       let held : holder_of l.turn ≡ Some p = sees.holds_it l.turn.courses p c.laws.turn.one_holder (holding_holds t fit) in
-      let mv = left m l k ss opening ts v (place.ReleaseTurn ending.Reading) (Turn tn) c afterwards row.sharing (Some turn_end.GivenBack) tn did refl held (released_free u tn e) in
-      facts (place.ReleaseTurn ending.Reading) (Turn tn) c row (Some turn_end.GivenBack) tn did mv (judged_so (verdict_until ending.Reading) mv.deed) c.no_writer c.no_readers (now_released v u ending.Reading tn e, mv.parting (did.legal.kept turn_end.GivenBack refl).1)
-  on_turn (place.ReleaseTurn ending.GivenBack) (Turn tn) c s o e fit =
-      let row = turn_row v u (place.ReleaseTurn ending.GivenBack) (Turn tn) s e in
-      let did = begun turn_call.Release tn o in
-      let mv = moved m l k ss opening ts v (place.ReleaseTurn ending.GivenBack) (Turn tn) c afterwards row.sharing (Some turn_end.GivenBack) tn did refl in
-      facts (place.ReleaseTurn ending.GivenBack) (Turn tn) c row (Some turn_end.GivenBack) tn did mv (judged_so (verdict_until ending.GivenBack) mv.deed) c.no_writer c.no_readers (now_released v u ending.GivenBack tn e, mv.parting (did.legal.kept turn_end.GivenBack refl).1)
-  on_turn (place.ReleaseTurn (ending.NotFree q)) (Turn tn) c s o e fit =
-      let row = turn_row v u (place.ReleaseTurn (ending.NotFree q)) (Turn tn) s e in
-      let did = begun turn_call.Release tn o in
-      let mv = moved m l k ss opening ts v (place.ReleaseTurn (ending.NotFree q)) (Turn tn) c afterwards row.sharing (Some turn_end.GivenBack) tn did refl in
-      facts (place.ReleaseTurn (ending.NotFree q)) (Turn tn) c row (Some turn_end.GivenBack) tn did mv (judged_so (verdict_until (ending.NotFree q)) mv.deed) c.no_writer c.no_readers (now_released v u (ending.NotFree q) tn e, mv.parting (did.legal.kept turn_end.GivenBack refl).1)
-  on_turn (place.ReleaseTurn ending.RefuseReaders) (Turn tn) c s o e fit =
-      let row = turn_row v u (place.ReleaseTurn ending.RefuseReaders) (Turn tn) s e in
-      let did = begun turn_call.Release tn o in
-      let mv = moved m l k ss opening ts v (place.ReleaseTurn ending.RefuseReaders) (Turn tn) c afterwards row.sharing (Some turn_end.GivenBack) tn did refl in
-      facts (place.ReleaseTurn ending.RefuseReaders) (Turn tn) c row (Some turn_end.GivenBack) tn did mv (judged_so (verdict_until ending.RefuseReaders) mv.deed) c.no_writer c.no_readers (now_released v u ending.RefuseReaders tn e, mv.parting (did.legal.kept turn_end.GivenBack refl).1)
-  on_turn (place.ReleaseTurn ending.RefuseMemory) (Turn tn) c s o e fit =
-      let row = turn_row v u (place.ReleaseTurn ending.RefuseMemory) (Turn tn) s e in
-      let did = begun turn_call.Release tn o in
-      let mv = moved m l k ss opening ts v (place.ReleaseTurn ending.RefuseMemory) (Turn tn) c afterwards row.sharing (Some turn_end.GivenBack) tn did refl in
-      facts (place.ReleaseTurn ending.RefuseMemory) (Turn tn) c row (Some turn_end.GivenBack) tn did mv (judged_so (verdict_until ending.RefuseMemory) mv.deed) c.no_writer c.no_readers (now_released v u ending.RefuseMemory tn e, mv.parting (did.legal.kept turn_end.GivenBack refl).1)
-  on_turn (place.ReleaseTurn ending.NotifyReaders) (Turn tn) c s o e fit =
-      let row = turn_row v u (place.ReleaseTurn ending.NotifyReaders) (Turn tn) s e in
-      let did = begun turn_call.Release tn o in
-      let mv = moved m l k ss opening ts v (place.ReleaseTurn ending.NotifyReaders) (Turn tn) c afterwards row.sharing (Some turn_end.GivenBack) tn did refl in
-      facts (place.ReleaseTurn ending.NotifyReaders) (Turn tn) c row (Some turn_end.GivenBack) tn did mv (judged_so (verdict_until ending.NotifyReaders) mv.deed) c.no_writer c.no_readers (now_released v u ending.NotifyReaders tn e, mv.parting (did.legal.kept turn_end.GivenBack refl).1)
-  on_turn (place.ReleaseTurn q) _ c s o e fit = absurd o
-  on_turn (place.ReleasingTurn q) (Turn tn) c s o e fit =
-      let row = turn_row v u (place.ReleasingTurn q) (Turn tn) s e in
+      let mv = left m l k ss opening ts v (Place.ReleaseTurn Ending.Reading) (Turn tn) c afterwards row.sharing (Some TurnEnd.GivenBack) tn did refl held (released_free u tn e) in
+      facts (Place.ReleaseTurn Ending.Reading) (Turn tn) c row (Some TurnEnd.GivenBack) tn did mv (judged_so (verdict_until Ending.Reading) mv.deed) c.no_writer c.no_readers (now_released v u Ending.Reading tn e, mv.parting (did.legal.kept TurnEnd.GivenBack refl).1)
+  on_turn (Place.ReleaseTurn Ending.GivenBack) (Turn tn) c s o e fit =
+      let row = turn_row v u (Place.ReleaseTurn Ending.GivenBack) (Turn tn) s e in
+      let did = begun LockCall.Release tn o in
+      let mv = moved m l k ss opening ts v (Place.ReleaseTurn Ending.GivenBack) (Turn tn) c afterwards row.sharing (Some TurnEnd.GivenBack) tn did refl in
+      facts (Place.ReleaseTurn Ending.GivenBack) (Turn tn) c row (Some TurnEnd.GivenBack) tn did mv (judged_so (verdict_until Ending.GivenBack) mv.deed) c.no_writer c.no_readers (now_released v u Ending.GivenBack tn e, mv.parting (did.legal.kept TurnEnd.GivenBack refl).1)
+  on_turn (Place.ReleaseTurn (Ending.NotFree q)) (Turn tn) c s o e fit =
+      let row = turn_row v u (Place.ReleaseTurn (Ending.NotFree q)) (Turn tn) s e in
+      let did = begun LockCall.Release tn o in
+      let mv = moved m l k ss opening ts v (Place.ReleaseTurn (Ending.NotFree q)) (Turn tn) c afterwards row.sharing (Some TurnEnd.GivenBack) tn did refl in
+      facts (Place.ReleaseTurn (Ending.NotFree q)) (Turn tn) c row (Some TurnEnd.GivenBack) tn did mv (judged_so (verdict_until (Ending.NotFree q)) mv.deed) c.no_writer c.no_readers (now_released v u (Ending.NotFree q) tn e, mv.parting (did.legal.kept TurnEnd.GivenBack refl).1)
+  on_turn (Place.ReleaseTurn Ending.RefuseReaders) (Turn tn) c s o e fit =
+      let row = turn_row v u (Place.ReleaseTurn Ending.RefuseReaders) (Turn tn) s e in
+      let did = begun LockCall.Release tn o in
+      let mv = moved m l k ss opening ts v (Place.ReleaseTurn Ending.RefuseReaders) (Turn tn) c afterwards row.sharing (Some TurnEnd.GivenBack) tn did refl in
+      facts (Place.ReleaseTurn Ending.RefuseReaders) (Turn tn) c row (Some TurnEnd.GivenBack) tn did mv (judged_so (verdict_until Ending.RefuseReaders) mv.deed) c.no_writer c.no_readers (now_released v u Ending.RefuseReaders tn e, mv.parting (did.legal.kept TurnEnd.GivenBack refl).1)
+  on_turn (Place.ReleaseTurn Ending.RefuseMemory) (Turn tn) c s o e fit =
+      let row = turn_row v u (Place.ReleaseTurn Ending.RefuseMemory) (Turn tn) s e in
+      let did = begun LockCall.Release tn o in
+      let mv = moved m l k ss opening ts v (Place.ReleaseTurn Ending.RefuseMemory) (Turn tn) c afterwards row.sharing (Some TurnEnd.GivenBack) tn did refl in
+      facts (Place.ReleaseTurn Ending.RefuseMemory) (Turn tn) c row (Some TurnEnd.GivenBack) tn did mv (judged_so (verdict_until Ending.RefuseMemory) mv.deed) c.no_writer c.no_readers (now_released v u Ending.RefuseMemory tn e, mv.parting (did.legal.kept TurnEnd.GivenBack refl).1)
+  on_turn (Place.ReleaseTurn Ending.NotifyReaders) (Turn tn) c s o e fit =
+      let row = turn_row v u (Place.ReleaseTurn Ending.NotifyReaders) (Turn tn) s e in
+      let did = begun LockCall.Release tn o in
+      let mv = moved m l k ss opening ts v (Place.ReleaseTurn Ending.NotifyReaders) (Turn tn) c afterwards row.sharing (Some TurnEnd.GivenBack) tn did refl in
+      facts (Place.ReleaseTurn Ending.NotifyReaders) (Turn tn) c row (Some TurnEnd.GivenBack) tn did mv (judged_so (verdict_until Ending.NotifyReaders) mv.deed) c.no_writer c.no_readers (now_released v u Ending.NotifyReaders tn e, mv.parting (did.legal.kept TurnEnd.GivenBack refl).1)
+  on_turn (Place.ReleaseTurn q) _ c s o e fit = absurd o
+  on_turn (Place.ReleasingTurn q) (Turn tn) c s o e fit =
+      let row = turn_row v u (Place.ReleasingTurn q) (Turn tn) s e in
       let did = gone_on tn o in
-      let mv = moved m l k ss opening ts v (place.ReleasingTurn q) (Turn tn) c afterwards row.sharing (decision t) tn did refl in
-      facts (place.ReleasingTurn q) (Turn tn) c row (decision t) tn did mv (judged_so (verdict_until q) mv.deed) c.no_writer c.no_readers (now_releasing v u q tn e, mv.parting (did.legal.kept turn_end.GivenBack (releasing_decided t fit)).1)
-  on_turn (place.ReleasingTurn q) _ c s o e fit = absurd o
+      let mv = moved m l k ss opening ts v (Place.ReleasingTurn q) (Turn tn) c afterwards row.sharing (decision t) tn did refl in
+      facts (Place.ReleasingTurn q) (Turn tn) c row (decision t) tn did mv (judged_so (verdict_until q) mv.deed) c.no_writer c.no_readers (now_releasing v u q tn e, mv.parting (did.legal.kept TurnEnd.GivenBack (releasing_decided t fit)).1)
+  on_turn (Place.ReleasingTurn q) _ c s o e fit = absurd o
   on_turn _ f c s o e fit = absurd (cc)

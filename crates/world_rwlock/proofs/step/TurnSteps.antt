@@ -1,41 +1,10 @@
 -- What one action on the turn does, as callers see it.
-use Rattle.std.proofs.Common.{◌≡◌, ◌≢◌, ℕ, zero, suc, ◌+◌, ◌<◌, ◌⊎◌, inl, inr, Bool, true, false, List, [], ◌∷◌, length, Option, Some, None, refl, arith, ap, sym, ◌∙◌, get_or, get_or-set_same}
-use Rattle.std.proofs.Math.ListN.{set}
-use Rattle.std.proofs.Math.Decide.{ℕ_discrete}
-use Rattle.std.proofs.lemmas.Bool.{cases_Bool, false≢true}
-use Rattle.lock_event.specs.declared.event.Entry.{Entry}
-use Rattle.world_base.specs.declared.moves.Move.{Move}
-use Rattle.world_base.specs.declared.standing.Stage.{Stage}
-use Rattle.world_base.specs.Rosters.{how_many}
-use Rattle.world_base.specs.Standings.{inputs_of}
-use Rattle.world_base.specs.Steps.{Deed, ListFunction, nothing, changes, does, joins}
-use Rattle.world_base.proofs.Equations.{none_some}
-use Rattle.world_mutex.specs.machine.Course.{Course as TurnCourse, holds, counted, decision}
-use Rattle.lock_program.specs.declared.mutex.Step.{Step as TurnStep}
-use Rattle.lock_program.specs.declared.end.End.{End as TurnEnd}
+use Rattle.world_rwlock.proofs.Prelude.{◌≡◌, ◌≢◌, ℕ, zero, suc, ◌+◌, ◌<◌, ◌⊎◌, inl, inr, Bool, true, false, List, [], ◌∷◌, length, Option, Some, None, refl, arith, ap, sym, ◌∙◌, get_or, get_or-set_same, set, ℕ_discrete, cases_Bool, false≢true, Entry, Move, Stage, how_many, inputs_of, Deed, ListFunction, nothing, changes, does, joins, none_some, TurnCourse, holds, counted, decision, TurnStep, End as TurnEnd, Mutex, turn_at, is_holder, is_counted, holder_of, starved_of, TakenFairly, IsLegal, decided_by, Found, Place, next_of, place_after, RwLock, place_at, IsRwLock, Change, takes_turn, leaves_turn, starves, recovers, turn_after, readers_after, starved_after, value_after, IsAllowed, gives_back, gives_up, entries_after, ListName, for_the_turn, for_no_readers, for_no_writer, World, told_in, entries_in, passing, upgrading, turn_as, share_of, turn_by, seen, asks, leaves, notifies, notifies_additionally, MayDo, listed, may_tell, taking, releasing, undecided, called, counting, has_lock, giving_up, HasTurn, is_starved, Share, waiting, writing}
 use Rattle.world_mutex.specs.machine.Course as turn_roles
-use Rattle.world_mutex.specs.machine.Mutex.{Mutex, course_at as turn_at, is_holder, is_counted, holder_of, starved_of, TakenFairly}
 use Rattle.world_mutex.specs.machine.Deeds as mutex
-use Rattle.world_mutex.specs.machine.Conduct.{IsLegal}
-use Rattle.world_mutex.specs.machine.Deeds.{decided_by}
 use Rattle.world_mutex.proofs.of_machine.callers.Holders as sees
-use Rattle.lock_program.specs.declared.rwlock.Found.{Found}
-use Rattle.lock_program.specs.declared.rwlock.Place.{Place}
-use Rattle.lock_program.specs.declared.rwlock.Place.TheVariants as place
-use Rattle.world_rwlock.specs.program.Program.{next_of, place_after}
-use Rattle.world_rwlock.specs.machine.Machine.{RwLock, place_at}
-use Rattle.world_rwlock.specs.machine.Acts.{IsRwLock}
-use Rattle.world_rwlock.specs.Changes.{Change, takes_turn, leaves_turn, starves, recovers, turn_after, readers_after, starved_after, value_after, IsAllowed, gives_back, gives_up, entries_after}
-use Rattle.world_rwlock.specs.State.{ListName, for_the_turn, for_no_readers, for_no_writer}
 use Rattle.world_rwlock.specs.State as state
-use Rattle.world_rwlock.specs.State.{World, told_in, entries_in}
-use Rattle.world_rwlock.specs.View.{passing, upgrading, turn_as, share_of, turn_by, seen}
 use Rattle.world_rwlock.proofs.step.Facts.{Known, turn_kept, there}
-use Rattle.world_base.specs.Steps.{asks, leaves, notifies, notifies_additionally}
-use Rattle.world_mutex.specs.machine.Conduct.{IsAllowed as MayDo}
-use Rattle.world_mutex.specs.machine.Course.{listed, may_tell, taking, releasing, undecided, called, counting, has_lock, gives_up as giving_up}
-use Rattle.world_rwlock.specs.State.{HasTurn, is_starved}
-use Rattle.world_rwlock.specs.View.{Share, waiting, writing}
 
 -- ---- rosters
 
@@ -161,7 +130,7 @@ module _ (m : Move) (l k : RwLock) (ss : List Stage) (opening : ℕ) (ts : List 
   turn_none h xs e = ap (λ o. turn_by o xs) e
 
   turn_own : (h : Option ℕ) → h ≡ Some p → turn_by h k.places ≡ state.passes p
-  turn_own h e = ap (λ o. turn_by o k.places) e ∙ (ap (λ y. turn_as p (share_of y)) (ap (λ xs. place_at xs p) c.places ∙ get_or-set_same l.places p to place.Out known_place) ∙ ap (turn_as p) passes_on)
+  turn_own h e = ap (λ o. turn_by o k.places) e ∙ (ap (λ y. turn_as p (share_of y)) (ap (λ xs. place_at xs p) c.places ∙ get_or-set_same l.places p to Place.Out known_place) ∙ ap (turn_as p) passes_on)
 
   module _ (decided : Option TurnEnd) (n : TurnStep) (did : TurnDid memory p decided n l.turn k.turn) where
     -- the turn stays with whoever has it, if the share of the party that moved is as it was

@@ -1,96 +1,61 @@
 -- What each move does, as its party stands: where it acts, in which call, and what it seeks then.
-use Rattle.std.proofs.Common.{◌≡◌, ℕ, true, false, Option, Some, None, refl, sym, ap, ◌∙◌}
-use Rattle.world_base.specs.declared.moves.Answer.{Answer}
-use Rattle.world_base.specs.declared.moves.Answer.TheVariants as answer
-use Rattle.world_base.specs.declared.moves.Call.{Call}
-use Rattle.world_base.specs.declared.moves.Call.TheVariants as call
-use Rattle.world_base.specs.declared.moves.Inputs.{Inputs}
-use Rattle.world_base.specs.declared.moves.What.{What}
-use Rattle.world_base.specs.declared.moves.What.TheVariants.{Begin, Go}
-use Rattle.lock_program.specs.declared.refusal.Refusal.TheVariants as refusal
-use Rattle.world_base.specs.declared.standing.Kind.TheVariants as kind
-use Rattle.world_base.specs.declared.standing.Rest.{Rest}
-use Rattle.world_base.specs.declared.standing.Rest.TheVariants as rest
-use Rattle.world_base.specs.declared.standing.Stage.{Stage}
-use Rattle.world_base.specs.declared.standing.Stage.TheVariants.{Outside}
-use Rattle.world_base.specs.declared.standing.Within.{Within}
-use Rattle.world_base.specs.Accounts.{aim, sought_after}
-use Rattle.world_base.specs.Frame.{is_drop, is_giving_back, put_in}
-use Rattle.world_base.specs.Rights.{Right}
-use Rattle.world_base.specs.Standings.{inside, is_decided}
-use Rattle.world_base.proofs.Equations.{some_eq}
-use Rattle.lock_program.specs.declared.end.End.TheVariants.{NotFree}
-use Rattle.world_base.specs.table.Stages.{call_at, polls_again}
-use Rattle.world_mutex.specs.machine.Course.{Course as TurnCourse}
-use Rattle.lock_program.specs.declared.rwlock.Wanted.TheVariants as wanted
-use Rattle.lock_program.specs.declared.rwlock.Purpose.TheVariants as purpose
-use Rattle.lock_program.specs.declared.rwlock.Ending.TheVariants as ending
-use Rattle.world_rwlock.specs.declared.program.led.Next.{Next}
-use Rattle.world_rwlock.specs.declared.program.led.Next.TheVariants as next
-use Rattle.lock_program.specs.declared.rwlock.Place.{Place}
-use Rattle.lock_program.specs.declared.rwlock.Place.TheVariants as place
-use Rattle.world_rwlock.specs.program.Program.{place_after, first_poll}
-use Rattle.world_rwlock.specs.machine.Machine.{SameRoles}
+use Rattle.world_rwlock.proofs.Prelude.{◌≡◌, ℕ, true, false, Option, Some, None, refl, sym, ap, ◌∙◌, Answer, Call, Inputs, What, Begin, Go, Refusal, Kind, Rest, Stage, Outside, Within, aim, sought_after, is_drop, is_giving_back, put_in, Right, inside, is_decided, some_eq, NotFree, call_at, polls_again, TurnCourse, Wanted, Purpose, Ending, Next, Place, place_after, first_poll, SameRoles, knows_at, answer_by, sought_at, Course, tries_upgrade, course_of, is_on_course, is_inside, goes_with, share_of, is_upgrade, verdict, standing_at}
 use Rattle.world_rwlock.proofs.of_machine.stages.Starts.{start_same}
-use Rattle.world_rwlock.specs.program.Calls.{knows_at}
-use Rattle.world_rwlock.specs.Guarded.{answer_by}
-use Rattle.world_rwlock.specs.Stages.{sought_at, Course, tries_upgrade, course_of, is_on_course, is_inside, goes_with}
-use Rattle.world_rwlock.specs.View.{share_of, is_upgrade, verdict, standing_at}
 use Rattle.world_rwlock.proofs.table.Begun.{within, Turn, turn}
 use Rattle.world_rwlock.proofs.step.Paths.{InVain, Seeks}
 use Rattle.world_rwlock.proofs.step.Rows.{lacks_memory}
 
 -- ---- what is sought after an action
 
-not_free_out : (c : Course) (q : Place) → (c ≡ tries_upgrade → ⊥) → InVain c q → q ≡ place.Out
+not_free_out : (c : Course) (q : Place) → (c ≡ tries_upgrade → ⊥) → InVain c q → q ≡ Place.Out
 not_free_out tries_upgrade q n h = absurd (n refl)
 not_free_out _ q n h = h
 
 -- once a call has begun, but a try to upgrade
-sought_begun : (o : Option Right) (c : Call) (i : Inputs) (v : ℕ) (from : Place) → sought_after o (Begin c i) answer.None ≡ None → sought_at from ≡ aim o c → (course_of from ≡ tries_upgrade → ⊥)
+sought_begun : (o : Option Right) (c : Call) (i : Inputs) (v : ℕ) (from : Place) → sought_after o (Begin c i) Answer.None ≡ None → sought_at from ≡ aim o c → (course_of from ≡ tries_upgrade → ⊥)
     → (n : Next) → Seeks from n → sought_at (place_after n) ≡ sought_after o (Begin c i) (answer_by v n)
-sought_begun o c i v from none e up (next.Do a q) k = k ∙ e
-sought_begun o c i v from none e up (next.Wait q) k = k ∙ e
-sought_begun o c i v from none e up (next.End NotFree q) k = ap sought_at (not_free_out (course_of from) q up k) ∙ sym none
-sought_begun o c i v from none e up (next.End _ q) k = k ∙ e
+sought_begun o c i v from none e up (Next.Do a q) k = k ∙ e
+sought_begun o c i v from none e up (Next.Wait q) k = k ∙ e
+sought_begun o c i v from none e up (Next.End NotFree q) k = ap sought_at (not_free_out (course_of from) q up k) ∙ sym none
+sought_begun o c i v from none e up (Next.End _ q) k = k ∙ e
 
-sought_tried : (i : Inputs) (v : ℕ) (n : Next) → Seeks place.TryUpgrade n → sought_at (place_after n) ≡ sought_after (sought_at place.Upgradable) (Begin call.TryUpgrade i) (answer_by v n)
-sought_tried i v (next.Do a q) k = k
-sought_tried i v (next.Wait q) k = k
-sought_tried i v (next.End NotFree q) k = ap sought_at k
-sought_tried i v (next.End _ q) k = k
+sought_tried : (i : Inputs) (v : ℕ) (n : Next) → Seeks Place.TryUpgrade n → sought_at (place_after n) ≡ sought_after (sought_at Place.Upgradable) (Begin Call.TryUpgrade i) (answer_by v n)
+sought_tried i v (Next.Do a q) k = k
+sought_tried i v (Next.Wait q) k = k
+sought_tried i v (Next.End NotFree q) k = ap sought_at k
+sought_tried i v (Next.End _ q) k = k
 
 -- no upgrade that is tried goes on
 not_upgrading : (x : Place) → is_inside x ≡ true → course_of x ≡ tries_upgrade → ⊥
-not_upgrading place.TryUpgrade h e = absurd (cc)
-not_upgrading (place.RefuseNotify refusal.Memory) h e = cc
-not_upgrading (place.RefuseNotify refusal.Readers) h e = cc
-not_upgrading (place.RefuseNotify _) h e = cc
-not_upgrading (place.ReleaseTurn ending.GivenBack) h e = cc
-not_upgrading (place.ReleaseTurn (ending.NotFree p)) h e = cc
-not_upgrading (place.ReleaseTurn ending.RefuseReaders) h e = cc
-not_upgrading (place.ReleaseTurn ending.RefuseMemory) h e = cc
-not_upgrading (place.ReleaseTurn ending.Reading) h e = cc
-not_upgrading (place.ReleaseTurn ending.NotifyReaders) h e = cc
-not_upgrading (place.ReleasingTurn ending.GivenBack) h e = cc
-not_upgrading (place.ReleasingTurn (ending.NotFree p)) h e = cc
-not_upgrading (place.ReleasingTurn ending.RefuseReaders) h e = cc
-not_upgrading (place.ReleasingTurn ending.RefuseMemory) h e = cc
-not_upgrading (place.ReleasingTurn ending.Reading) h e = cc
-not_upgrading (place.ReleasingTurn ending.NotifyReaders) h e = cc
-not_upgrading (place.Add true) h e = cc
-not_upgrading (place.Add false) h e = cc
-not_upgrading (place.Unmark true) h e = cc
-not_upgrading (place.Unmark false) h e = cc
-not_upgrading (place.UnmarkNotify true) h e = cc
-not_upgrading (place.UnmarkNotify false) h e = cc
+not_upgrading Place.TryUpgrade h e = absurd (cc)
+not_upgrading (Place.RefuseNotify Refusal.Memory) h e = cc
+not_upgrading (Place.RefuseNotify Refusal.Readers) h e = cc
+not_upgrading (Place.RefuseNotify _) h e = cc
+not_upgrading (Place.ReleaseTurn Ending.GivenBack) h e = cc
+not_upgrading (Place.ReleaseTurn (Ending.NotFree p)) h e = cc
+not_upgrading (Place.ReleaseTurn Ending.RefuseReaders) h e = cc
+not_upgrading (Place.ReleaseTurn Ending.RefuseMemory) h e = cc
+not_upgrading (Place.ReleaseTurn Ending.Reading) h e = cc
+not_upgrading (Place.ReleaseTurn Ending.NotifyReaders) h e = cc
+not_upgrading (Place.ReleasingTurn Ending.GivenBack) h e = cc
+not_upgrading (Place.ReleasingTurn (Ending.NotFree p)) h e = cc
+not_upgrading (Place.ReleasingTurn Ending.RefuseReaders) h e = cc
+not_upgrading (Place.ReleasingTurn Ending.RefuseMemory) h e = cc
+not_upgrading (Place.ReleasingTurn Ending.Reading) h e = cc
+not_upgrading (Place.ReleasingTurn Ending.NotifyReaders) h e = cc
+not_upgrading (Place.Add true) h e = cc
+not_upgrading (Place.Add false) h e = cc
+not_upgrading (Place.Unmark true) h e = cc
+not_upgrading (Place.Unmark false) h e = cc
+not_upgrading (Place.UnmarkNotify true) h e = cc
+not_upgrading (Place.UnmarkNotify false) h e = cc
 not_upgrading _ h e = cc
 
 sought_on : (i : Inputs) (v : ℕ) (x : Place) → (course_of x ≡ tries_upgrade → ⊥) → (n : Next) → Seeks x n → sought_at (place_after n) ≡ sought_after (sought_at x) (Go i) (answer_by v n)
-sought_on i v x up (next.Do a q) k = k
-sought_on i v x up (next.Wait q) k = k
-sought_on i v x up (next.End NotFree q) k = ap sought_at (not_free_out (course_of x) q up k)
-sought_on i v x up (next.End _ q) k = k
+sought_on i v x up (Next.Do a q) k = k
+sought_on i v x up (Next.Wait q) k = k
+sought_on i v x up (Next.End NotFree q) k = ap sought_at (not_free_out (course_of x) q up k)
+sought_on i v x up (Next.End _ q) k = k
 
 -- ---- a move of a party that stands so
 
@@ -100,9 +65,9 @@ pub record Moves (v : ℕ) (t : TurnCourse) (s : Stage) (what : What) (x : Place
   pub same : SameRoles from x
   pub course : is_on_course w.kind w.was (course_of from) ≡ true
   pub decided : (u : Within) (b : Answer) → standing_at v s x t ≡ inside u (Some b) → verdict v from t ≡ Some b
-  pub gives : is_decided (standing_at v s x t) ≡ false → (b : Answer) → verdict v from t ≡ Some b → (answer.GivenBack ≡ b) × (is_giving_back what ≡ true)
+  pub gives : is_decided (standing_at v s x t) ≡ false → (b : Answer) → verdict v from t ≡ Some b → (Answer.GivenBack ≡ b) × (is_giving_back what ≡ true)
   pub lacking : lacks_memory from ≡ true → (a : Option Answer) × (standing_at v s x t ≡ inside w a)
-  pub drop_is : is_drop what ≡ true → (verdict v from t ≡ Some answer.GivenBack) × (w.kind ≡ kind.Drop)
+  pub drop_is : is_drop what ≡ true → (verdict v from t ≡ Some Answer.GivenBack) × (w.kind ≡ Kind.Drop)
   pub upgrade : is_drop what ≡ false → is_upgrade from ≡ is_upgrade x
   pub sought : (n : Next) → Seeks from n → sought_at (place_after n) ≡ sought_after (sought_at x) what (answer_by v n)
 
@@ -112,7 +77,7 @@ same_at x = record { reading = refl; marking = refl; turning = refl; writing = r
 module _ (v : ℕ) (t : TurnCourse) where
   -- a call that begins
   opened : (r : Rest) (c : Call) (i : Inputs) (x : Place) (w : Within) (from : Place) → share_of from ≡ share_of x → SameRoles from x → is_on_course w.kind w.was (course_of from) ≡ true → lacks_memory from ≡ false
-      → ((b : Answer) → verdict v from t ≡ Some b → (answer.GivenBack ≡ b) × (is_giving_back (Begin c i) ≡ true)) → (is_drop (Begin c i) ≡ true → (verdict v from t ≡ Some answer.GivenBack) × (w.kind ≡ kind.Drop))
+      → ((b : Answer) → verdict v from t ≡ Some b → (Answer.GivenBack ≡ b) × (is_giving_back (Begin c i) ≡ true)) → (is_drop (Begin c i) ≡ true → (verdict v from t ≡ Some Answer.GivenBack) × (w.kind ≡ Kind.Drop))
       → (is_drop (Begin c i) ≡ false → is_upgrade from ≡ is_upgrade x) → ((n : Next) → Seeks from n → sought_at (place_after n) ≡ sought_after (sought_at x) (Begin c i) (answer_by v n)) → Moves v t (Outside r) (Begin c i) x w from
   opened r c i x w from share same course lacks gives drop_is upgrade sought = record {
     share = share;
@@ -135,30 +100,30 @@ module _ (v : ℕ) (t : TurnCourse) where
 
   pub moving : (s : Stage) (what : What) (x : Place) (w : Within) → goes_with s x ≡ true → call_at (knows_at x) s what ≡ Some w → polls_again s what ≡ false → put_in what ≡ None → Turn (Moves v t) s what x w
   moving = turn (Moves v t) (record {
-    read = λ i. opened rest.Idle call.Read i place.Out (within kind.FirstPoll rest.Idle) (place.EnterRead false) refl (start_same call.Read place.Out (place.EnterRead false) refl) refl refl (λ b d. absurd (cc)) (λ d. absurd (cc)) (λ d. refl) (sought_begun (sought_at place.Out) call.Read i v (place.EnterRead false) refl refl (λ e. absurd (cc)));
-    upgradable = λ i. opened rest.Idle call.UpgradableRead i place.Out (within kind.FirstPoll rest.Idle) (place.EnterTurn purpose.UpgradableRead) refl (start_same call.UpgradableRead place.Out (place.EnterTurn purpose.UpgradableRead) refl) refl refl (λ b d. absurd (cc)) (λ d. absurd (cc)) (λ d. refl) (sought_begun (sought_at place.Out) call.UpgradableRead i v (place.EnterTurn purpose.UpgradableRead) refl refl (λ e. absurd (cc)));
-    write = λ i. opened rest.Idle call.Write i place.Out (within kind.FirstPoll rest.Idle) (place.EnterTurn purpose.Write) refl (start_same call.Write place.Out (place.EnterTurn purpose.Write) refl) refl refl (λ b d. absurd (cc)) (λ d. absurd (cc)) (λ d. refl) (sought_begun (sought_at place.Out) call.Write i v (place.EnterTurn purpose.Write) refl refl (λ e. absurd (cc)));
-    try_read = λ i. opened rest.Idle call.TryRead i place.Out (within kind.Try rest.Idle) place.TryRead refl (start_same call.TryRead place.Out place.TryRead refl) refl refl (λ b d. absurd (cc)) (λ d. absurd (cc)) (λ d. refl) (sought_begun (sought_at place.Out) call.TryRead i v place.TryRead refl refl (λ e. absurd (cc)));
-    try_upgradable = λ i. opened rest.Idle call.TryUpgradableRead i place.Out (within kind.Try rest.Idle) (place.TryTurn purpose.UpgradableRead) refl (start_same call.TryUpgradableRead place.Out (place.TryTurn purpose.UpgradableRead) refl) refl refl (λ b d. absurd (cc)) (λ d. absurd (cc)) (λ d. refl) (sought_begun (sought_at place.Out) call.TryUpgradableRead i v (place.TryTurn purpose.UpgradableRead) refl refl (λ e. absurd (cc)));
-    try_write = λ i. opened rest.Idle call.TryWrite i place.Out (within kind.Try rest.Idle) (place.TryTurn purpose.Write) refl (start_same call.TryWrite place.Out (place.TryTurn purpose.Write) refl) refl refl (λ b d. absurd (cc)) (λ d. absurd (cc)) (λ d. refl) (sought_begun (sought_at place.Out) call.TryWrite i v (place.TryTurn purpose.Write) refl refl (λ e. absurd (cc)));
+    read = λ i. opened Rest.Idle Call.Read i Place.Out (within Kind.FirstPoll Rest.Idle) (Place.EnterRead false) refl (start_same Call.Read Place.Out (Place.EnterRead false) refl) refl refl (λ b d. absurd (cc)) (λ d. absurd (cc)) (λ d. refl) (sought_begun (sought_at Place.Out) Call.Read i v (Place.EnterRead false) refl refl (λ e. absurd (cc)));
+    upgradable = λ i. opened Rest.Idle Call.UpgradableRead i Place.Out (within Kind.FirstPoll Rest.Idle) (Place.EnterTurn Purpose.UpgradableRead) refl (start_same Call.UpgradableRead Place.Out (Place.EnterTurn Purpose.UpgradableRead) refl) refl refl (λ b d. absurd (cc)) (λ d. absurd (cc)) (λ d. refl) (sought_begun (sought_at Place.Out) Call.UpgradableRead i v (Place.EnterTurn Purpose.UpgradableRead) refl refl (λ e. absurd (cc)));
+    write = λ i. opened Rest.Idle Call.Write i Place.Out (within Kind.FirstPoll Rest.Idle) (Place.EnterTurn Purpose.Write) refl (start_same Call.Write Place.Out (Place.EnterTurn Purpose.Write) refl) refl refl (λ b d. absurd (cc)) (λ d. absurd (cc)) (λ d. refl) (sought_begun (sought_at Place.Out) Call.Write i v (Place.EnterTurn Purpose.Write) refl refl (λ e. absurd (cc)));
+    try_read = λ i. opened Rest.Idle Call.TryRead i Place.Out (within Kind.Try Rest.Idle) Place.TryRead refl (start_same Call.TryRead Place.Out Place.TryRead refl) refl refl (λ b d. absurd (cc)) (λ d. absurd (cc)) (λ d. refl) (sought_begun (sought_at Place.Out) Call.TryRead i v Place.TryRead refl refl (λ e. absurd (cc)));
+    try_upgradable = λ i. opened Rest.Idle Call.TryUpgradableRead i Place.Out (within Kind.Try Rest.Idle) (Place.TryTurn Purpose.UpgradableRead) refl (start_same Call.TryUpgradableRead Place.Out (Place.TryTurn Purpose.UpgradableRead) refl) refl refl (λ b d. absurd (cc)) (λ d. absurd (cc)) (λ d. refl) (sought_begun (sought_at Place.Out) Call.TryUpgradableRead i v (Place.TryTurn Purpose.UpgradableRead) refl refl (λ e. absurd (cc)));
+    try_write = λ i. opened Rest.Idle Call.TryWrite i Place.Out (within Kind.Try Rest.Idle) (Place.TryTurn Purpose.Write) refl (start_same Call.TryWrite Place.Out (Place.TryTurn Purpose.Write) refl) refl refl (λ b d. absurd (cc)) (λ d. absurd (cc)) (λ d. refl) (sought_begun (sought_at Place.Out) Call.TryWrite i v (Place.TryTurn Purpose.Write) refl refl (λ e. absurd (cc)));
     poll_made = made;
-    poll_no_writer = λ i. opened rest.Pending call.Poll i place.AskNoWriter (within kind.LaterPoll rest.Pending) place.AskNoWriter refl (same_at place.AskNoWriter) refl refl (λ b d. absurd (cc)) (λ d. absurd (cc)) (λ d. refl) (sought_begun (sought_at place.AskNoWriter) call.Poll i v place.AskNoWriter refl refl (λ e. absurd (cc)));
-    poll_turn = λ p i. opened rest.Pending call.Poll i (place.WaitTurn p) (within kind.LaterPoll rest.Pending) (place.WaitTurn p) refl (same_at (place.WaitTurn p)) refl refl (λ b d. absurd (cc)) (λ d. absurd (cc)) (λ d. refl) (sought_begun (sought_at (place.WaitTurn p)) call.Poll i v (place.WaitTurn p) refl refl (λ e. absurd (cc)));
-    poll_no_readers = λ u i. opened rest.Pending call.Poll i (place.AwaitNoReaders u) (within kind.LaterPoll rest.Pending) (place.AwaitNoReaders u) refl (same_at (place.AwaitNoReaders u)) refl refl (λ b d. absurd (cc)) (λ d. absurd (cc)) (λ d. refl) (sought_begun (sought_at (place.AwaitNoReaders u)) call.Poll i v (place.AwaitNoReaders u) refl refl (λ e. absurd (cc)));
-    poll_upgrade = λ i. opened rest.Pending call.Poll i (place.LookUnlisted true) (within kind.LaterPoll rest.Pending) (place.LookUnlisted true) refl (same_at (place.LookUnlisted true)) refl refl (λ b d. absurd (cc)) (λ d. absurd (cc)) (λ d. refl) (sought_begun (sought_at (place.LookUnlisted true)) call.Poll i v (place.LookUnlisted true) refl refl (λ e. absurd (cc)));
-    drop_made = λ m i. opened rest.Pending call.Drop i (place.Made m) (within kind.Drop rest.Pending) place.Out refl (start_same call.Drop (place.Made m) place.Out refl) refl refl (λ b d. (some_eq d, refl)) (λ d. (refl, refl)) (λ d. absurd (cc)) (sought_begun (sought_at (place.Made m)) call.Drop i v place.Out refl refl (λ e. absurd (cc)));
-    drop_no_writer = λ i. opened rest.Pending call.Drop i place.AskNoWriter (within kind.Drop rest.Pending) place.CancelRead refl (start_same call.Drop place.AskNoWriter place.CancelRead refl) refl refl (λ b d. (some_eq d, refl)) (λ d. (refl, refl)) (λ d. absurd (cc)) (sought_begun (sought_at place.AskNoWriter) call.Drop i v place.CancelRead refl refl (λ e. absurd (cc)));
-    drop_turn = λ p i. opened rest.Pending call.Drop i (place.WaitTurn p) (within kind.Drop rest.Pending) place.CancelTurn refl (start_same call.Drop (place.WaitTurn p) place.CancelTurn refl) refl refl (λ b d. (some_eq d, refl)) (λ d. (refl, refl)) (λ d. absurd (cc)) (sought_begun (sought_at (place.WaitTurn p)) call.Drop i v place.CancelTurn refl refl (λ e. absurd (cc)));
-    drop_no_readers = λ u i. opened rest.Pending call.Drop i (place.AwaitNoReaders u) (within kind.Drop rest.Pending) place.CancelAwait refl (start_same call.Drop (place.AwaitNoReaders u) place.CancelAwait refl) refl refl (λ b d. (some_eq d, refl)) (λ d. (refl, refl)) (λ d. absurd (cc)) (sought_begun (sought_at (place.AwaitNoReaders u)) call.Drop i v place.CancelAwait refl refl (λ e. absurd (cc)));
-    drop_upgrade = λ i. opened rest.Pending call.Drop i (place.LookUnlisted true) (within kind.Drop rest.Pending) (place.Unmark false) refl (start_same call.Drop (place.LookUnlisted true) (place.Unmark false) refl) refl refl (λ b d. (some_eq d, refl)) (λ d. (refl, refl)) (λ d. absurd (cc)) (sought_begun (sought_at (place.LookUnlisted true)) call.Drop i v (place.Unmark false) refl refl (λ e. absurd (cc)));
-    drop_reader = λ i. opened rest.Holding call.Drop i place.Reading (within kind.Drop rest.Holding) place.DropRead refl (start_same call.Drop place.Reading place.DropRead refl) refl refl (λ b d. (some_eq d, refl)) (λ d. (refl, refl)) (λ d. absurd (cc)) (sought_begun (sought_at place.Reading) call.Drop i v place.DropRead refl refl (λ e. absurd (cc)));
-    drop_upgradable = λ i. opened rest.Holding call.Drop i place.Upgradable (within kind.Drop rest.Holding) place.DropUpgradable refl (start_same call.Drop place.Upgradable place.DropUpgradable refl) refl refl (λ b d. (some_eq d, refl)) (λ d. (refl, refl)) (λ d. absurd (cc)) (sought_begun (sought_at place.Upgradable) call.Drop i v place.DropUpgradable refl refl (λ e. absurd (cc)));
-    drop_writer = λ i. opened rest.Holding call.Drop i place.Writing (within kind.Drop rest.Holding) place.DropWrite refl (start_same call.Drop place.Writing place.DropWrite refl) refl refl (λ b d. (some_eq d, refl)) (λ d. (refl, refl)) (λ d. absurd (cc)) (sought_begun (sought_at place.Writing) call.Drop i v place.DropWrite refl refl (λ e. absurd (cc)));
-    upgrade = λ i. opened rest.Holding call.Upgrade i place.Upgradable (within kind.Upgrade rest.Holding) place.Upgrade refl (start_same call.Upgrade place.Upgradable place.Upgrade refl) refl refl (λ b d. absurd (cc)) (λ d. absurd (cc)) (λ d. refl) (sought_begun (sought_at place.Upgradable) call.Upgrade i v place.Upgrade refl refl (λ e. absurd (cc)));
-    try_upgrade = λ i. opened rest.Holding call.TryUpgrade i place.Upgradable (within kind.TryUpgrade rest.Holding) place.TryUpgrade refl (start_same call.TryUpgrade place.Upgradable place.TryUpgrade refl) refl refl (λ b d. absurd (cc)) (λ d. absurd (cc)) (λ d. refl) (sought_tried i v);
-    downgrade_upgradable = λ i. opened rest.Holding call.Downgrade i place.Upgradable (within kind.Downgrade rest.Holding) (place.ReleaseTurn ending.Reading) refl (start_same call.Downgrade place.Upgradable (place.ReleaseTurn ending.Reading) refl) refl refl (λ b d. (some_eq d, refl)) (λ d. absurd (cc)) (λ d. refl) (sought_begun (sought_at place.Upgradable) call.Downgrade i v (place.ReleaseTurn ending.Reading) refl refl (λ e. absurd (cc)));
-    downgrade_writer = λ i. opened rest.Holding call.Downgrade i place.Writing (within kind.Downgrade rest.Holding) (place.Down false) refl (start_same call.Downgrade place.Writing (place.Down false) refl) refl refl (λ b d. absurd (cc)) (λ d. absurd (cc)) (λ d. refl) (sought_begun (sought_at place.Writing) call.Downgrade i v (place.Down false) refl refl (λ e. absurd (cc)));
-    to_upgradable = λ i. opened rest.Holding call.DowngradeToUpgradable i place.Writing (within kind.Downgrade rest.Holding) (place.Down true) refl (start_same call.DowngradeToUpgradable place.Writing (place.Down true) refl) refl refl (λ b d. absurd (cc)) (λ d. absurd (cc)) (λ d. refl) (sought_begun (sought_at place.Writing) call.DowngradeToUpgradable i v (place.Down true) refl refl (λ e. absurd (cc)));
+    poll_no_writer = λ i. opened Rest.Pending Call.Poll i Place.AskNoWriter (within Kind.LaterPoll Rest.Pending) Place.AskNoWriter refl (same_at Place.AskNoWriter) refl refl (λ b d. absurd (cc)) (λ d. absurd (cc)) (λ d. refl) (sought_begun (sought_at Place.AskNoWriter) Call.Poll i v Place.AskNoWriter refl refl (λ e. absurd (cc)));
+    poll_turn = λ p i. opened Rest.Pending Call.Poll i (Place.WaitTurn p) (within Kind.LaterPoll Rest.Pending) (Place.WaitTurn p) refl (same_at (Place.WaitTurn p)) refl refl (λ b d. absurd (cc)) (λ d. absurd (cc)) (λ d. refl) (sought_begun (sought_at (Place.WaitTurn p)) Call.Poll i v (Place.WaitTurn p) refl refl (λ e. absurd (cc)));
+    poll_no_readers = λ u i. opened Rest.Pending Call.Poll i (Place.AwaitNoReaders u) (within Kind.LaterPoll Rest.Pending) (Place.AwaitNoReaders u) refl (same_at (Place.AwaitNoReaders u)) refl refl (λ b d. absurd (cc)) (λ d. absurd (cc)) (λ d. refl) (sought_begun (sought_at (Place.AwaitNoReaders u)) Call.Poll i v (Place.AwaitNoReaders u) refl refl (λ e. absurd (cc)));
+    poll_upgrade = λ i. opened Rest.Pending Call.Poll i (Place.LookUnlisted true) (within Kind.LaterPoll Rest.Pending) (Place.LookUnlisted true) refl (same_at (Place.LookUnlisted true)) refl refl (λ b d. absurd (cc)) (λ d. absurd (cc)) (λ d. refl) (sought_begun (sought_at (Place.LookUnlisted true)) Call.Poll i v (Place.LookUnlisted true) refl refl (λ e. absurd (cc)));
+    drop_made = λ m i. opened Rest.Pending Call.Drop i (Place.Made m) (within Kind.Drop Rest.Pending) Place.Out refl (start_same Call.Drop (Place.Made m) Place.Out refl) refl refl (λ b d. (some_eq d, refl)) (λ d. (refl, refl)) (λ d. absurd (cc)) (sought_begun (sought_at (Place.Made m)) Call.Drop i v Place.Out refl refl (λ e. absurd (cc)));
+    drop_no_writer = λ i. opened Rest.Pending Call.Drop i Place.AskNoWriter (within Kind.Drop Rest.Pending) Place.CancelRead refl (start_same Call.Drop Place.AskNoWriter Place.CancelRead refl) refl refl (λ b d. (some_eq d, refl)) (λ d. (refl, refl)) (λ d. absurd (cc)) (sought_begun (sought_at Place.AskNoWriter) Call.Drop i v Place.CancelRead refl refl (λ e. absurd (cc)));
+    drop_turn = λ p i. opened Rest.Pending Call.Drop i (Place.WaitTurn p) (within Kind.Drop Rest.Pending) Place.CancelTurn refl (start_same Call.Drop (Place.WaitTurn p) Place.CancelTurn refl) refl refl (λ b d. (some_eq d, refl)) (λ d. (refl, refl)) (λ d. absurd (cc)) (sought_begun (sought_at (Place.WaitTurn p)) Call.Drop i v Place.CancelTurn refl refl (λ e. absurd (cc)));
+    drop_no_readers = λ u i. opened Rest.Pending Call.Drop i (Place.AwaitNoReaders u) (within Kind.Drop Rest.Pending) Place.CancelAwait refl (start_same Call.Drop (Place.AwaitNoReaders u) Place.CancelAwait refl) refl refl (λ b d. (some_eq d, refl)) (λ d. (refl, refl)) (λ d. absurd (cc)) (sought_begun (sought_at (Place.AwaitNoReaders u)) Call.Drop i v Place.CancelAwait refl refl (λ e. absurd (cc)));
+    drop_upgrade = λ i. opened Rest.Pending Call.Drop i (Place.LookUnlisted true) (within Kind.Drop Rest.Pending) (Place.Unmark false) refl (start_same Call.Drop (Place.LookUnlisted true) (Place.Unmark false) refl) refl refl (λ b d. (some_eq d, refl)) (λ d. (refl, refl)) (λ d. absurd (cc)) (sought_begun (sought_at (Place.LookUnlisted true)) Call.Drop i v (Place.Unmark false) refl refl (λ e. absurd (cc)));
+    drop_reader = λ i. opened Rest.Holding Call.Drop i Place.Reading (within Kind.Drop Rest.Holding) Place.DropRead refl (start_same Call.Drop Place.Reading Place.DropRead refl) refl refl (λ b d. (some_eq d, refl)) (λ d. (refl, refl)) (λ d. absurd (cc)) (sought_begun (sought_at Place.Reading) Call.Drop i v Place.DropRead refl refl (λ e. absurd (cc)));
+    drop_upgradable = λ i. opened Rest.Holding Call.Drop i Place.Upgradable (within Kind.Drop Rest.Holding) Place.DropUpgradable refl (start_same Call.Drop Place.Upgradable Place.DropUpgradable refl) refl refl (λ b d. (some_eq d, refl)) (λ d. (refl, refl)) (λ d. absurd (cc)) (sought_begun (sought_at Place.Upgradable) Call.Drop i v Place.DropUpgradable refl refl (λ e. absurd (cc)));
+    drop_writer = λ i. opened Rest.Holding Call.Drop i Place.Writing (within Kind.Drop Rest.Holding) Place.DropWrite refl (start_same Call.Drop Place.Writing Place.DropWrite refl) refl refl (λ b d. (some_eq d, refl)) (λ d. (refl, refl)) (λ d. absurd (cc)) (sought_begun (sought_at Place.Writing) Call.Drop i v Place.DropWrite refl refl (λ e. absurd (cc)));
+    upgrade = λ i. opened Rest.Holding Call.Upgrade i Place.Upgradable (within Kind.Upgrade Rest.Holding) Place.Upgrade refl (start_same Call.Upgrade Place.Upgradable Place.Upgrade refl) refl refl (λ b d. absurd (cc)) (λ d. absurd (cc)) (λ d. refl) (sought_begun (sought_at Place.Upgradable) Call.Upgrade i v Place.Upgrade refl refl (λ e. absurd (cc)));
+    try_upgrade = λ i. opened Rest.Holding Call.TryUpgrade i Place.Upgradable (within Kind.TryUpgrade Rest.Holding) Place.TryUpgrade refl (start_same Call.TryUpgrade Place.Upgradable Place.TryUpgrade refl) refl refl (λ b d. absurd (cc)) (λ d. absurd (cc)) (λ d. refl) (sought_tried i v);
+    downgrade_upgradable = λ i. opened Rest.Holding Call.Downgrade i Place.Upgradable (within Kind.Downgrade Rest.Holding) (Place.ReleaseTurn Ending.Reading) refl (start_same Call.Downgrade Place.Upgradable (Place.ReleaseTurn Ending.Reading) refl) refl refl (λ b d. (some_eq d, refl)) (λ d. absurd (cc)) (λ d. refl) (sought_begun (sought_at Place.Upgradable) Call.Downgrade i v (Place.ReleaseTurn Ending.Reading) refl refl (λ e. absurd (cc)));
+    downgrade_writer = λ i. opened Rest.Holding Call.Downgrade i Place.Writing (within Kind.Downgrade Rest.Holding) (Place.Down false) refl (start_same Call.Downgrade Place.Writing (Place.Down false) refl) refl refl (λ b d. absurd (cc)) (λ d. absurd (cc)) (λ d. refl) (sought_begun (sought_at Place.Writing) Call.Downgrade i v (Place.Down false) refl refl (λ e. absurd (cc)));
+    to_upgradable = λ i. opened Rest.Holding Call.DowngradeToUpgradable i Place.Writing (within Kind.Downgrade Rest.Holding) (Place.Down true) refl (start_same Call.DowngradeToUpgradable Place.Writing (Place.Down true) refl) refl refl (λ b d. absurd (cc)) (λ d. absurd (cc)) (λ d. refl) (sought_begun (sought_at Place.Writing) Call.DowngradeToUpgradable i v (Place.Down true) refl refl (λ e. absurd (cc)));
     go = λ w i x here on. record {
       share = refl;
       same = same_at x;
@@ -171,7 +136,7 @@ module _ (v : ℕ) (t : TurnCourse) where
       sought = sought_on i v x (not_upgrading x here);
     };
   }) where
-    made : (m : _) (i : Inputs) → Moves v t (Outside rest.Pending) (Begin call.Poll i) (place.Made m) (within kind.LaterPoll rest.Pending) (first_poll m)
-    made wanted.Read i = opened rest.Pending call.Poll i (place.Made wanted.Read) (within kind.LaterPoll rest.Pending) (place.EnterRead false) refl (start_same call.Poll (place.Made wanted.Read) (place.EnterRead false) refl) refl refl (λ b d. absurd (cc)) (λ d. absurd (cc)) (λ d. refl) (sought_begun (sought_at (place.Made wanted.Read)) call.Poll i v (place.EnterRead false) refl refl (λ e. absurd (cc)))
-    made wanted.UpgradableRead i = opened rest.Pending call.Poll i (place.Made wanted.UpgradableRead) (within kind.LaterPoll rest.Pending) (place.EnterTurn purpose.UpgradableRead) refl (start_same call.Poll (place.Made wanted.UpgradableRead) (place.EnterTurn purpose.UpgradableRead) refl) refl refl (λ b d. absurd (cc)) (λ d. absurd (cc)) (λ d. refl) (sought_begun (sought_at (place.Made wanted.UpgradableRead)) call.Poll i v (place.EnterTurn purpose.UpgradableRead) refl refl (λ e. absurd (cc)))
-    made wanted.Write i = opened rest.Pending call.Poll i (place.Made wanted.Write) (within kind.LaterPoll rest.Pending) (place.EnterTurn purpose.Write) refl (start_same call.Poll (place.Made wanted.Write) (place.EnterTurn purpose.Write) refl) refl refl (λ b d. absurd (cc)) (λ d. absurd (cc)) (λ d. refl) (sought_begun (sought_at (place.Made wanted.Write)) call.Poll i v (place.EnterTurn purpose.Write) refl refl (λ e. absurd (cc)))
+    made : (m : _) (i : Inputs) → Moves v t (Outside Rest.Pending) (Begin Call.Poll i) (Place.Made m) (within Kind.LaterPoll Rest.Pending) (first_poll m)
+    made Wanted.Read i = opened Rest.Pending Call.Poll i (Place.Made Wanted.Read) (within Kind.LaterPoll Rest.Pending) (Place.EnterRead false) refl (start_same Call.Poll (Place.Made Wanted.Read) (Place.EnterRead false) refl) refl refl (λ b d. absurd (cc)) (λ d. absurd (cc)) (λ d. refl) (sought_begun (sought_at (Place.Made Wanted.Read)) Call.Poll i v (Place.EnterRead false) refl refl (λ e. absurd (cc)))
+    made Wanted.UpgradableRead i = opened Rest.Pending Call.Poll i (Place.Made Wanted.UpgradableRead) (within Kind.LaterPoll Rest.Pending) (Place.EnterTurn Purpose.UpgradableRead) refl (start_same Call.Poll (Place.Made Wanted.UpgradableRead) (Place.EnterTurn Purpose.UpgradableRead) refl) refl refl (λ b d. absurd (cc)) (λ d. absurd (cc)) (λ d. refl) (sought_begun (sought_at (Place.Made Wanted.UpgradableRead)) Call.Poll i v (Place.EnterTurn Purpose.UpgradableRead) refl refl (λ e. absurd (cc)))
+    made Wanted.Write i = opened Rest.Pending Call.Poll i (Place.Made Wanted.Write) (within Kind.LaterPoll Rest.Pending) (Place.EnterTurn Purpose.Write) refl (start_same Call.Poll (Place.Made Wanted.Write) (Place.EnterTurn Purpose.Write) refl) refl refl (λ b d. absurd (cc)) (λ d. absurd (cc)) (λ d. refl) (sought_begun (sought_at (Place.Made Wanted.Write)) Call.Poll i v (Place.EnterTurn Purpose.Write) refl refl (λ e. absurd (cc)))

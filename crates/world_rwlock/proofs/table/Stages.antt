@@ -1,49 +1,30 @@
 -- A party's stage, and what it seeks, go with its place after each action.
-use Rattle.std.proofs.Common.{◌≡◌, ℕ, true, false, refl}
-use Rattle.std.proofs.lemmas.Bool.{and_parts}
-use Rattle.lock_program.specs.declared.refusal.Refusal.TheVariants as refusal
-use Rattle.world_base.specs.declared.standing.Kind.{Kind}
-use Rattle.world_base.specs.declared.standing.Kind.TheVariants as kind
-use Rattle.world_base.specs.declared.standing.Rest.{Rest}
-use Rattle.world_base.specs.declared.standing.Rest.TheVariants as rest
-use Rattle.world_base.specs.declared.standing.Stage.{Stage}
-use Rattle.world_base.specs.declared.standing.Within.{Within}
-use Rattle.world_base.specs.Standings.{may_end, is_stepped, is_possible}
-use Rattle.lock_program.specs.declared.end.End.{End}
-use Rattle.lock_program.specs.declared.end.End.TheVariants.{Got, Granted, Pending, NotFree, GivenBack, Refused}
-use Rattle.world_base.specs.table.Stages.{stage_after}
-use Rattle.world_rwlock.specs.declared.program.led.Next.{Next}
-use Rattle.world_rwlock.specs.declared.program.led.Next.TheVariants as next
-use Rattle.lock_program.specs.declared.rwlock.Place.{Place}
-use Rattle.world_rwlock.specs.program.Program.{place_after}
-use Rattle.world_rwlock.specs.Guarded.{answer_by}
-use Rattle.world_rwlock.specs.Stages.{Course, polls, tries, drops, downgrades, upgrades, tries_upgrade, strays, course_of, is_on_course, is_future, goes_with}
+use Rattle.world_rwlock.proofs.Prelude.{◌≡◌, ℕ, true, false, refl, and_parts, Refusal, Kind, Rest, Stage, Within, may_end, is_stepped, is_possible, End, Got, Granted, Pending, NotFree, GivenBack, Refused, stage_after, Next, Place, place_after, answer_by, Course, polls, tries, drops, downgrades, upgrades, tries_upgrade, strays, course_of, is_on_course, is_future, goes_with}
 use Rattle.world_rwlock.proofs.table.Begun.{within}
 use Rattle.world_rwlock.proofs.step.Paths.{ends_in, Keeps}
-use Rattle.lock_program.specs.declared.end.End.TheVariants as ended_by
 
 -- ---- the calls of each course
 
 -- what holds of the calls of each course holds of each call
 pub record OnCourses (P : Kind → Rest → Course → Type 0) : Type 0 where
-  pub first_poll : P kind.FirstPoll rest.Idle polls
-  pub later_poll : P kind.LaterPoll rest.Pending polls
-  pub try : P kind.Try rest.Idle tries
-  pub drop_future : P kind.Drop rest.Pending drops
-  pub drop_guard : P kind.Drop rest.Holding drops
-  pub downgrade : P kind.Downgrade rest.Holding downgrades
-  pub upgrade : P kind.Upgrade rest.Holding upgrades
-  pub try_upgrade : P kind.TryUpgrade rest.Holding tries_upgrade
+  pub first_poll : P Kind.FirstPoll Rest.Idle polls
+  pub later_poll : P Kind.LaterPoll Rest.Pending polls
+  pub try : P Kind.Try Rest.Idle tries
+  pub drop_future : P Kind.Drop Rest.Pending drops
+  pub drop_guard : P Kind.Drop Rest.Holding drops
+  pub downgrade : P Kind.Downgrade Rest.Holding downgrades
+  pub upgrade : P Kind.Upgrade Rest.Holding upgrades
+  pub try_upgrade : P Kind.TryUpgrade Rest.Holding tries_upgrade
 
 pub on_course : (P : Kind → Rest → Course → Type 0) → OnCourses P → (k : Kind) (r : Rest) (c : Course) → is_on_course k r c ≡ true → P k r c
-on_course P k kind.FirstPoll rest.Idle polls h = k.first_poll
-on_course P k kind.LaterPoll rest.Pending polls h = k.later_poll
-on_course P k kind.Try rest.Idle tries h = k.try
-on_course P k kind.Drop rest.Pending drops h = k.drop_future
-on_course P k kind.Drop rest.Holding drops h = k.drop_guard
-on_course P k kind.Downgrade rest.Holding downgrades h = k.downgrade
-on_course P k kind.Upgrade rest.Holding upgrades h = k.upgrade
-on_course P k kind.TryUpgrade rest.Holding tries_upgrade h = k.try_upgrade
+on_course P k Kind.FirstPoll Rest.Idle polls h = k.first_poll
+on_course P k Kind.LaterPoll Rest.Pending polls h = k.later_poll
+on_course P k Kind.Try Rest.Idle tries h = k.try
+on_course P k Kind.Drop Rest.Pending drops h = k.drop_future
+on_course P k Kind.Drop Rest.Holding drops h = k.drop_guard
+on_course P k Kind.Downgrade Rest.Holding downgrades h = k.downgrade
+on_course P k Kind.Upgrade Rest.Holding upgrades h = k.upgrade
+on_course P k Kind.TryUpgrade Rest.Holding tries_upgrade h = k.try_upgrade
 on_course P k _ _ _ h = absurd (cc)
 
 never_strays : (k : Kind) (r : Rest) (c : Course) → is_on_course k r c ≡ true → c ≡ strays → ⊥
@@ -56,7 +37,7 @@ strays_not w x h = never_strays w.kind w.was (course_of x) h
 
 -- the stage after an action
 abbrev pub stage_then : Within → ℕ → Next → Stage
-stage_then w v n = stage_after rest.Holding w (answer_by v n)
+stage_then w v n = stage_after Rest.Holding w (answer_by v n)
 
 -- a call on its course ends by an answer by which it may, and its party stands where it may then
 pub record Over (k : Kind) (r : Rest) (v : ℕ) (n : Next) : Type 0 where
@@ -64,43 +45,43 @@ pub record Over (k : Kind) (r : Rest) (v : ℕ) (n : Next) : Type 0 where
   pub fits : goes_with (stage_then (within k r) v n) (place_after n) ≡ true
 
 abbrev EndsSo : Kind → Rest → Course → Type 0
-EndsSo k r c = (v : ℕ) (e : End) (q : Place) → ends_in c e q ≡ true → Over k r v (next.End e q)
+EndsSo k r c = (v : ℕ) (e : End) (q : Place) → ends_in c e q ≡ true → Over k r v (Next.End e q)
 
-first_polled : EndsSo kind.FirstPoll rest.Idle polls
+first_polled : EndsSo Kind.FirstPoll Rest.Idle polls
 first_polled v Got q h = record { ends = refl; fits = h }
 first_polled v Pending q h = record { ends = refl; fits = h }
-first_polled v (Refused refusal.Memory) q h = record { ends = refl; fits = (and_parts (is_future q) true h).0 }
-first_polled v (Refused refusal.Starved) q h = record { ends = refl; fits = (and_parts (is_future q) true h).0 }
-first_polled v (Refused refusal.Readers) q h = record { ends = refl; fits = (and_parts (is_future q) true h).0 }
+first_polled v (Refused Refusal.Memory) q h = record { ends = refl; fits = (and_parts (is_future q) true h).0 }
+first_polled v (Refused Refusal.Starved) q h = record { ends = refl; fits = (and_parts (is_future q) true h).0 }
+first_polled v (Refused Refusal.Readers) q h = record { ends = refl; fits = (and_parts (is_future q) true h).0 }
 first_polled v (Refused _) q h = let never = (and_parts (is_future q) false h).1 in absurd (cc)
 first_polled v _ q h = absurd (cc)
 
-later_polled : EndsSo kind.LaterPoll rest.Pending polls
+later_polled : EndsSo Kind.LaterPoll Rest.Pending polls
 later_polled v Got q h = record { ends = refl; fits = h }
 later_polled v Pending q h = record { ends = refl; fits = h }
-later_polled v (Refused refusal.Memory) q h = record { ends = refl; fits = (and_parts (is_future q) true h).0 }
-later_polled v (Refused refusal.Starved) q h = record { ends = refl; fits = (and_parts (is_future q) true h).0 }
-later_polled v (Refused refusal.Readers) q h = record { ends = refl; fits = (and_parts (is_future q) true h).0 }
+later_polled v (Refused Refusal.Memory) q h = record { ends = refl; fits = (and_parts (is_future q) true h).0 }
+later_polled v (Refused Refusal.Starved) q h = record { ends = refl; fits = (and_parts (is_future q) true h).0 }
+later_polled v (Refused Refusal.Readers) q h = record { ends = refl; fits = (and_parts (is_future q) true h).0 }
 later_polled v (Refused _) q h = let never = (and_parts (is_future q) false h).1 in absurd (cc)
 later_polled v _ q h = absurd (cc)
 
-tried : EndsSo kind.Try rest.Idle tries
+tried : EndsSo Kind.Try Rest.Idle tries
 tried v Granted q h = record { ends = refl; fits = h }
 tried v NotFree q h = record { ends = refl; fits = h }
 tried v _ q h = absurd (cc)
 
-dropped : (r : Rest) → EndsSo kind.Drop r drops
+dropped : (r : Rest) → EndsSo Kind.Drop r drops
 dropped r v GivenBack q h = record { ends = refl; fits = h }
 dropped r v _ q h = absurd (cc)
 
-downgraded : EndsSo kind.Downgrade rest.Holding downgrades
+downgraded : EndsSo Kind.Downgrade Rest.Holding downgrades
 downgraded v GivenBack q h = record { ends = refl; fits = h }
 downgraded v _ q h = absurd (cc)
 
-upgraded : EndsSo kind.Upgrade rest.Holding upgrades
+upgraded : EndsSo Kind.Upgrade Rest.Holding upgrades
 upgraded v _ q h = absurd (cc)
 
-tried_to_upgrade : EndsSo kind.TryUpgrade rest.Holding tries_upgrade
+tried_to_upgrade : EndsSo Kind.TryUpgrade Rest.Holding tries_upgrade
 tried_to_upgrade v Granted q h = record { ends = refl; fits = h }
 tried_to_upgrade v NotFree q h = record { ends = refl; fits = h }
 tried_to_upgrade v _ q h = absurd (cc)
@@ -110,15 +91,15 @@ ends_so = on_course EndsSo (record {
   first_poll = first_polled;
   later_poll = later_polled;
   try = tried;
-  drop_future = dropped rest.Pending;
-  drop_guard = dropped rest.Holding;
+  drop_future = dropped Rest.Pending;
+  drop_guard = dropped Rest.Holding;
   downgrade = downgraded;
   upgrade = upgraded;
   try_upgrade = tried_to_upgrade;
 })
 
 abbrev WaitsSo : Kind → Rest → Course → Type 0
-WaitsSo k r c = (v : ℕ) (q : Place) → c ≡ upgrades → is_future q ≡ true → Over k r v (next.Wait q)
+WaitsSo k r c = (v : ℕ) (q : Place) → c ≡ upgrades → is_future q ≡ true → Over k r v (Next.Wait q)
 
 waits_so : (k : Kind) (r : Rest) (c : Course) → is_on_course k r c ≡ true → WaitsSo k r c
 waits_so = on_course WaitsSo (record {
@@ -133,22 +114,22 @@ waits_so = on_course WaitsSo (record {
 })
 
 pub stage_fits : (w : Within) (v : ℕ) (x : Place) (n : Next) → is_on_course w.kind w.was (course_of x) ≡ true → Keeps (course_of x) n → goes_with (stage_then w v n) (place_after n) ≡ true
-stage_fits w v x (next.Do a q) h k = rw (k.0, k.1) h
-stage_fits w v x (next.End e q) h k = (ends_so w.kind w.was (course_of x) h v e q k).fits
-stage_fits w v x (next.Wait q) h k = (waits_so w.kind w.was (course_of x) h v q k.0 k.1).fits
+stage_fits w v x (Next.Do a q) h k = rw (k.0, k.1) h
+stage_fits w v x (Next.End e q) h k = (ends_so w.kind w.was (course_of x) h v e q k).fits
+stage_fits w v x (Next.Wait q) h k = (waits_so w.kind w.was (course_of x) h v q k.0 k.1).fits
 
 pub may_end_so : (w : Within) (v : ℕ) (x : Place) (n : Next) → is_on_course w.kind w.was (course_of x) ≡ true → Keeps (course_of x) n → is_stepped (answer_by v n) ≡ false → may_end w.kind (answer_by v n) ≡ true
-may_end_so w v x (next.Do a q) h k e = absurd (cc)
-may_end_so w v x (next.End e q) h k s = (ends_so w.kind w.was (course_of x) h v e q k).ends
-may_end_so w v x (next.Wait q) h k s = (waits_so w.kind w.was (course_of x) h v q k.0 k.1).ends
+may_end_so w v x (Next.Do a q) h k e = absurd (cc)
+may_end_so w v x (Next.End e q) h k s = (ends_so w.kind w.was (course_of x) h v e q k).ends
+may_end_so w v x (Next.Wait q) h k s = (waits_so w.kind w.was (course_of x) h v q k.0 k.1).ends
 
 pub always_possible : (v : ℕ) (n : Next) → is_possible (answer_by v n) ≡ true
-always_possible v (next.Do a q) = refl
-always_possible v (next.Wait q) = refl
-always_possible v (next.End Got q) = refl
-always_possible v (next.End Granted q) = refl
-always_possible v (next.End Pending q) = refl
-always_possible v (next.End NotFree q) = refl
-always_possible v (next.End ended_by.Waiting q) = refl
-always_possible v (next.End GivenBack q) = refl
-always_possible v (next.End (Refused r) q) = refl
+always_possible v (Next.Do a q) = refl
+always_possible v (Next.Wait q) = refl
+always_possible v (Next.End Got q) = refl
+always_possible v (Next.End Granted q) = refl
+always_possible v (Next.End Pending q) = refl
+always_possible v (Next.End NotFree q) = refl
+always_possible v (Next.End End.Waiting q) = refl
+always_possible v (Next.End GivenBack q) = refl
+always_possible v (Next.End (Refused r) q) = refl

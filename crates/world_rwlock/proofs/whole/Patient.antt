@@ -1,37 +1,13 @@
 -- Nobody is refused for too many starved parties who isn't about to be counted.
-use Rattle.std.proofs.Common.{◌≡◌, ℕ, Bool, true, false, Option, Some, None, refl, ap, sym, ◌∙◌, subst}
-use Rattle.std.proofs.lemmas.Bool.{true≢false}
-use Rattle.world_base.specs.declared.moves.Answer.{Answer}
-use Rattle.world_base.specs.declared.moves.Answer.TheVariants as answer
-use Rattle.world_base.specs.declared.moves.Call.{Call}
-use Rattle.world_base.specs.declared.moves.Move.{Move}
-use Rattle.world_base.specs.declared.moves.What.{What}
-use Rattle.world_base.specs.declared.moves.What.TheVariants.{Begin, Go}
-use Rattle.lock_program.specs.declared.refusal.Refusal.{Refusal}
-use Rattle.lock_program.specs.declared.refusal.Refusal.TheVariants as refusal
-use Rattle.world_base.specs.declared.standing.Stage.{Stage}
-use Rattle.world_base.specs.declared.standing.Stage.TheVariants.{Outside, Inside, Forgotten}
-use Rattle.world_base.specs.declared.standing.Within.{Within}
-use Rattle.world_base.specs.Frame.{put_in}
-use Rattle.lock_program.specs.Refusals.{number_of}
-use Rattle.world_base.specs.Standings.{Standing, outside, inside, forgotten, is_possible, is_decided, refused, decision, IsUndecided}
-use Rattle.world_base.proofs.Equations.{some_eq, none_some}
-use Rattle.world_base.specs.table.Stages.{stage_at, call_at}
-use Rattle.world_mutex.specs.machine.Course.{Course as TurnCourse, is_counting}
-use Rattle.world_mutex.specs.machine.Mutex.{course_at as turn_at}
-use Rattle.lock_program.specs.declared.rwlock.Place.{Place}
-use Rattle.world_rwlock.specs.machine.Machine.{place_at}
-use Rattle.world_rwlock.specs.Legal.{DecidesOn, IsCause}
-use Rattle.world_rwlock.specs.State.{World, standing_of}
-use Rattle.world_rwlock.specs.Steps.{Stands, Steps}
-use Rattle.world_rwlock.specs.View.{standing_at, view_of}
+use Rattle.world_rwlock.proofs.Prelude.{◌≡◌, ℕ, Bool, true, false, Option, Some, None, refl, ap, sym, ◌∙◌, subst, true≢false, Answer, Call, Move, What, Begin, Go, Refusal, Stage, Outside, Inside, Forgotten, Within, put_in, number_of, Standing, outside, inside, forgotten, is_possible, is_decided, refused, IsUndecided, some_eq, none_some, stage_at, call_at, TurnCourse, is_counting, turn_at, Place, place_at, DecidesOn, IsCause, World, standing_of, Stands, Moved as Steps, standing_at, view_of}
+use Rattle.world_base.specs.Standings.{decision}
 use Rattle.world_rwlock.proofs.bound.Alone.{laws}
 use Rattle.world_rwlock.proofs.step.Acting.{Acting, Way, impossible, over, puts, acts, way}
 use Rattle.world_rwlock.proofs.step.Acting as acting
 use Rattle.world_rwlock.proofs.step.Idle.{stood}
 
 abbrev pub starved_refusal : Answer
-starved_refusal = refused refusal.Starved
+starved_refusal = refused Refusal.Starved
 
 -- a party that stands inside a call does so at its stage
 inside_stage : (v : ℕ) (s : Stage) (x : Place) (t : TurnCourse) (u : Within) (d : Option Answer) → standing_at v s x t ≡ inside u d → s ≡ Inside u
@@ -44,8 +20,8 @@ puts_outside : (knows : Call → Bool) (s : Stage) (u : Within) (what : What) (n
 puts_outside knows s u (Begin c i) n w is e f = let C : Stage → Type 0 = λ z. call_at knows z (Begin c i) ≡ Some w in none_some (subst C is f)
 puts_outside knows s u (Go i) n w is e f = none_some e
 
-undecided_cause : (m : Move) (old new : World) (r : Refusal) → number_of refusal.Starved ≡ number_of r → IsCause old m new r → IsUndecided (standing_of old m.party)
-undecided_cause m old new refusal.Starved e h = h.3
+undecided_cause : (m : Move) (old new : World) (r : Refusal) → number_of Refusal.Starved ≡ number_of r → IsCause old m new r → IsUndecided (standing_of old m.party)
+undecided_cause m old new Refusal.Starved e h = h.3
 undecided_cause m old new _ e h = absurd (cc e)
 
 -- a step that leaves its party as it stood decides nothing
@@ -55,8 +31,8 @@ decides_nothing x v p u a sx sv at same d =
     none_some (sym (ap (decision a) stays) ∙ d)
 
 module _ (x v : World) (m : Move) (a : Answer) (s : Steps x m a v) (d : DecidesOn x m a v starved_refusal) where
-  why : (r : Refusal) × (number_of refusal.Starved ≡ number_of r) × IsCause x m v r
-  why = s.legal.refused_for_cause.cause (number_of refusal.Starved) d
+  why : (r : Refusal) × (number_of Refusal.Starved ≡ number_of r) × IsCause x m v r
+  why = s.legal.refused_for_cause.cause (number_of Refusal.Starved) d
 
   pub midway : IsUndecided (standing_of x m.party)
   midway = undecided_cause m x v why.0 why.1 why.2
@@ -97,8 +73,8 @@ module _ (x v : World) (m : Move) (a : Answer) (s : Steps x m a v) (not_next : i
     was_decided : (u : Within) (b : Answer) → standing_of x m.party ≡ inside u (Some b) → (c : Bool) → is_possible a ≡ c → ⊥
     was_decided u b at true can = same b u at (some_eq (sym (s.legal.ends_properly.as_decided u b at can) ∙ d))
     was_decided u b at false cannot = same b u at (some_eq (sym (ap (decision a) (ap (λ z. standing_of z m.party) (s.legal.possible.unchanged (impossible_is a cannot)) ∙ at)) ∙ d)) where
-      impossible_is : (b : Answer) → is_possible b ≡ false → b ≡ answer.NotPossible
-      impossible_is answer.NotPossible h = refl
+      impossible_is : (b : Answer) → is_possible b ≡ false → b ≡ Answer.NotPossible
+      impossible_is Answer.NotPossible h = refl
       impossible_is _ h = absurd (cc h)
 
     by_decided : (b : Bool) → is_decided (standing_of x m.party) ≡ b → ⊥

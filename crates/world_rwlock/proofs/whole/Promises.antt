@@ -1,49 +1,11 @@
 -- Where nobody is starved for the turn, a whole call starves nobody that hasn't waited for too long.
-use Rattle.std.proofs.Common.{◌≡◌, ◌≢◌, ℕ, Bool, true, false, refl, ap, sym, ◌∙◌, subst}
-use Rattle.world_base.specs.Accounts.{Account, accounts_after}
-use Rattle.world_base.specs.declared.moves.Answer.{Answer}
-use Rattle.world_base.specs.declared.moves.Answer.TheVariants as answer
-use Rattle.world_base.specs.declared.moves.Call.{Call}
-use Rattle.world_base.specs.declared.moves.Got.TheVariants.{Value}
-use Rattle.world_base.specs.declared.moves.Inputs.{Inputs}
-use Rattle.lock_program.specs.declared.refusal.Refusal.TheVariants as refusal
-use Rattle.world_base.specs.declared.moves.What.{What}
-use Rattle.world_base.specs.declared.moves.What.TheVariants.{Begin, Go}
-use Rattle.world_base.specs.declared.standing.Stage.{Stage}
-use Rattle.world_base.specs.declared.standing.Within.{Within}
-use Rattle.world_base.specs.Rosters.{how_many}
-use Rattle.world_base.specs.Standings.{inputs_of, refused}
-use Rattle.world_base.specs.Whole.{going_on, moves_of, answers_of}
-use Rattle.world_base.specs.any_world.Steps.{beginning}
-use Rattle.world_base.proofs.of_any_world.Runs.{along, Onward}
-use Rattle.world_mutex.specs.machine.Course.{Course as TurnCourse, is_counting}
-use Rattle.world_mutex.specs.machine.Mutex.{starved, Mutex, course_at as turn_at}
-use Rattle.world_mutex.proofs.of_machine.callers.Callers.{out_uncounted, holding_uncounted, waiting_uncounted}
+use Rattle.world_rwlock.proofs.Prelude.{◌≡◌, ◌≢◌, ℕ, Bool, true, false, refl, ap, sym, ◌∙◌, subst, Account, accounts_after, Answer, Call, Value, Inputs, Refusal, What, Begin, Go, Stage, Within, how_many, inputs_of, refused, going_on, moves_of, answers_of, beginning, along, Onward, TurnCourse, is_counting, starved, Mutex, turn_at, out_uncounted, holding_uncounted, waiting_uncounted, Action, Found, Turn, Place, place_at, action_of, fits_turn, OnTurn, stage_at, Runs, HoldsWell, World, is_starved, Stands, Moved, Option, Some, None, Move, Rest, Standing, outside, inside, forgotten, is_outside, is_decided, is_possible, call_in, none_some, knows_of, standing_of}
 use Rattle.world_mutex.proofs.of_machine.callers.Holders as sees
-use Rattle.lock_program.specs.declared.rwlock.Action.{Action}
-use Rattle.lock_program.specs.declared.rwlock.Action.TheVariants as act
-use Rattle.lock_program.specs.declared.rwlock.Found.{Found}
-use Rattle.lock_program.specs.declared.rwlock.Found.TheVariants.{Turn}
-use Rattle.lock_program.specs.declared.rwlock.Place.{Place}
-use Rattle.world_rwlock.specs.machine.Machine.{place_at}
-use Rattle.world_rwlock.specs.program.Program.{action_of}
-use Rattle.world_rwlock.specs.machine.Roles.{fits_turn}
-use Rattle.world_rwlock.specs.program.Turns.{OnTurn}
-use Rattle.world_base.specs.table.Stages.{stage_at}
-use Rattle.world_rwlock.specs.Runs.{Runs, HoldsWell}
-use Rattle.world_rwlock.specs.State.{World, is_starved}
-use Rattle.world_rwlock.specs.Steps.{Stands, Steps as Moved}
 use Rattle.world_rwlock.proofs.step.Acting.{Acting, Way, impossible, over, puts, acts, way}
 use Rattle.world_rwlock.proofs.table.Begun.{ForMoves, turn}
 use Rattle.world_rwlock.proofs.bound.Alone.{laws}
-use Rattle.std.proofs.Common.{Option, Some, None}
-use Rattle.world_base.specs.declared.moves.Move.{Move}
-use Rattle.world_base.specs.declared.standing.Rest.TheVariants as rest
-use Rattle.world_base.specs.Standings.{Standing, outside, inside, forgotten, is_outside, is_decided, is_possible, decision, call_in}
-use Rattle.world_base.proofs.Equations.{none_some}
+use Rattle.world_base.specs.Standings.{decision}
 use Rattle.world_base.proofs.of_any_world.Endings.{ends_outside as outside_at_end}
-use Rattle.world_rwlock.specs.Legal.{knows_of}
-use Rattle.world_rwlock.specs.State.{standing_of}
 use Rattle.world_rwlock.proofs.whole.Patient.{starved_refusal, Undone, decided_inside, midway, never, goes_on}
 
 -- ---- whoever begins a call isn't about to be counted
@@ -97,10 +59,10 @@ module _ (memory : Bool) (p : ℕ) (l k : Mutex) (none : starved l ≡ 0) (not_n
   unmoved e = (ap starved e ∙ none, ap (λ t. is_counting (turn_at t.courses p)) e ∙ not_next)
 
   pub turn_uncounted : (a : Action) (f : Found) → OnTurn memory false p a f l k → Still
-  turn_uncounted (act.Begin c) (Turn n) o = o.patient refl none not_next
-  turn_uncounted (act.Begin c) _ o = absurd o
-  turn_uncounted act.Go (Turn n) o = o.patient refl none not_next
-  turn_uncounted act.Go _ o = absurd o
+  turn_uncounted (Action.Begin c) (Turn n) o = o.patient refl none not_next
+  turn_uncounted (Action.Begin c) _ o = absurd o
+  turn_uncounted Action.Go (Turn n) o = o.patient refl none not_next
+  turn_uncounted Action.Go _ o = absurd o
   turn_uncounted _ f o = unmoved o
 
 -- ---- along a whole call
@@ -125,16 +87,16 @@ module _ (p : ℕ) (i : Inputs) (patient : i.starving ≡ false) where
       record { going = λ e. record { now = now; not_next = it.1 }; ended = λ e. now }
 
   -- where nothing was done the call doesn't go on
-  stays : (x v : World) (a b : Answer) → Stands v → starved x.behind.machine.lock.turn ≡ 0 → v.behind.machine.lock ≡ x.behind.machine.lock → a ≡ b → b ≢ answer.Stepped → Then a v
+  stays : (x v : World) (a b : Answer) → Stands v → starved x.behind.machine.lock.turn ≡ 0 → v.behind.machine.lock ≡ x.behind.machine.lock → a ≡ b → b ≢ Answer.Stepped → Then a v
   stays x v a b stands_then none same is not_stepped = record {
     going = λ e. absurd (not_stepped (sym is ∙ e));
     ended = λ e. record { stands = stands_then; none = ap (λ l. starved l.turn) same ∙ none };
   }
 
   by_way : (x v : World) (what : What) (a : Answer) → (inputs_of what).starving ≡ false → Stands v → starved x.behind.machine.lock.turn ≡ 0 → ((w : Within) → Acting x.behind v.behind (record { party = p; what = what }) a w → is_counting (turn_at x.behind.machine.lock.turn.courses p) ≡ false) → Way x.behind v.behind (record { party = p; what = what }) a → Then a v
-  by_way x v what a quiet sv none not_next (impossible e ea eu) = stays x v a answer.NotPossible sv none (ap (λ t. t.machine.lock) eu) ea (λ h. cc)
-  by_way x v what a quiet sv none not_next (over w e f ea eu) = stays x v a (refused refusal.Finished) sv none (ap (λ t. t.machine.lock) eu) ea (λ h. cc)
-  by_way x v what a quiet sv none not_next (puts w n in_table o e ea eu) = stays x v a (answer.Granted (Value n)) sv none (ap (λ t. t.machine.lock) eu) ea (λ h. cc)
+  by_way x v what a quiet sv none not_next (impossible e ea eu) = stays x v a Answer.NotPossible sv none (ap (λ t. t.machine.lock) eu) ea (λ h. cc)
+  by_way x v what a quiet sv none not_next (over w e f ea eu) = stays x v a (refused Refusal.Finished) sv none (ap (λ t. t.machine.lock) eu) ea (λ h. cc)
+  by_way x v what a quiet sv none not_next (puts w n in_table o e ea eu) = stays x v a (Answer.Granted (Value n)) sv none (ap (λ t. t.machine.lock) eu) ea (λ h. cc)
   by_way x v what a quiet sv none not_next (acts w c) = stepped x v what a w quiet sv none (not_next w c) c
 
   onward : (x : World) (a : Answer) (v : World) → Unstarving p x → Moved x (going_on p i) a v → Then a v
@@ -153,8 +115,8 @@ outside_says (inside u d) a h = absurd (cc h)
 inside_begins : (knows : Call → Bool) (u : Within) (d : Option Answer) (s : Standing) (c : Call) (i : Inputs) → s ≡ inside u d → call_in knows s (Begin c i) ≡ None
 inside_begins knows u d s c i e = ap (λ z. call_in knows z (Begin c i)) e
 
-ends_outside : (x : World) (m : Move) (a : Answer) (v : World) → Moved x m a v → a ≢ answer.Stepped → is_possible a ≡ true → is_outside (standing_of v m.party) ≡ true
-ends_outside x m a v s = outside_at_end standing_of knows_of rest.Holding x m a v s.legal.possible s.legal.ends_properly
+ends_outside : (x : World) (m : Move) (a : Answer) (v : World) → Moved x m a v → a ≢ Answer.Stepped → is_possible a ≡ true → is_outside (standing_of v m.party) ≡ true
+ends_outside x m a v s = outside_at_end standing_of knows_of Rest.Holding x m a v s.legal.possible s.legal.ends_properly
 
 module _ (p : ℕ) (i : Inputs) (patient : i.starving ≡ false) where
   abbrev Unrefused : Answer → World → Type 0
@@ -163,7 +125,7 @@ module _ (p : ℕ) (i : Inputs) (patient : i.starving ≡ false) where
   abbrev Goes : World → Type 0
   Goes y = Unstarving p y × Undone p y
 
-  said : (x v : World) (m : Move) (a : Answer) → m.party ≡ p → Moved x m a v → (decision a (standing_of v p) ≡ Some starved_refusal → ⊥) → a ≢ answer.Stepped → Unrefused a v
+  said : (x v : World) (m : Move) (a : Answer) → m.party ≡ p → Moved x m a v → (decision a (standing_of v p) ≡ Some starved_refusal → ⊥) → a ≢ Answer.Stepped → Unrefused a v
   said x v m a is s f ends e =
       let out : is_outside (standing_of v p) ≡ true = subst (λ (q : ℕ). is_outside (standing_of v q) ≡ true) is (ends_outside x m a v s ends (ap is_possible e)) in
       f (outside_says (standing_of v p) a out ∙ ap Some e)
@@ -178,7 +140,7 @@ module _ (p : ℕ) (i : Inputs) (patient : i.starving ≡ false) where
   first_never : (c : Call) (x : World) (a : Answer) (v : World) → Moved x (beginning p c i) a v → is_decided (standing_of x p) ≡ false → decision a (standing_of v p) ≡ Some starved_refusal → ⊥
   first_never c x a v s fresh d =
       let at = midway x v (beginning p c i) a s (fresh, d) in
-      let never_can : a ≡ answer.NotPossible = s.legal.possible.exactly.1 (inside_begins (knows_of x p) at.0 None (standing_of x p) c i at.1) in
+      let never_can : a ≡ Answer.NotPossible = s.legal.possible.exactly.1 (inside_begins (knows_of x p) at.0 None (standing_of x p) c i at.1) in
       let stays : standing_of v p ≡ inside at.0 None = ap (λ z. standing_of z p) (s.legal.possible.unchanged never_can) ∙ at.1 in
       none_some (sym (ap (decision a) stays) ∙ d)
 
@@ -187,7 +149,7 @@ module _ (p : ℕ) (i : Inputs) (patient : i.starving ≡ false) where
     by_decided : (b : Bool) → is_decided (standing_of x p) ≡ b → Onward Goes Unrefused a v
     by_decided true is =
         let at = decided_inside (standing_of x p) is in
-        let never_can : a ≡ answer.NotPossible = s.legal.possible.exactly.1 (inside_begins (knows_of x p) at.0 (Some at.1) (standing_of x p) c i at.2) in
+        let never_can : a ≡ Answer.NotPossible = s.legal.possible.exactly.1 (inside_begins (knows_of x p) at.0 (Some at.1) (standing_of x p) c i at.2) in
         record { going = λ e. (let z = sym never_can ∙ e in absurd (cc z)); ended = λ ends e. (let z = sym never_can ∙ e in cc z) }
     by_decided false is =
         let o = first p i patient c x none a v s in
@@ -200,12 +162,12 @@ starved_behind w s = ap (λ x. how_many x.state.starved) s.seen ∙ sees.how_man
 not_counted : (w : World) (p : ℕ) → Unstarved p w → is_starved w p ≡ false
 not_counted w p k = ap (λ x. is_starved x p) k.stands.seen ∙ sees.none_starved w.behind.machine.lock.turn.courses p k.none
 
-pub unstarved_at_end : (known : ℕ → Account) (w : World) (p : ℕ) (c : Call) (i : Inputs) (n : ℕ) (a : Answer) (v : World) → Stands w → i.starving ≡ false → how_many w.state.starved ≡ 0 → Runs known w (moves_of p c i n) (answers_of n a) v → a ≢ answer.Stepped → is_starved v p ≡ false
+pub unstarved_at_end : (known : ℕ → Account) (w : World) (p : ℕ) (c : Call) (i : Inputs) (n : ℕ) (a : Answer) (v : World) → Stands w → i.starving ≡ false → how_many w.state.starved ≡ 0 → Runs known w (moves_of p c i n) (answers_of n a) v → a ≢ Answer.Stepped → is_starved v p ≡ false
 unstarved_at_end known w p c i n a v stood patient none runs ended =
     let zero : starved w.behind.machine.lock.turn ≡ 0 = sym (starved_behind w stood) ∙ none in
     not_counted v p (along Moved accounts_after HoldsWell p i (Unstarving p) (λ b y. Unstarved p y) (onward p i patient) known n w (beginning p c i) a v (first p i patient c w zero) ended runs)
 
-pub patient_at_end : (known : ℕ → Account) (w : World) (p : ℕ) (c : Call) (i : Inputs) (n : ℕ) (a : Answer) (v : World) → Stands w → i.starving ≡ false → how_many w.state.starved ≡ 0 → Runs known w (moves_of p c i n) (answers_of n a) v → a ≢ answer.Stepped → a ≢ starved_refusal
+pub patient_at_end : (known : ℕ → Account) (w : World) (p : ℕ) (c : Call) (i : Inputs) (n : ℕ) (a : Answer) (v : World) → Stands w → i.starving ≡ false → how_many w.state.starved ≡ 0 → Runs known w (moves_of p c i n) (answers_of n a) v → a ≢ Answer.Stepped → a ≢ starved_refusal
 patient_at_end known w p c i n a v stood patient none runs ended =
     let zero : starved w.behind.machine.lock.turn ≡ 0 = sym (starved_behind w stood) ∙ none in
     along Moved accounts_after HoldsWell p i (Goes p i patient) (Unrefused p i patient) (on_patient p i patient) known n w (beginning p c i) a v (first_patient p i patient c w zero) ended runs

@@ -1,54 +1,9 @@
 -- A call that waits for the turn at its end, and hasn't waited for too long, has notified nobody for the turn, where nobody is starved for it.
-use Rattle.std.proofs.Common.{◌≡◌, ◌≢◌, ℕ, ◌<◌, ◌⊎◌, inl, inr, Bool, true, false, List, Option, Some, None, is_some, refl, arith, ap, sym, ◌∙◌, subst, get_or-set_same}
-use Rattle.std.proofs.lemmas.Bool.{false≢true, true≢false}
-use Rattle.lock_event.specs.declared.event.Entry.{Entry}
-use Rattle.world_base.specs.queue.Parties.{entries_of}
-use Rattle.world_base.specs.Accounts.{Account, accounts_after}
-use Rattle.world_base.specs.declared.moves.Answer.{Answer}
-use Rattle.world_base.specs.declared.moves.Answer.TheVariants as answer
-use Rattle.world_base.specs.declared.moves.Call.{Call}
-use Rattle.world_base.specs.declared.moves.Got.TheVariants.{Value}
-use Rattle.world_base.specs.declared.moves.Inputs.{Inputs}
-use Rattle.world_base.specs.declared.moves.What.{What}
-use Rattle.world_base.specs.declared.moves.What.TheVariants.{Begin, Go}
-use Rattle.lock_program.specs.declared.refusal.Refusal.TheVariants as refusal
-use Rattle.world_base.specs.declared.standing.Rest.TheVariants as rest
-use Rattle.world_base.specs.declared.standing.Within.{Within}
+use Rattle.world_rwlock.proofs.Prelude.{◌≡◌, ◌≢◌, ℕ, ◌<◌, ◌⊎◌, inl, inr, Bool, true, false, List, Option, Some, None, is_some, refl, arith, ap, sym, ◌∙◌, subst, get_or-set_same, false≢true, true≢false, Entry, entries_of, Account, accounts_after, Answer, Call, Value, Inputs, What, Begin, Go, Refusal, Rest, Within, how_many, Move, Standing, outside, inputs_of, refused, StandsAfter, going_on, moves_of, answers_of, some_eq, beginning, along, Onward, TurnCourse, decision, is_counting, listed, decided_then, starved, Mutex, turn_at, End as TurnEnd, TurnStep, Found, Place, Purpose, Ending, action_of, next_of, place_after, OnTurn, place_at, fits_turn, waits_for_turn, Runs, HoldsWell, call_of, World, standing_of, Stands, Moved, view_of}
 use Rattle.world_base.specs.Marks.{MarksNobody}
-use Rattle.world_base.specs.Rosters.{how_many}
-use Rattle.world_base.specs.declared.moves.Move.{Move}
-use Rattle.world_base.specs.Standings.{Standing, outside, inputs_of, refused, StandsAfter}
-use Rattle.world_base.specs.Whole.{going_on, moves_of, answers_of}
-use Rattle.world_base.proofs.Equations.{some_eq}
 use Rattle.world_base.proofs.Marks.{marks_more}
-use Rattle.world_base.specs.any_world.Steps.{beginning}
-use Rattle.world_base.proofs.of_any_world.Runs.{along, Onward}
-use Rattle.world_mutex.specs.machine.Course.{Course as TurnCourse, decision, is_counting, listed}
-use Rattle.world_mutex.specs.machine.Conduct.{decided_then}
-use Rattle.world_mutex.specs.machine.Mutex.{starved, Mutex, course_at as turn_at}
 use Rattle.world_mutex.proofs.of_machine.callers.Silent.{out_silent, waiting_silent, undecided_silent, never_pending, step_marks}
-use Rattle.lock_program.specs.declared.end.End.{End as TurnEnd}
-use Rattle.lock_program.specs.declared.end.End.TheVariants as turn_end
-use Rattle.lock_program.specs.declared.mutex.Step.{Step as TurnStep}
-use Rattle.lock_program.specs.declared.mutex.Step.TheVariants as turn_step
-use Rattle.lock_program.specs.declared.rwlock.Found.{Found}
-use Rattle.lock_program.specs.declared.rwlock.Found.TheVariants as found
-use Rattle.lock_program.specs.declared.rwlock.Place.{Place}
-use Rattle.lock_program.specs.declared.rwlock.Place.TheVariants as place
-use Rattle.lock_program.specs.declared.rwlock.Purpose.{Purpose}
-use Rattle.lock_program.specs.declared.rwlock.Purpose.TheVariants as purpose
-use Rattle.lock_program.specs.declared.rwlock.Ending.TheVariants as ending
-use Rattle.world_rwlock.specs.program.Program.{action_of, next_of, place_after}
-use Rattle.world_rwlock.specs.program.Turns.{OnTurn}
-use Rattle.world_rwlock.specs.machine.Machine.{place_at}
-use Rattle.world_rwlock.specs.machine.Roles.{fits_turn}
-use Rattle.world_rwlock.specs.machine.Solo.{waits_for_turn}
 use Rattle.world_rwlock.proofs.of_machine.stages.Leads.{Led, led}
-use Rattle.world_rwlock.specs.Runs.{Runs, HoldsWell}
-use Rattle.world_rwlock.specs.Legal.{call_of}
-use Rattle.world_rwlock.specs.State.{World, standing_of}
-use Rattle.world_rwlock.specs.Steps.{Stands, Steps as Moved}
-use Rattle.world_rwlock.specs.View.{view_of}
 use Rattle.world_rwlock.proofs.bound.Alone.{laws}
 use Rattle.world_rwlock.proofs.step.Acting.{Acting, Way, impossible, over, puts, acts, way, fit}
 use Rattle.world_rwlock.proofs.bound.AloneSeen.{in_turn_list, future}
@@ -57,137 +12,137 @@ use Rattle.world_rwlock.proofs.whole.Promises.{turn_uncounted, begins_quiet, sta
 -- ---- a party that doesn't wait for the turn, or is decided there, won't wait for it again in this call
 
 abbrev pub is_past : Place → TurnCourse → Bool
-is_past (place.EnterTurn q) t = false
-is_past (place.WaitTurn q) t = false
-is_past (place.TakeTurn q) t = is_some (decision t)
+is_past (Place.EnterTurn q) t = false
+is_past (Place.WaitTurn q) t = false
+is_past (Place.TakeTurn q) t = is_some (decision t)
 is_past _ t = true
 
 past_waits : (x : Place) (t : TurnCourse) → is_past x t ≡ true → waits_for_turn x ≡ false
-past_waits (place.WaitTurn q) t h = absurd (false≢true h)
+past_waits (Place.WaitTurn q) t h = absurd (false≢true h)
 past_waits _ t h = refl
 
 abbrev enters : Place → Bool
-enters (place.EnterTurn q) = true
-enters (place.WaitTurn q) = true
-enters (place.TakeTurn q) = true
+enters (Place.EnterTurn q) = true
+enters (Place.WaitTurn q) = true
+enters (Place.TakeTurn q) = true
 enters _ = false
 
 -- no place leads there but those of a poll that takes the turn
 stays_past : (x : Place) (f : Found) (t : TurnCourse) → enters x ≡ false → is_past (place_after (next_of x f)) t ≡ true
-stays_past place.Out f t h = refl
-stays_past (place.Made w) f t h = refl
-stays_past place.Reading f t h = refl
-stays_past place.Upgradable f t h = refl
-stays_past place.Writing f t h = refl
-stays_past (place.EnterRead told) found.Done t h = refl
-stays_past (place.EnterRead told) found.Writer t h = refl
-stays_past (place.EnterRead true) _ t h = refl
-stays_past (place.EnterRead false) _ t h = refl
-stays_past (place.JoinNoWriter told) found.Done t h = refl
-stays_past (place.JoinNoWriter true) _ t h = refl
-stays_past (place.JoinNoWriter false) _ t h = refl
-stays_past (place.LookNoWriter told) found.Done t h = refl
-stays_past (place.LookNoWriter told) found.Writer t h = refl
-stays_past (place.LookNoWriter told) _ t h = refl
-stays_past place.AskNoWriter found.Yes t h = refl
-stays_past place.AskNoWriter _ t h = refl
-stays_past place.PassOn f t h = refl
-stays_past place.LeaveNoWriter f t h = refl
-stays_past (place.RefuseLeave true) f t h = refl
-stays_past (place.RefuseLeave false) f t h = refl
-stays_past (place.RefuseNotify r) f t h = refl
-stays_past place.CancelRead f t h = refl
-stays_past place.TryRead found.Done t h = refl
-stays_past place.TryRead _ t h = refl
-stays_past (place.EnterTurn q) f t h = absurd (true≢false h)
-stays_past (place.WaitTurn q) f t h = absurd (true≢false h)
-stays_past (place.TakeTurn q) f t h = absurd (true≢false h)
-stays_past (place.TryTurn purpose.UpgradableRead) (found.Turn (turn_step.End turn_end.Got)) t h = refl
-stays_past (place.TryTurn purpose.Write) (found.Turn (turn_step.End turn_end.Got)) t h = refl
-stays_past (place.TryTurn q) (found.Turn (turn_step.End _)) t h = refl
-stays_past (place.TryTurn q) (found.Turn turn_step.More) t h = refl
-stays_past (place.TryTurn q) _ t h = refl
-stays_past place.CancelTurn (found.Turn turn_step.More) t h = refl
-stays_past place.CancelTurn (found.Turn (turn_step.End e)) t h = refl
-stays_past place.CancelTurn _ t h = refl
-stays_past place.CancellingTurn (found.Turn turn_step.More) t h = refl
-stays_past place.CancellingTurn (found.Turn (turn_step.End e)) t h = refl
-stays_past place.CancellingTurn _ t h = refl
-stays_past (place.ReleaseTurn ending.GivenBack) (found.Turn turn_step.More) t h = refl
-stays_past (place.ReleaseTurn ending.GivenBack) (found.Turn (turn_step.End n)) t h = refl
-stays_past (place.ReleaseTurn ending.GivenBack) _ t h = refl
-stays_past (place.ReleaseTurn (ending.NotFree q)) (found.Turn turn_step.More) t h = refl
-stays_past (place.ReleaseTurn (ending.NotFree q)) (found.Turn (turn_step.End n)) t h = refl
-stays_past (place.ReleaseTurn (ending.NotFree q)) _ t h = refl
-stays_past (place.ReleaseTurn ending.RefuseReaders) (found.Turn turn_step.More) t h = refl
-stays_past (place.ReleaseTurn ending.RefuseReaders) (found.Turn (turn_step.End n)) t h = refl
-stays_past (place.ReleaseTurn ending.RefuseReaders) _ t h = refl
-stays_past (place.ReleaseTurn ending.RefuseMemory) (found.Turn turn_step.More) t h = refl
-stays_past (place.ReleaseTurn ending.RefuseMemory) (found.Turn (turn_step.End n)) t h = refl
-stays_past (place.ReleaseTurn ending.RefuseMemory) _ t h = refl
-stays_past (place.ReleaseTurn ending.Reading) (found.Turn turn_step.More) t h = refl
-stays_past (place.ReleaseTurn ending.Reading) (found.Turn (turn_step.End n)) t h = refl
-stays_past (place.ReleaseTurn ending.Reading) _ t h = refl
-stays_past (place.ReleaseTurn ending.NotifyReaders) (found.Turn turn_step.More) t h = refl
-stays_past (place.ReleaseTurn ending.NotifyReaders) (found.Turn (turn_step.End n)) t h = refl
-stays_past (place.ReleaseTurn ending.NotifyReaders) _ t h = refl
-stays_past (place.ReleasingTurn ending.GivenBack) _ t h = refl
-stays_past (place.ReleasingTurn (ending.NotFree q)) _ t h = refl
-stays_past (place.ReleasingTurn ending.RefuseReaders) _ t h = refl
-stays_past (place.ReleasingTurn ending.RefuseMemory) _ t h = refl
-stays_past (place.ReleasingTurn ending.Reading) _ t h = refl
-stays_past (place.ReleasingTurn ending.NotifyReaders) _ t h = refl
-stays_past (place.Add true) found.Done t h = refl
-stays_past (place.Add true) _ t h = refl
-stays_past (place.Add false) found.Done t h = refl
-stays_past (place.Add false) _ t h = refl
-stays_past place.TryUpgrade found.Done t h = refl
-stays_past place.TryUpgrade _ t h = refl
-stays_past place.Upgrade _ t h = refl
-stays_past place.Mark found.NoneLeft t h = refl
-stays_past place.Mark _ t h = refl
-stays_past place.TryWrite found.Done t h = refl
-stays_past place.TryWrite _ t h = refl
-stays_past (place.JoinNoReaders true) found.Done t h = refl
-stays_past (place.JoinNoReaders true) _ t h = refl
-stays_past (place.JoinNoReaders false) found.Done t h = refl
-stays_past (place.JoinNoReaders false) _ t h = refl
-stays_past (place.LookNoReaders u) found.NoneLeft t h = refl
-stays_past (place.LookNoReaders u) _ t h = refl
-stays_past (place.AskNoReaders u) found.Yes t h = refl
-stays_past (place.AskNoReaders u) _ t h = refl
-stays_past (place.AwaitNoReaders u) found.NoneLeft t h = refl
-stays_past (place.AwaitNoReaders u) _ t h = refl
-stays_past (place.LookUnlisted u) found.NoneLeft t h = refl
-stays_past (place.LookUnlisted u) _ t h = refl
-stays_past place.LeaveNoReaders _ t h = refl
-stays_past place.DropRead found.NoneLeft t h = refl
-stays_past place.DropRead _ t h = refl
-stays_past place.DropReadNotify _ t h = refl
-stays_past place.DropUpgradable found.NoneLeft t h = refl
-stays_past place.DropUpgradable _ t h = refl
-stays_past place.DropUpgradableNotify _ t h = refl
-stays_past place.DropWrite _ t h = refl
-stays_past place.CancelAwait _ t h = refl
-stays_past (place.Unmark true) _ t h = refl
-stays_past (place.Unmark false) _ t h = refl
-stays_past (place.UnmarkNotify true) _ t h = refl
-stays_past (place.UnmarkNotify false) _ t h = refl
-stays_past (place.Down true) _ t h = refl
-stays_past (place.Down false) _ t h = refl
-stays_past place.DownNotify _ t h = refl
-stays_past place.DowngradeNotify _ t h = refl
+stays_past Place.Out f t h = refl
+stays_past (Place.Made w) f t h = refl
+stays_past Place.Reading f t h = refl
+stays_past Place.Upgradable f t h = refl
+stays_past Place.Writing f t h = refl
+stays_past (Place.EnterRead told) Found.Done t h = refl
+stays_past (Place.EnterRead told) Found.Writer t h = refl
+stays_past (Place.EnterRead true) _ t h = refl
+stays_past (Place.EnterRead false) _ t h = refl
+stays_past (Place.JoinNoWriter told) Found.Done t h = refl
+stays_past (Place.JoinNoWriter true) _ t h = refl
+stays_past (Place.JoinNoWriter false) _ t h = refl
+stays_past (Place.LookNoWriter told) Found.Done t h = refl
+stays_past (Place.LookNoWriter told) Found.Writer t h = refl
+stays_past (Place.LookNoWriter told) _ t h = refl
+stays_past Place.AskNoWriter Found.Yes t h = refl
+stays_past Place.AskNoWriter _ t h = refl
+stays_past Place.PassOn f t h = refl
+stays_past Place.LeaveNoWriter f t h = refl
+stays_past (Place.RefuseLeave true) f t h = refl
+stays_past (Place.RefuseLeave false) f t h = refl
+stays_past (Place.RefuseNotify r) f t h = refl
+stays_past Place.CancelRead f t h = refl
+stays_past Place.TryRead Found.Done t h = refl
+stays_past Place.TryRead _ t h = refl
+stays_past (Place.EnterTurn q) f t h = absurd (true≢false h)
+stays_past (Place.WaitTurn q) f t h = absurd (true≢false h)
+stays_past (Place.TakeTurn q) f t h = absurd (true≢false h)
+stays_past (Place.TryTurn Purpose.UpgradableRead) (Found.Turn (TurnStep.End TurnEnd.Got)) t h = refl
+stays_past (Place.TryTurn Purpose.Write) (Found.Turn (TurnStep.End TurnEnd.Got)) t h = refl
+stays_past (Place.TryTurn q) (Found.Turn (TurnStep.End _)) t h = refl
+stays_past (Place.TryTurn q) (Found.Turn TurnStep.More) t h = refl
+stays_past (Place.TryTurn q) _ t h = refl
+stays_past Place.CancelTurn (Found.Turn TurnStep.More) t h = refl
+stays_past Place.CancelTurn (Found.Turn (TurnStep.End e)) t h = refl
+stays_past Place.CancelTurn _ t h = refl
+stays_past Place.CancellingTurn (Found.Turn TurnStep.More) t h = refl
+stays_past Place.CancellingTurn (Found.Turn (TurnStep.End e)) t h = refl
+stays_past Place.CancellingTurn _ t h = refl
+stays_past (Place.ReleaseTurn Ending.GivenBack) (Found.Turn TurnStep.More) t h = refl
+stays_past (Place.ReleaseTurn Ending.GivenBack) (Found.Turn (TurnStep.End n)) t h = refl
+stays_past (Place.ReleaseTurn Ending.GivenBack) _ t h = refl
+stays_past (Place.ReleaseTurn (Ending.NotFree q)) (Found.Turn TurnStep.More) t h = refl
+stays_past (Place.ReleaseTurn (Ending.NotFree q)) (Found.Turn (TurnStep.End n)) t h = refl
+stays_past (Place.ReleaseTurn (Ending.NotFree q)) _ t h = refl
+stays_past (Place.ReleaseTurn Ending.RefuseReaders) (Found.Turn TurnStep.More) t h = refl
+stays_past (Place.ReleaseTurn Ending.RefuseReaders) (Found.Turn (TurnStep.End n)) t h = refl
+stays_past (Place.ReleaseTurn Ending.RefuseReaders) _ t h = refl
+stays_past (Place.ReleaseTurn Ending.RefuseMemory) (Found.Turn TurnStep.More) t h = refl
+stays_past (Place.ReleaseTurn Ending.RefuseMemory) (Found.Turn (TurnStep.End n)) t h = refl
+stays_past (Place.ReleaseTurn Ending.RefuseMemory) _ t h = refl
+stays_past (Place.ReleaseTurn Ending.Reading) (Found.Turn TurnStep.More) t h = refl
+stays_past (Place.ReleaseTurn Ending.Reading) (Found.Turn (TurnStep.End n)) t h = refl
+stays_past (Place.ReleaseTurn Ending.Reading) _ t h = refl
+stays_past (Place.ReleaseTurn Ending.NotifyReaders) (Found.Turn TurnStep.More) t h = refl
+stays_past (Place.ReleaseTurn Ending.NotifyReaders) (Found.Turn (TurnStep.End n)) t h = refl
+stays_past (Place.ReleaseTurn Ending.NotifyReaders) _ t h = refl
+stays_past (Place.ReleasingTurn Ending.GivenBack) _ t h = refl
+stays_past (Place.ReleasingTurn (Ending.NotFree q)) _ t h = refl
+stays_past (Place.ReleasingTurn Ending.RefuseReaders) _ t h = refl
+stays_past (Place.ReleasingTurn Ending.RefuseMemory) _ t h = refl
+stays_past (Place.ReleasingTurn Ending.Reading) _ t h = refl
+stays_past (Place.ReleasingTurn Ending.NotifyReaders) _ t h = refl
+stays_past (Place.Add true) Found.Done t h = refl
+stays_past (Place.Add true) _ t h = refl
+stays_past (Place.Add false) Found.Done t h = refl
+stays_past (Place.Add false) _ t h = refl
+stays_past Place.TryUpgrade Found.Done t h = refl
+stays_past Place.TryUpgrade _ t h = refl
+stays_past Place.Upgrade _ t h = refl
+stays_past Place.Mark Found.NoneLeft t h = refl
+stays_past Place.Mark _ t h = refl
+stays_past Place.TryWrite Found.Done t h = refl
+stays_past Place.TryWrite _ t h = refl
+stays_past (Place.JoinNoReaders true) Found.Done t h = refl
+stays_past (Place.JoinNoReaders true) _ t h = refl
+stays_past (Place.JoinNoReaders false) Found.Done t h = refl
+stays_past (Place.JoinNoReaders false) _ t h = refl
+stays_past (Place.LookNoReaders u) Found.NoneLeft t h = refl
+stays_past (Place.LookNoReaders u) _ t h = refl
+stays_past (Place.AskNoReaders u) Found.Yes t h = refl
+stays_past (Place.AskNoReaders u) _ t h = refl
+stays_past (Place.AwaitNoReaders u) Found.NoneLeft t h = refl
+stays_past (Place.AwaitNoReaders u) _ t h = refl
+stays_past (Place.LookUnlisted u) Found.NoneLeft t h = refl
+stays_past (Place.LookUnlisted u) _ t h = refl
+stays_past Place.LeaveNoReaders _ t h = refl
+stays_past Place.DropRead Found.NoneLeft t h = refl
+stays_past Place.DropRead _ t h = refl
+stays_past Place.DropReadNotify _ t h = refl
+stays_past Place.DropUpgradable Found.NoneLeft t h = refl
+stays_past Place.DropUpgradable _ t h = refl
+stays_past Place.DropUpgradableNotify _ t h = refl
+stays_past Place.DropWrite _ t h = refl
+stays_past Place.CancelAwait _ t h = refl
+stays_past (Place.Unmark true) _ t h = refl
+stays_past (Place.Unmark false) _ t h = refl
+stays_past (Place.UnmarkNotify true) _ t h = refl
+stays_past (Place.UnmarkNotify false) _ t h = refl
+stays_past (Place.Down true) _ t h = refl
+stays_past (Place.Down false) _ t h = refl
+stays_past Place.DownNotify _ t h = refl
+stays_past Place.DowngradeNotify _ t h = refl
 
 -- ---- a step of a poll that takes the turn
 
 -- what was decided there on another end than pending is past
-decided_past : (x : Place) (q : Purpose) (s : TurnStep) (e : TurnEnd) (to : TurnCourse) → x ≡ place.TakeTurn q → Led x (found.Turn s) to → decided_then s to ≡ Some e → (e ≡ turn_end.Pending → ⊥) → is_past (place_after (next_of x (found.Turn s))) to ≡ true
-decided_past (place.TakeTurn q) r turn_step.More e to at l d f = ap is_some d
-decided_past (place.TakeTurn purpose.UpgradableRead) r (turn_step.End turn_end.Got) e to at l d f = refl
-decided_past (place.TakeTurn purpose.Write) r (turn_step.End turn_end.Got) e to at l d f = refl
-decided_past (place.TakeTurn q) r (turn_step.End turn_end.Pending) e to at l d f = absurd (f (sym (some_eq d)))
-decided_past (place.TakeTurn q) r (turn_step.End (turn_end.Refused n)) e to at l d f = refl
-decided_past (place.TakeTurn q) r (turn_step.End _) e to at l d f = absurd l
+decided_past : (x : Place) (q : Purpose) (s : TurnStep) (e : TurnEnd) (to : TurnCourse) → x ≡ Place.TakeTurn q → Led x (Found.Turn s) to → decided_then s to ≡ Some e → (e ≡ TurnEnd.Pending → ⊥) → is_past (place_after (next_of x (Found.Turn s))) to ≡ true
+decided_past (Place.TakeTurn q) r TurnStep.More e to at l d f = ap is_some d
+decided_past (Place.TakeTurn Purpose.UpgradableRead) r (TurnStep.End TurnEnd.Got) e to at l d f = refl
+decided_past (Place.TakeTurn Purpose.Write) r (TurnStep.End TurnEnd.Got) e to at l d f = refl
+decided_past (Place.TakeTurn q) r (TurnStep.End TurnEnd.Pending) e to at l d f = absurd (f (sym (some_eq d)))
+decided_past (Place.TakeTurn q) r (TurnStep.End (TurnEnd.Refused n)) e to at l d f = refl
+decided_past (Place.TakeTurn q) r (TurnStep.End _) e to at l d f = absurd l
 decided_past x r s e to at l d f = absurd (cc at)
 
 none_of : (o : Option TurnEnd) → is_some o ≡ false → o ≡ None
@@ -206,23 +161,23 @@ module _ (memory starving : Bool) (p : ℕ) (l k : Mutex) where
   is = turn_at k.courses p
 
   take_past : (x : Place) (f : Found) → OnTurn memory starving p (action_of x) f l k → Led x f is → enters x ≡ true → is_past x was ≡ true → is_past (place_after (next_of x f)) is ≡ true
-  take_past (place.EnterTurn q) f o led h past = absurd (false≢true past)
-  take_past (place.WaitTurn q) f o led h past = absurd (false≢true past)
-  take_past (place.TakeTurn q) (found.Turn s) o led h past =
+  take_past (Place.EnterTurn q) f o led h past = absurd (false≢true past)
+  take_past (Place.WaitTurn q) f o led h past = absurd (false≢true past)
+  take_past (Place.TakeTurn q) (Found.Turn s) o led h past =
       let d = some_of (decision was) past in
-      decided_past (place.TakeTurn q) q s d.0 is refl led (o.legal.kept d.0 d.1).0 (λ e. never_pending was (d.1 ∙ ap Some e))
-  take_past (place.TakeTurn q) _ o led h past = absurd o
+      decided_past (Place.TakeTurn q) q s d.0 is refl led (o.legal.kept d.0 d.1).0 (λ e. never_pending was (d.1 ∙ ap Some e))
+  take_past (Place.TakeTurn q) _ o led h past = absurd o
   take_past _ f o led h past = absurd (false≢true h)
 
   take_marks : (x : Place) (f : Found) → fits_turn x was ≡ true → OnTurn memory starving p (action_of x) f l k → enters x ≡ true → is_past x was ≡ false → starved l ≡ 0 → is_counting was ≡ false → MarksNobody p l.entries k.entries
-  take_marks (place.EnterTurn q) (found.Turn s) fits o h past none quiet = step_marks memory p None s l k o.legal refl (out_silent was fits)
-  take_marks (place.EnterTurn q) _ fits o h past none quiet = absurd o
-  take_marks (place.WaitTurn q) (found.Turn s) fits o h past none quiet = step_marks memory p None s l k o.legal refl (waiting_silent was fits)
-  take_marks (place.WaitTurn q) _ fits o h past none quiet = absurd o
-  take_marks (place.TakeTurn q) (found.Turn s) fits o h past none quiet =
+  take_marks (Place.EnterTurn q) (Found.Turn s) fits o h past none quiet = step_marks memory p None s l k o.legal refl (out_silent was fits)
+  take_marks (Place.EnterTurn q) _ fits o h past none quiet = absurd o
+  take_marks (Place.WaitTurn q) (Found.Turn s) fits o h past none quiet = step_marks memory p None s l k o.legal refl (waiting_silent was fits)
+  take_marks (Place.WaitTurn q) _ fits o h past none quiet = absurd o
+  take_marks (Place.TakeTurn q) (Found.Turn s) fits o h past none quiet =
       let midway : decision was ≡ None = none_of (decision was) past in
       step_marks memory p (decision was) s l k o.legal midway (undecided_silent l p none midway quiet)
-  take_marks (place.TakeTurn q) _ fits o h past none quiet = absurd o
+  take_marks (Place.TakeTurn q) _ fits o h past none quiet = absurd o
   take_marks _ f fits o h past none quiet = absurd (false≢true h)
 
 -- ---- along a whole call
@@ -247,8 +202,8 @@ module _ (p : ℕ) (i : Inputs) (patient : i.starving ≡ false) (l0 : List (Ent
 
   record Done (b : Answer) (y : World) : Type 0 where
     pub stands : Stands y
-    pub outside : b ≡ answer.Pending → standing_of y p ≡ outside rest.Pending
-    pub kept : b ≡ answer.Pending → waits_for_turn (at y) ≡ true → MarksNobody p l0 (turn_of y).entries
+    pub outside : b ≡ Answer.Pending → standing_of y p ≡ outside Rest.Pending
+    pub kept : b ≡ Answer.Pending → waits_for_turn (at y) ≡ true → MarksNobody p l0 (turn_of y).entries
 
   abbrev Then : Answer → World → Type 0
   Then a v = Onward Calm Done a v
@@ -274,7 +229,7 @@ module _ (p : ℕ) (i : Inputs) (patient : i.starving ≡ false) (l0 : List (Ent
     lands : at v ≡ place_after (next_of c.from f)
     lands =
         ap (λ xs. place_at xs p) c.acts.places
-        ∙ (get_or-set_same x.behind.machine.lock.places p (place_after c.next) place.Out (omega (arith, c.old.fits.as_many, c.inside)) ∙ ap place_after c.acts.next_is)
+        ∙ (get_or-set_same x.behind.machine.lock.places p (place_after c.next) Place.Out (omega (arith, c.old.fits.as_many, c.inside)) ∙ ap place_after c.acts.next_is)
 
     past_then : is_past (place_after (next_of c.from f)) (there v) ≡ true → Calm v
     past_then h = inl (ap (λ z. is_past z (there v)) lands ∙ h)
@@ -291,16 +246,16 @@ module _ (p : ℕ) (i : Inputs) (patient : i.starving ≡ false) (l0 : List (Ent
           kept = marks_more p l0 (turn_of x).entries (turn_of v).entries s.kept (take_marks memory false p (turn_of x) (turn_of v) c.from f fits took into e s.unstarved s.uncounting);
         })
 
-  pending_stands : (u : Within) (b : Answer) (t : Standing) → b ≡ answer.Pending → StandsAfter rest.Holding u b t → t ≡ outside rest.Pending
-  pending_stands u answer.Pending t e s = s.1
+  pending_stands : (u : Within) (b : Answer) (t : Standing) → b ≡ Answer.Pending → StandsAfter Rest.Holding u b t → t ≡ outside Rest.Pending
+  pending_stands u Answer.Pending t e s = s.1
   pending_stands u _ t e s = absurd (cc e)
 
-  ends_pending : (x : World) (what : What) (a : Answer) (v : World) → Moved x (record { party = p; what = what }) a v → a ≡ answer.Pending → standing_of v p ≡ outside rest.Pending
+  ends_pending : (x : World) (what : What) (a : Answer) (v : World) → Moved x (record { party = p; what = what }) a v → a ≡ Answer.Pending → standing_of v p ≡ outside Rest.Pending
   ends_pending x what a v s is = by_call (call_of x m) refl where
     m : Move
     m = record { party = p; what = what }
 
-    by_call : (o : Option Within) → call_of x m ≡ o → standing_of v p ≡ outside rest.Pending
+    by_call : (o : Option Within) → call_of x m ≡ o → standing_of v p ≡ outside Rest.Pending
     by_call None e = let no = s.legal.possible.exactly.1 e in absurd (cc (sym is ∙ no))
     by_call (Some u) e = pending_stands u a (standing_of v p) is (s.legal.ends_properly.stands u e)
 
@@ -310,16 +265,16 @@ module _ (p : ℕ) (i : Inputs) (patient : i.starving ≡ false) (l0 : List (Ent
     m : Move
     m = record { party = p; what = what }
 
-    ends : (b : Answer) → a ≡ b → (b ≡ answer.Stepped → ⊥) → (b ≡ answer.Pending → ⊥) → Then a v
+    ends : (b : Answer) → a ≡ b → (b ≡ Answer.Stepped → ⊥) → (b ≡ Answer.Pending → ⊥) → Then a v
     ends b is f g = record {
       going = λ e. absurd (f (sym is ∙ e));
       ended = λ e. record { stands = s.did.stands; outside = λ y. absurd (g (sym is ∙ y)); kept = λ y. absurd (g (sym is ∙ y)) };
     }
 
     by_way : Way x.behind v.behind m a → Then a v
-    by_way (impossible e ea eu) = ends answer.NotPossible ea (λ y. cc y) (λ y. cc y)
-    by_way (over w e f ea eu) = ends (refused refusal.Finished) ea (λ y. cc y) (λ y. cc y)
-    by_way (puts w n in_table o e ea eu) = ends (answer.Granted (Value n)) ea (λ y. cc y) (λ y. cc y)
+    by_way (impossible e ea eu) = ends Answer.NotPossible ea (λ y. cc y) (λ y. cc y)
+    by_way (over w e f ea eu) = ends (refused Refusal.Finished) ea (λ y. cc y) (λ y. cc y)
+    by_way (puts w n in_table o e ea eu) = ends (Answer.Granted (Value n)) ea (λ y. cc y) (λ y. cc y)
     by_way (acts w c) =
         let calm = stepped x v what a w quiet c (before w c) in
         record { going = λ e. calm; ended = λ e. record { stands = s.did.stands; outside = ends_pending x what a v s; kept = λ y. kept_so v calm } }
@@ -333,12 +288,12 @@ module _ (p : ℕ) (i : Inputs) (patient : i.starving ≡ false) (l0 : List (Ent
   first : (c : Call) (x : World) → starved (turn_of x) ≡ 0 → MarksNobody p l0 (turn_of x).entries → (a : Answer) (v : World) → Moved x (beginning p c i) a v → Then a v
   first c x none kept a v s = moved x (Begin c i) a v patient s (λ w k. inr (record { unstarved = none; uncounting = begins_quiet x v p c i a w k; kept = kept }))
 
-pub tells_nobody_at_end : (known : ℕ → Account) (w : World) (p : ℕ) (c : Call) (i : Inputs) (n : ℕ) (a : Answer) (v : World) → Stands w → Runs known w (moves_of p c i n) (answers_of n a) v → a ≢ answer.Stepped → i.starving ≡ false → how_many w.state.starved ≡ 0 → a ≡ answer.Pending → 0 < entries_of p v.turn_list → MarksNobody p w.turn_list v.turn_list
+pub tells_nobody_at_end : (known : ℕ → Account) (w : World) (p : ℕ) (c : Call) (i : Inputs) (n : ℕ) (a : Answer) (v : World) → Stands w → Runs known w (moves_of p c i n) (answers_of n a) v → a ≢ Answer.Stepped → i.starving ≡ false → how_many w.state.starved ≡ 0 → a ≡ Answer.Pending → 0 < entries_of p v.turn_list → MarksNobody p w.turn_list v.turn_list
 tells_nobody_at_end known w p c i n a v stood runs ended patient none is there =
     let l0 = w.behind.machine.lock.turn.entries in
     let zero : starved w.behind.machine.lock.turn ≡ 0 = sym (starved_behind w stood) ∙ none in
     let done : Done p i patient l0 a v = along Moved accounts_after HoldsWell p i (Calm p i patient l0) (Done p i patient l0) (onward p i patient l0) known n w (beginning p c i) a v (first p i patient l0 c w zero (λ q apart h. h)) ended runs in
-    let pending : standing_of (view_of v.behind) p ≡ outside rest.Pending = ap (λ y. standing_of y p) (sym done.stands.seen) ∙ done.outside is in
+    let pending : standing_of (view_of v.behind) p ≡ outside Rest.Pending = ap (λ y. standing_of y p) (sym done.stands.seen) ∙ done.outside is in
     let x = place_at v.behind.machine.lock.places p in
     let t = turn_at v.behind.machine.lock.turn.courses p in
     let own : entries_of p v.turn_list ≡ listed t = ap (λ y. entries_of p y.turn_list) done.stands.seen ∙ done.stands.lock.turn.owners p in

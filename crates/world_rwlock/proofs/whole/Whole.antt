@@ -1,34 +1,6 @@
 -- A call that is carried out alone ends within its number of steps.
-use Rattle.std.proofs.Common.{◌≡◌, ℕ, ◌+◌, ◌<◌, ◌≤◌, Bool, true, false, refl, arith, ap, sym, ◌∙◌}
-use Rattle.lock_event.specs.Lists.{is_marked_at}
-use Rattle.world_base.specs.queue.Parties.{is_party}
-use Rattle.world_base.specs.declared.moves.Answer.{Answer}
-use Rattle.world_base.specs.declared.moves.Answer.TheVariants as answer
-use Rattle.world_base.specs.declared.moves.Call.{Call}
-use Rattle.world_base.specs.declared.moves.Call.TheVariants as call
-use Rattle.world_base.specs.declared.moves.Got.TheVariants.{Value}
-use Rattle.world_base.specs.declared.moves.Inputs.{Inputs}
-use Rattle.world_base.specs.declared.moves.What.{What}
-use Rattle.world_base.specs.declared.moves.What.TheVariants.{Begin, Go}
-use Rattle.lock_program.specs.declared.refusal.Refusal.TheVariants as refusal
-use Rattle.world_base.specs.declared.standing.Within.{Within}
-use Rattle.world_base.specs.Standings.{inputs_of, refused}
-use Rattle.world_base.specs.Whole.{going_on}
-use Rattle.world_base.proofs.Equations.{some_eq}
-use Rattle.world_base.specs.any_world.Steps.{left_by as left_of}
-use Rattle.world_mutex.specs.machine.Mutex.{steps_left as turn_steps_left}
-use Rattle.lock_program.specs.declared.end.End.TheVariants as «end»
-use Rattle.world_rwlock.specs.declared.program.led.Next.{Next}
-use Rattle.world_rwlock.specs.declared.program.led.Next.TheVariants as next
-use Rattle.lock_program.specs.declared.rwlock.Place.{Place}
-use Rattle.lock_program.specs.declared.rwlock.Place.TheVariants.{LookNoWriter, AskNoWriter, JoinNoReaders, LookNoReaders, AskNoReaders, AwaitNoReaders, LookUnlisted, CancellingTurn, TakeTurn, ReleasingTurn, Down}
-use Rattle.world_rwlock.specs.machine.Acts.{IsRwLock}
-use Rattle.world_rwlock.specs.machine.Machine.{RwLock, place_at}
-use Rattle.world_rwlock.specs.machine.Ranks.{left, left_from, steps_left, left_after}
+use Rattle.world_rwlock.proofs.Prelude.{◌≡◌, ℕ, ◌+◌, ◌<◌, ◌≤◌, Bool, true, false, refl, arith, ap, sym, ◌∙◌, is_marked_at, is_party, Answer, Call, Value, Inputs, What, Begin, Go, Refusal, Within, inputs_of, refused, going_on, some_eq, left_by as left_of, turn_steps_left, End, Next, Place, LookNoWriter, AskNoWriter, JoinNoReaders, LookNoReaders, AskNoReaders, AwaitNoReaders, LookUnlisted, CancellingTurn, TakeTurn, ReleasingTurn, Down, IsRwLock, RwLock, place_at, left, left_from, steps_left, left_after, Table, Guarded, answer_by, most_steps_of}
 use Rattle.world_rwlock.proofs.of_machine.falls.Alone.{fewer, begun_within}
-use Rattle.world_base.specs.table.Tables.{Table}
-use Rattle.world_rwlock.specs.Guarded.{Guarded, answer_by}
-use Rattle.world_rwlock.specs.Whole.{most_steps_of}
 use Rattle.world_rwlock.proofs.step.Acting.{Acting, Way, impossible, over, puts, acts}
 
 -- how many steps are left after this answer
@@ -61,26 +33,26 @@ steps_some v p laws = some_left (place_at v.places p) (is_marked_at (is_party p)
 
 -- a step's answer says what is left
 left_said : (v : ℕ) (n : Next) (t : Table Guarded) (p : ℕ) → left_by (answer_by v n) t p ≡ left_after n t.machine.lock p
-left_said v (next.Do a q) t p = refl
-left_said v (next.Wait q) t p = refl
-left_said v (next.End «end».Got q) t p = refl
-left_said v (next.End «end».Granted q) t p = refl
-left_said v (next.End «end».Pending q) t p = refl
-left_said v (next.End «end».NotFree q) t p = refl
-left_said v (next.End «end».Waiting q) t p = refl
-left_said v (next.End «end».GivenBack q) t p = refl
-left_said v (next.End («end».Refused r) q) t p = refl
+left_said v (Next.Do a q) t p = refl
+left_said v (Next.Wait q) t p = refl
+left_said v (Next.End End.Got q) t p = refl
+left_said v (Next.End End.Granted q) t p = refl
+left_said v (Next.End End.Pending q) t p = refl
+left_said v (Next.End End.NotFree q) t p = refl
+left_said v (Next.End End.Waiting q) t p = refl
+left_said v (Next.End End.GivenBack q) t p = refl
+left_said v (Next.End (End.Refused r) q) t p = refl
 
 one_at_least : (c : Call) → 1 ≤ most_steps_of c
-one_at_least call.Read = omega arith
-one_at_least call.UpgradableRead = omega arith
-one_at_least call.Write = omega arith
-one_at_least call.TryUpgradableRead = omega arith
-one_at_least call.TryWrite = omega arith
-one_at_least call.Poll = omega arith
-one_at_least call.Drop = omega arith
-one_at_least call.Downgrade = omega arith
-one_at_least call.DowngradeToUpgradable = omega arith
+one_at_least Call.Read = omega arith
+one_at_least Call.UpgradableRead = omega arith
+one_at_least Call.Write = omega arith
+one_at_least Call.TryUpgradableRead = omega arith
+one_at_least Call.TryWrite = omega arith
+one_at_least Call.Poll = omega arith
+one_at_least Call.Drop = omega arith
+one_at_least Call.Downgrade = omega arith
+one_at_least Call.DowngradeToUpgradable = omega arith
 one_at_least _ = omega arith
 
 nothing_left : (a b : Answer) (u : Table Guarded) (p : ℕ) → a ≡ b → left_by b u p ≡ 0 → left_by a u p ≡ 0
@@ -96,16 +68,16 @@ module _ (t u : Table Guarded) (p : ℕ) where
 
   -- the first step of a call, and what is left then
   pub first : (c : Call) (i : Inputs) (a : Answer) → Way t u (record { party = p; what = Begin c i }) a → 1 + left_by a u p ≤ most_steps_of c
-  first c i a (impossible e ea eu) = let none = nothing_left a answer.NotPossible u p ea refl in omega (arith, one_at_least c)
-  first c i a (over w e f ea eu) = let none = nothing_left a (refused refusal.Finished) u p ea refl in omega (arith, one_at_least c)
-  first c i a (puts w v inside o e ea eu) = let none = nothing_left a (answer.Granted (Value v)) u p ea refl in omega (arith, one_at_least c)
+  first c i a (impossible e ea eu) = let none = nothing_left a Answer.NotPossible u p ea refl in omega (arith, one_at_least c)
+  first c i a (over w e f ea eu) = let none = nothing_left a (refused Refusal.Finished) u p ea refl in omega (arith, one_at_least c)
+  first c i a (puts w v inside o e ea eu) = let none = nothing_left a (Answer.Granted (Value v)) u p ea refl in omega (arith, one_at_least c)
   first c i a (acts w k) = let low = begun_within c (place_at t.machine.lock.places p) k.from t.machine.lock p (left_by a u p) k.starts (less (Begin c i) a w k) in omega (arith, low)
 
   -- a further step leaves less to do
   pub onward : (i : Inputs) (a : Answer) → IsRwLock t.machine.lock → Way t u (going_on p i) a → left_by a u p < steps_left t.machine.lock p
-  onward i a laws (impossible e ea eu) = let none = nothing_left a answer.NotPossible u p ea refl in omega (arith, steps_some t.machine.lock p laws)
-  onward i a laws (over w e f ea eu) = let none = nothing_left a (refused refusal.Finished) u p ea refl in omega (arith, steps_some t.machine.lock p laws)
-  onward i a laws (puts w v inside o e ea eu) = let none = nothing_left a (answer.Granted (Value v)) u p ea refl in omega (arith, steps_some t.machine.lock p laws)
+  onward i a laws (impossible e ea eu) = let none = nothing_left a Answer.NotPossible u p ea refl in omega (arith, steps_some t.machine.lock p laws)
+  onward i a laws (over w e f ea eu) = let none = nothing_left a (refused Refusal.Finished) u p ea refl in omega (arith, steps_some t.machine.lock p laws)
+  onward i a laws (puts w v inside o e ea eu) = let none = nothing_left a (Answer.Granted (Value v)) u p ea refl in omega (arith, steps_some t.machine.lock p laws)
   onward i a laws (acts w k) =
       let from : k.from ≡ place_at t.machine.lock.places p = sym (some_eq k.starts) in
       let same : left_from k.from t.machine.lock p ≡ steps_left t.machine.lock p = ap (λ x. left_from x t.machine.lock p) from in

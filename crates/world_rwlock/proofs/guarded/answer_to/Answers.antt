@@ -1,6 +1,5 @@
 -- A call that is over is answered by its end, over the number.
-use Rattle.std.proofs.Common.{ap, sym, ◌∙◌}
-use Rattle.world_rwlock.specs.Guarded.{answer_by}
+use Rattle.world_rwlock.proofs.Prelude.{ap, sym, ◌∙◌, answer_by}
 use Rattle.world_rwlock.proofs.guarded.answer_to.Goals as goal
 
 pub returns-in-End : goal.returns-in-End

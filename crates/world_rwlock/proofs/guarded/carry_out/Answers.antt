@@ -1,13 +1,5 @@
 -- A move carries out the action of the place at which its call begins, or goes on.
-use Rattle.std.proofs.Common.{Option, IsSomeAnd, ap, sym, subst}
-use Rattle.world_base.specs.declared.moves.Inputs.{Inputs}
-use Rattle.world_base.specs.Standings.{inputs_of}
-use Rattle.world_base.proofs.Equations.{is_some_and}
-use Rattle.lock_program.specs.declared.rwlock.Place.{Place}
-use Rattle.world_rwlock.specs.machine.Acts.{Acts}
-use Rattle.world_rwlock.specs.machine.Machine.{place_at}
-use Rattle.world_rwlock.specs.program.Program.{start_of}
-use Rattle.world_rwlock.specs.Guarded.{place_for}
+use Rattle.world_rwlock.proofs.Prelude.{Option, IsSomeAnd, ap, sym, subst, Inputs, inputs_of, is_some_and, Place, Acts, place_at, start_of, place_for}
 use Rattle.world_rwlock.proofs.guarded.carry_out.Goals as goal
 
 pub returns-in-Begin : goal.returns-in-Begin

@@ -1,15 +1,5 @@
 -- Each step of a party that moves alone leaves fewer steps. Written by generators/rwlock_rows.py.
-use Rattle.std.proofs.Common.{ℕ, ◌<◌, Bool, true, false, arith}
-use Rattle.lock_program.specs.declared.mutex.Step.TheVariants as turn_step
-use Rattle.lock_program.specs.declared.end.End.TheVariants as turn_end
-use Rattle.lock_program.specs.declared.rwlock.Purpose.TheVariants as purpose
-use Rattle.lock_program.specs.declared.rwlock.Ending.TheVariants as ending
-use Rattle.lock_program.specs.declared.rwlock.Place.{Place}
-use Rattle.lock_program.specs.declared.rwlock.Place.TheVariants.{Out, Made, Reading, Upgradable, Writing, EnterRead, JoinNoWriter, LookNoWriter, AskNoWriter, PassOn, LeaveNoWriter, RefuseLeave, RefuseNotify, CancelRead, TryRead, EnterTurn, WaitTurn, TakeTurn, TryTurn, CancelTurn, CancellingTurn, ReleaseTurn, ReleasingTurn, Add, TryUpgrade, Upgrade, Mark, TryWrite, JoinNoReaders, LookNoReaders, AskNoReaders, AwaitNoReaders, LookUnlisted, LeaveNoReaders, DropRead, DropReadNotify, DropUpgradable, DropUpgradableNotify, DropWrite, CancelAwait, Unmark, UnmarkNotify, Down, DownNotify, DowngradeNotify}
-use Rattle.lock_program.specs.declared.rwlock.Found.{Found}
-use Rattle.lock_program.specs.declared.rwlock.Found.TheVariants.{Done, Writer, NoneLeft, Yes, Turn}
-use Rattle.world_rwlock.specs.program.Program.{action_of, next_of}
-use Rattle.world_rwlock.specs.machine.Ranks.{left}
+use Rattle.world_rwlock.proofs.Prelude.{ℕ, ◌<◌, Bool, true, false, arith, TurnStep as Step, End, Purpose, Ending, Place, Out, Made, Reading, Upgradable, Writing, EnterRead, JoinNoWriter, LookNoWriter, AskNoWriter, PassOn, LeaveNoWriter, RefuseLeave, RefuseNotify, CancelRead, TryRead, EnterTurn, WaitTurn, TakeTurn, TryTurn, CancelTurn, CancellingTurn, ReleaseTurn, ReleasingTurn, Add, TryUpgrade, Upgrade, Mark, TryWrite, JoinNoReaders, LookNoReaders, AskNoReaders, AwaitNoReaders, LookUnlisted, LeaveNoReaders, DropRead, DropReadNotify, DropUpgradable, DropUpgradableNotify, DropWrite, CancelAwait, Unmark, UnmarkNotify, Down, DownNotify, DowngradeNotify, Found, Done, Writer, NoneLeft, Yes, Turn, action_of, next_of, left}
 use Rattle.world_rwlock.proofs.of_machine.falls.Lowers.{Lowers, then_left}
 
 module _ (here there here' there' : Bool) (turn turn' : ℕ) where
@@ -43,68 +33,68 @@ module _ (here there here' there' : Bool) (turn turn' : ℕ) where
   falls TryRead Done e = omega arith
   falls TryRead Writer e = omega arith
   falls TryRead _ e = omega arith
-  falls (EnterTurn purpose.UpgradableRead) (Turn turn_step.More) e = omega arith
-  falls (EnterTurn purpose.UpgradableRead) (Turn (turn_step.End turn_end.Got)) e = omega arith
-  falls (EnterTurn purpose.UpgradableRead) (Turn (turn_step.End (turn_end.Refused r))) e = omega arith
-  falls (EnterTurn purpose.UpgradableRead) _ e = omega arith
-  falls (WaitTurn purpose.UpgradableRead) (Turn turn_step.More) e = omega arith
-  falls (WaitTurn purpose.UpgradableRead) (Turn (turn_step.End turn_end.Got)) e = omega arith
-  falls (WaitTurn purpose.UpgradableRead) (Turn (turn_step.End (turn_end.Refused r))) e = omega arith
-  falls (WaitTurn purpose.UpgradableRead) _ e = omega arith
-  falls (TakeTurn purpose.UpgradableRead) (Turn turn_step.More) e = omega arith
-  falls (TakeTurn purpose.UpgradableRead) (Turn (turn_step.End turn_end.Got)) e = omega arith
-  falls (TakeTurn purpose.UpgradableRead) (Turn (turn_step.End (turn_end.Refused r))) e = omega arith
-  falls (TakeTurn purpose.UpgradableRead) _ e = omega arith
-  falls (EnterTurn purpose.Write) (Turn turn_step.More) e = omega arith
-  falls (EnterTurn purpose.Write) (Turn (turn_step.End turn_end.Got)) e = omega arith
-  falls (EnterTurn purpose.Write) (Turn (turn_step.End (turn_end.Refused r))) e = omega arith
-  falls (EnterTurn purpose.Write) _ e = omega arith
-  falls (WaitTurn purpose.Write) (Turn turn_step.More) e = omega arith
-  falls (WaitTurn purpose.Write) (Turn (turn_step.End turn_end.Got)) e = omega arith
-  falls (WaitTurn purpose.Write) (Turn (turn_step.End (turn_end.Refused r))) e = omega arith
-  falls (WaitTurn purpose.Write) _ e = omega arith
-  falls (TakeTurn purpose.Write) (Turn turn_step.More) e = omega arith
-  falls (TakeTurn purpose.Write) (Turn (turn_step.End turn_end.Got)) e = omega arith
-  falls (TakeTurn purpose.Write) (Turn (turn_step.End (turn_end.Refused r))) e = omega arith
-  falls (TakeTurn purpose.Write) _ e = omega arith
-  falls (TryTurn purpose.UpgradableRead) (Turn (turn_step.End turn_end.Got)) e = omega arith
-  falls (TryTurn purpose.UpgradableRead) _ e = omega arith
-  falls (TryTurn purpose.Write) (Turn (turn_step.End turn_end.Got)) e = omega arith
-  falls (TryTurn purpose.Write) _ e = omega arith
-  falls CancelTurn (Turn turn_step.More) e = omega arith
+  falls (EnterTurn Purpose.UpgradableRead) (Turn Step.More) e = omega arith
+  falls (EnterTurn Purpose.UpgradableRead) (Turn (Step.End End.Got)) e = omega arith
+  falls (EnterTurn Purpose.UpgradableRead) (Turn (Step.End (End.Refused r))) e = omega arith
+  falls (EnterTurn Purpose.UpgradableRead) _ e = omega arith
+  falls (WaitTurn Purpose.UpgradableRead) (Turn Step.More) e = omega arith
+  falls (WaitTurn Purpose.UpgradableRead) (Turn (Step.End End.Got)) e = omega arith
+  falls (WaitTurn Purpose.UpgradableRead) (Turn (Step.End (End.Refused r))) e = omega arith
+  falls (WaitTurn Purpose.UpgradableRead) _ e = omega arith
+  falls (TakeTurn Purpose.UpgradableRead) (Turn Step.More) e = omega arith
+  falls (TakeTurn Purpose.UpgradableRead) (Turn (Step.End End.Got)) e = omega arith
+  falls (TakeTurn Purpose.UpgradableRead) (Turn (Step.End (End.Refused r))) e = omega arith
+  falls (TakeTurn Purpose.UpgradableRead) _ e = omega arith
+  falls (EnterTurn Purpose.Write) (Turn Step.More) e = omega arith
+  falls (EnterTurn Purpose.Write) (Turn (Step.End End.Got)) e = omega arith
+  falls (EnterTurn Purpose.Write) (Turn (Step.End (End.Refused r))) e = omega arith
+  falls (EnterTurn Purpose.Write) _ e = omega arith
+  falls (WaitTurn Purpose.Write) (Turn Step.More) e = omega arith
+  falls (WaitTurn Purpose.Write) (Turn (Step.End End.Got)) e = omega arith
+  falls (WaitTurn Purpose.Write) (Turn (Step.End (End.Refused r))) e = omega arith
+  falls (WaitTurn Purpose.Write) _ e = omega arith
+  falls (TakeTurn Purpose.Write) (Turn Step.More) e = omega arith
+  falls (TakeTurn Purpose.Write) (Turn (Step.End End.Got)) e = omega arith
+  falls (TakeTurn Purpose.Write) (Turn (Step.End (End.Refused r))) e = omega arith
+  falls (TakeTurn Purpose.Write) _ e = omega arith
+  falls (TryTurn Purpose.UpgradableRead) (Turn (Step.End End.Got)) e = omega arith
+  falls (TryTurn Purpose.UpgradableRead) _ e = omega arith
+  falls (TryTurn Purpose.Write) (Turn (Step.End End.Got)) e = omega arith
+  falls (TryTurn Purpose.Write) _ e = omega arith
+  falls CancelTurn (Turn Step.More) e = omega arith
   falls CancelTurn _ e = omega arith
-  falls CancellingTurn (Turn turn_step.More) e = omega arith
+  falls CancellingTurn (Turn Step.More) e = omega arith
   falls CancellingTurn _ e = omega arith
-  falls (ReleaseTurn ending.GivenBack) (Turn turn_step.More) e = omega arith
-  falls (ReleaseTurn ending.GivenBack) _ e = omega arith
-  falls (ReleaseTurn (ending.NotFree p)) (Turn turn_step.More) e = omega arith
-  falls (ReleaseTurn (ending.NotFree p)) _ e = omega arith
-  falls (ReleaseTurn ending.RefuseReaders) (Turn turn_step.More) e = omega arith
-  falls (ReleaseTurn ending.RefuseReaders) _ e = omega arith
-  falls (ReleaseTurn ending.RefuseMemory) (Turn turn_step.More) e = omega arith
-  falls (ReleaseTurn ending.RefuseMemory) _ e = omega arith
-  falls (ReleaseTurn ending.Reading) (Turn turn_step.More) e = omega arith
-  falls (ReleaseTurn ending.Reading) _ e = omega arith
-  falls (ReleaseTurn ending.NotifyReaders) (Turn turn_step.More) e = omega arith
-  falls (ReleaseTurn ending.NotifyReaders) _ e = omega arith
-  falls (ReleasingTurn ending.GivenBack) (Turn turn_step.More) e = omega arith
-  falls (ReleasingTurn ending.GivenBack) (Turn (turn_step.End ended)) e = omega arith
-  falls (ReleasingTurn ending.GivenBack) _ e = omega arith
-  falls (ReleasingTurn (ending.NotFree p)) (Turn turn_step.More) e = omega arith
-  falls (ReleasingTurn (ending.NotFree p)) (Turn (turn_step.End ended)) e = omega arith
-  falls (ReleasingTurn (ending.NotFree p)) _ e = omega arith
-  falls (ReleasingTurn ending.RefuseReaders) (Turn turn_step.More) e = omega arith
-  falls (ReleasingTurn ending.RefuseReaders) (Turn (turn_step.End ended)) e = omega arith
-  falls (ReleasingTurn ending.RefuseReaders) _ e = omega arith
-  falls (ReleasingTurn ending.RefuseMemory) (Turn turn_step.More) e = omega arith
-  falls (ReleasingTurn ending.RefuseMemory) (Turn (turn_step.End ended)) e = omega arith
-  falls (ReleasingTurn ending.RefuseMemory) _ e = omega arith
-  falls (ReleasingTurn ending.Reading) (Turn turn_step.More) e = omega arith
-  falls (ReleasingTurn ending.Reading) (Turn (turn_step.End ended)) e = omega arith
-  falls (ReleasingTurn ending.Reading) _ e = omega arith
-  falls (ReleasingTurn ending.NotifyReaders) (Turn turn_step.More) e = omega arith
-  falls (ReleasingTurn ending.NotifyReaders) (Turn (turn_step.End ended)) e = omega arith
-  falls (ReleasingTurn ending.NotifyReaders) _ e = omega arith
+  falls (ReleaseTurn Ending.GivenBack) (Turn Step.More) e = omega arith
+  falls (ReleaseTurn Ending.GivenBack) _ e = omega arith
+  falls (ReleaseTurn (Ending.NotFree p)) (Turn Step.More) e = omega arith
+  falls (ReleaseTurn (Ending.NotFree p)) _ e = omega arith
+  falls (ReleaseTurn Ending.RefuseReaders) (Turn Step.More) e = omega arith
+  falls (ReleaseTurn Ending.RefuseReaders) _ e = omega arith
+  falls (ReleaseTurn Ending.RefuseMemory) (Turn Step.More) e = omega arith
+  falls (ReleaseTurn Ending.RefuseMemory) _ e = omega arith
+  falls (ReleaseTurn Ending.Reading) (Turn Step.More) e = omega arith
+  falls (ReleaseTurn Ending.Reading) _ e = omega arith
+  falls (ReleaseTurn Ending.NotifyReaders) (Turn Step.More) e = omega arith
+  falls (ReleaseTurn Ending.NotifyReaders) _ e = omega arith
+  falls (ReleasingTurn Ending.GivenBack) (Turn Step.More) e = omega arith
+  falls (ReleasingTurn Ending.GivenBack) (Turn (Step.End ended)) e = omega arith
+  falls (ReleasingTurn Ending.GivenBack) _ e = omega arith
+  falls (ReleasingTurn (Ending.NotFree p)) (Turn Step.More) e = omega arith
+  falls (ReleasingTurn (Ending.NotFree p)) (Turn (Step.End ended)) e = omega arith
+  falls (ReleasingTurn (Ending.NotFree p)) _ e = omega arith
+  falls (ReleasingTurn Ending.RefuseReaders) (Turn Step.More) e = omega arith
+  falls (ReleasingTurn Ending.RefuseReaders) (Turn (Step.End ended)) e = omega arith
+  falls (ReleasingTurn Ending.RefuseReaders) _ e = omega arith
+  falls (ReleasingTurn Ending.RefuseMemory) (Turn Step.More) e = omega arith
+  falls (ReleasingTurn Ending.RefuseMemory) (Turn (Step.End ended)) e = omega arith
+  falls (ReleasingTurn Ending.RefuseMemory) _ e = omega arith
+  falls (ReleasingTurn Ending.Reading) (Turn Step.More) e = omega arith
+  falls (ReleasingTurn Ending.Reading) (Turn (Step.End ended)) e = omega arith
+  falls (ReleasingTurn Ending.Reading) _ e = omega arith
+  falls (ReleasingTurn Ending.NotifyReaders) (Turn Step.More) e = omega arith
+  falls (ReleasingTurn Ending.NotifyReaders) (Turn (Step.End ended)) e = omega arith
+  falls (ReleasingTurn Ending.NotifyReaders) _ e = omega arith
   falls (Add true) Done e = omega arith
   falls (Add true) _ e = omega arith
   falls (Add false) Done e = omega arith

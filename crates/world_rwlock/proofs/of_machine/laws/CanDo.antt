@@ -1,18 +1,6 @@
 -- Each action can be done where the program does it.
-use Rattle.std.proofs.Common.{◌≡◌, ℕ, ◌<◌, ◌≤◌, true, List, length, get_or, refl, ap, arith, ◌∙◌}
-use Rattle.std.specs.List.{sum_by}
-use Rattle.std.proofs.lemmas.List.Sums.{get_or-le-sum_by}
-use Rattle.world_base.specs.queue.Parties.{entries_of}
-use Rattle.world_base.specs.queue.Queues.{Queue}
-use Rattle.world_mutex.specs.machine.Mutex.{Mutex, course_at as turn_at}
-use Rattle.world_mutex.proofs.of_machine.callers.Callers.{may_lock, may_try, may_poll, may_cancel, may_release}
-use Rattle.world_rwlock.specs.declared.program.word.Word.{Word}
-use Rattle.lock_program.specs.declared.rwlock.Place.{Place}
-use Rattle.lock_program.specs.declared.rwlock.Place.TheVariants.{Out, JoinNoWriter, AskNoWriter, LeaveNoWriter, RefuseLeave, CancelRead, EnterTurn, WaitTurn, TakeTurn, TryTurn, CancelTurn, CancellingTurn, ReleaseTurn, ReleasingTurn, Upgrade, JoinNoReaders, AskNoReaders, LeaveNoReaders, DropRead, DropUpgradable, CancelAwait, Down}
-use Rattle.world_rwlock.specs.program.Program.{action_of}
-use Rattle.world_rwlock.specs.machine.Roles.{reads, writes, in_no_writer, in_no_readers, fits_turn}
+use Rattle.world_rwlock.proofs.Prelude.{◌≡◌, ℕ, ◌<◌, ◌≤◌, true, List, length, get_or, refl, ap, arith, ◌∙◌, sum_by, get_or-le-sum_by, entries_of, Queue, Mutex, turn_at, may_lock, may_try, may_poll, may_cancel, may_release, Word, Place, Out, JoinNoWriter, AskNoWriter, LeaveNoWriter, RefuseLeave, CancelRead, EnterTurn, WaitTurn, TakeTurn, TryTurn, CancelTurn, CancellingTurn, ReleaseTurn, ReleasingTurn, Upgrade, JoinNoReaders, AskNoReaders, LeaveNoReaders, DropRead, DropUpgradable, CancelAwait, Down, action_of, reads, writes, in_no_writer, in_no_readers, fits_turn, IsMachine, SameRoles, place_at}
 use Rattle.world_rwlock.specs.program.Effects.{CanDo}
-use Rattle.world_rwlock.specs.machine.Machine.{IsMachine, SameRoles, place_at}
 
 module _ (p : ℕ) (w : Word) (ps : List Place) (l m : Queue) (t : Mutex) (i : IsMachine w ps l m t) (known : p < length ps) where
   here : p < length t.courses

@@ -1,14 +1,5 @@
 -- Each step of a program fits its action. Written by generators/rwlock_rows.py.
-use Rattle.std.proofs.Common.{refl, true, false}
-use Rattle.lock_program.specs.declared.mutex.Step.TheVariants as turn_step
-use Rattle.lock_program.specs.declared.end.End.TheVariants as turn_end
-use Rattle.lock_program.specs.declared.rwlock.Purpose.TheVariants as purpose
-use Rattle.lock_program.specs.declared.rwlock.Ending.TheVariants as ending
-use Rattle.lock_program.specs.declared.rwlock.Place.{Place}
-use Rattle.lock_program.specs.declared.rwlock.Place.TheVariants.{Out, Made, Reading, Upgradable, Writing, EnterRead, JoinNoWriter, LookNoWriter, AskNoWriter, PassOn, LeaveNoWriter, RefuseLeave, RefuseNotify, CancelRead, TryRead, EnterTurn, WaitTurn, TakeTurn, TryTurn, CancelTurn, CancellingTurn, ReleaseTurn, ReleasingTurn, Add, TryUpgrade, Upgrade, Mark, TryWrite, JoinNoReaders, LookNoReaders, AskNoReaders, AwaitNoReaders, LookUnlisted, LeaveNoReaders, DropRead, DropReadNotify, DropUpgradable, DropUpgradableNotify, DropWrite, CancelAwait, Unmark, UnmarkNotify, Down, DownNotify, DowngradeNotify}
-use Rattle.lock_program.specs.declared.rwlock.Found.{Found}
-use Rattle.lock_program.specs.declared.rwlock.Found.TheVariants.{Done, Writer, NoneLeft, Yes, Turn}
-use Rattle.world_rwlock.specs.program.Program.{action_of, next_of, place_after}
+use Rattle.world_rwlock.proofs.Prelude.{refl, true, false, TurnStep as Step, End, Purpose, Ending, Place, Out, Made, Reading, Upgradable, Writing, EnterRead, JoinNoWriter, LookNoWriter, AskNoWriter, PassOn, LeaveNoWriter, RefuseLeave, RefuseNotify, CancelRead, TryRead, EnterTurn, WaitTurn, TakeTurn, TryTurn, CancelTurn, CancellingTurn, ReleaseTurn, ReleasingTurn, Add, TryUpgrade, Upgrade, Mark, TryWrite, JoinNoReaders, LookNoReaders, AskNoReaders, AwaitNoReaders, LookUnlisted, LeaveNoReaders, DropRead, DropReadNotify, DropUpgradable, DropUpgradableNotify, DropWrite, CancelAwait, Unmark, UnmarkNotify, Down, DownNotify, DowngradeNotify, Found, Done, Writer, NoneLeft, Yes, Turn, action_of, next_of, place_after}
 use Rattle.world_rwlock.proofs.of_machine.laws.Steps.{Fits}
 
 pub fits : (x : Place) (f : Found) → Fits (action_of x) f x (place_after (next_of x f))
@@ -41,56 +32,56 @@ fits CancelRead _ = record { reading = refl; marking = refl; standing_w = refl; 
 fits TryRead Done = record { reading = refl; marking = refl; standing_w = refl; standing_r = refl; set_by_turn = refl; cleared_by_own = refl; left_by_listed_w = refl; left_by_listed_r = refl; alone = tt; owed_w = refl; owed_r = tt }
 fits TryRead Writer = record { reading = refl; marking = refl; standing_w = refl; standing_r = refl; set_by_turn = refl; cleared_by_own = refl; left_by_listed_w = refl; left_by_listed_r = refl; alone = refl; owed_w = tt; owed_r = refl }
 fits TryRead _ = record { reading = refl; marking = refl; standing_w = refl; standing_r = refl; set_by_turn = refl; cleared_by_own = refl; left_by_listed_w = refl; left_by_listed_r = refl; alone = refl; owed_w = refl; owed_r = refl }
-fits (EnterTurn purpose.UpgradableRead) (Turn turn_step.More) = record { reading = refl; marking = refl; standing_w = refl; standing_r = refl; set_by_turn = refl; cleared_by_own = refl; left_by_listed_w = refl; left_by_listed_r = refl; alone = refl; owed_w = refl; owed_r = refl }
-fits (EnterTurn purpose.UpgradableRead) (Turn (turn_step.End turn_end.Got)) = record { reading = refl; marking = refl; standing_w = refl; standing_r = refl; set_by_turn = refl; cleared_by_own = refl; left_by_listed_w = refl; left_by_listed_r = refl; alone = refl; owed_w = refl; owed_r = refl }
-fits (EnterTurn purpose.UpgradableRead) (Turn (turn_step.End (turn_end.Refused r))) = record { reading = refl; marking = refl; standing_w = refl; standing_r = refl; set_by_turn = refl; cleared_by_own = refl; left_by_listed_w = refl; left_by_listed_r = refl; alone = refl; owed_w = refl; owed_r = refl }
-fits (EnterTurn purpose.UpgradableRead) _ = record { reading = refl; marking = refl; standing_w = refl; standing_r = refl; set_by_turn = refl; cleared_by_own = refl; left_by_listed_w = refl; left_by_listed_r = refl; alone = refl; owed_w = refl; owed_r = refl }
-fits (WaitTurn purpose.UpgradableRead) (Turn turn_step.More) = record { reading = refl; marking = refl; standing_w = refl; standing_r = refl; set_by_turn = refl; cleared_by_own = refl; left_by_listed_w = refl; left_by_listed_r = refl; alone = refl; owed_w = refl; owed_r = refl }
-fits (WaitTurn purpose.UpgradableRead) (Turn (turn_step.End turn_end.Got)) = record { reading = refl; marking = refl; standing_w = refl; standing_r = refl; set_by_turn = refl; cleared_by_own = refl; left_by_listed_w = refl; left_by_listed_r = refl; alone = refl; owed_w = refl; owed_r = refl }
-fits (WaitTurn purpose.UpgradableRead) (Turn (turn_step.End (turn_end.Refused r))) = record { reading = refl; marking = refl; standing_w = refl; standing_r = refl; set_by_turn = refl; cleared_by_own = refl; left_by_listed_w = refl; left_by_listed_r = refl; alone = refl; owed_w = refl; owed_r = refl }
-fits (WaitTurn purpose.UpgradableRead) _ = record { reading = refl; marking = refl; standing_w = refl; standing_r = refl; set_by_turn = refl; cleared_by_own = refl; left_by_listed_w = refl; left_by_listed_r = refl; alone = refl; owed_w = refl; owed_r = refl }
-fits (TakeTurn purpose.UpgradableRead) (Turn turn_step.More) = record { reading = refl; marking = refl; standing_w = refl; standing_r = refl; set_by_turn = refl; cleared_by_own = refl; left_by_listed_w = refl; left_by_listed_r = refl; alone = refl; owed_w = refl; owed_r = refl }
-fits (TakeTurn purpose.UpgradableRead) (Turn (turn_step.End turn_end.Got)) = record { reading = refl; marking = refl; standing_w = refl; standing_r = refl; set_by_turn = refl; cleared_by_own = refl; left_by_listed_w = refl; left_by_listed_r = refl; alone = refl; owed_w = refl; owed_r = refl }
-fits (TakeTurn purpose.UpgradableRead) (Turn (turn_step.End (turn_end.Refused r))) = record { reading = refl; marking = refl; standing_w = refl; standing_r = refl; set_by_turn = refl; cleared_by_own = refl; left_by_listed_w = refl; left_by_listed_r = refl; alone = refl; owed_w = refl; owed_r = refl }
-fits (TakeTurn purpose.UpgradableRead) _ = record { reading = refl; marking = refl; standing_w = refl; standing_r = refl; set_by_turn = refl; cleared_by_own = refl; left_by_listed_w = refl; left_by_listed_r = refl; alone = refl; owed_w = refl; owed_r = refl }
-fits (EnterTurn purpose.Write) (Turn turn_step.More) = record { reading = refl; marking = refl; standing_w = refl; standing_r = refl; set_by_turn = refl; cleared_by_own = refl; left_by_listed_w = refl; left_by_listed_r = refl; alone = refl; owed_w = refl; owed_r = refl }
-fits (EnterTurn purpose.Write) (Turn (turn_step.End turn_end.Got)) = record { reading = refl; marking = refl; standing_w = refl; standing_r = refl; set_by_turn = refl; cleared_by_own = refl; left_by_listed_w = refl; left_by_listed_r = refl; alone = refl; owed_w = refl; owed_r = refl }
-fits (EnterTurn purpose.Write) (Turn (turn_step.End (turn_end.Refused r))) = record { reading = refl; marking = refl; standing_w = refl; standing_r = refl; set_by_turn = refl; cleared_by_own = refl; left_by_listed_w = refl; left_by_listed_r = refl; alone = refl; owed_w = refl; owed_r = refl }
-fits (EnterTurn purpose.Write) _ = record { reading = refl; marking = refl; standing_w = refl; standing_r = refl; set_by_turn = refl; cleared_by_own = refl; left_by_listed_w = refl; left_by_listed_r = refl; alone = refl; owed_w = refl; owed_r = refl }
-fits (WaitTurn purpose.Write) (Turn turn_step.More) = record { reading = refl; marking = refl; standing_w = refl; standing_r = refl; set_by_turn = refl; cleared_by_own = refl; left_by_listed_w = refl; left_by_listed_r = refl; alone = refl; owed_w = refl; owed_r = refl }
-fits (WaitTurn purpose.Write) (Turn (turn_step.End turn_end.Got)) = record { reading = refl; marking = refl; standing_w = refl; standing_r = refl; set_by_turn = refl; cleared_by_own = refl; left_by_listed_w = refl; left_by_listed_r = refl; alone = refl; owed_w = refl; owed_r = refl }
-fits (WaitTurn purpose.Write) (Turn (turn_step.End (turn_end.Refused r))) = record { reading = refl; marking = refl; standing_w = refl; standing_r = refl; set_by_turn = refl; cleared_by_own = refl; left_by_listed_w = refl; left_by_listed_r = refl; alone = refl; owed_w = refl; owed_r = refl }
-fits (WaitTurn purpose.Write) _ = record { reading = refl; marking = refl; standing_w = refl; standing_r = refl; set_by_turn = refl; cleared_by_own = refl; left_by_listed_w = refl; left_by_listed_r = refl; alone = refl; owed_w = refl; owed_r = refl }
-fits (TakeTurn purpose.Write) (Turn turn_step.More) = record { reading = refl; marking = refl; standing_w = refl; standing_r = refl; set_by_turn = refl; cleared_by_own = refl; left_by_listed_w = refl; left_by_listed_r = refl; alone = refl; owed_w = refl; owed_r = refl }
-fits (TakeTurn purpose.Write) (Turn (turn_step.End turn_end.Got)) = record { reading = refl; marking = refl; standing_w = refl; standing_r = refl; set_by_turn = refl; cleared_by_own = refl; left_by_listed_w = refl; left_by_listed_r = refl; alone = refl; owed_w = refl; owed_r = refl }
-fits (TakeTurn purpose.Write) (Turn (turn_step.End (turn_end.Refused r))) = record { reading = refl; marking = refl; standing_w = refl; standing_r = refl; set_by_turn = refl; cleared_by_own = refl; left_by_listed_w = refl; left_by_listed_r = refl; alone = refl; owed_w = refl; owed_r = refl }
-fits (TakeTurn purpose.Write) _ = record { reading = refl; marking = refl; standing_w = refl; standing_r = refl; set_by_turn = refl; cleared_by_own = refl; left_by_listed_w = refl; left_by_listed_r = refl; alone = refl; owed_w = refl; owed_r = refl }
-fits (TryTurn purpose.UpgradableRead) (Turn (turn_step.End turn_end.Got)) = record { reading = refl; marking = refl; standing_w = refl; standing_r = refl; set_by_turn = refl; cleared_by_own = refl; left_by_listed_w = refl; left_by_listed_r = refl; alone = refl; owed_w = refl; owed_r = refl }
-fits (TryTurn purpose.UpgradableRead) _ = record { reading = refl; marking = refl; standing_w = refl; standing_r = refl; set_by_turn = refl; cleared_by_own = refl; left_by_listed_w = refl; left_by_listed_r = refl; alone = refl; owed_w = refl; owed_r = refl }
-fits (TryTurn purpose.Write) (Turn (turn_step.End turn_end.Got)) = record { reading = refl; marking = refl; standing_w = refl; standing_r = refl; set_by_turn = refl; cleared_by_own = refl; left_by_listed_w = refl; left_by_listed_r = refl; alone = refl; owed_w = refl; owed_r = refl }
-fits (TryTurn purpose.Write) _ = record { reading = refl; marking = refl; standing_w = refl; standing_r = refl; set_by_turn = refl; cleared_by_own = refl; left_by_listed_w = refl; left_by_listed_r = refl; alone = refl; owed_w = refl; owed_r = refl }
-fits CancelTurn (Turn turn_step.More) = record { reading = refl; marking = refl; standing_w = refl; standing_r = refl; set_by_turn = refl; cleared_by_own = refl; left_by_listed_w = refl; left_by_listed_r = refl; alone = refl; owed_w = refl; owed_r = refl }
+fits (EnterTurn Purpose.UpgradableRead) (Turn Step.More) = record { reading = refl; marking = refl; standing_w = refl; standing_r = refl; set_by_turn = refl; cleared_by_own = refl; left_by_listed_w = refl; left_by_listed_r = refl; alone = refl; owed_w = refl; owed_r = refl }
+fits (EnterTurn Purpose.UpgradableRead) (Turn (Step.End End.Got)) = record { reading = refl; marking = refl; standing_w = refl; standing_r = refl; set_by_turn = refl; cleared_by_own = refl; left_by_listed_w = refl; left_by_listed_r = refl; alone = refl; owed_w = refl; owed_r = refl }
+fits (EnterTurn Purpose.UpgradableRead) (Turn (Step.End (End.Refused r))) = record { reading = refl; marking = refl; standing_w = refl; standing_r = refl; set_by_turn = refl; cleared_by_own = refl; left_by_listed_w = refl; left_by_listed_r = refl; alone = refl; owed_w = refl; owed_r = refl }
+fits (EnterTurn Purpose.UpgradableRead) _ = record { reading = refl; marking = refl; standing_w = refl; standing_r = refl; set_by_turn = refl; cleared_by_own = refl; left_by_listed_w = refl; left_by_listed_r = refl; alone = refl; owed_w = refl; owed_r = refl }
+fits (WaitTurn Purpose.UpgradableRead) (Turn Step.More) = record { reading = refl; marking = refl; standing_w = refl; standing_r = refl; set_by_turn = refl; cleared_by_own = refl; left_by_listed_w = refl; left_by_listed_r = refl; alone = refl; owed_w = refl; owed_r = refl }
+fits (WaitTurn Purpose.UpgradableRead) (Turn (Step.End End.Got)) = record { reading = refl; marking = refl; standing_w = refl; standing_r = refl; set_by_turn = refl; cleared_by_own = refl; left_by_listed_w = refl; left_by_listed_r = refl; alone = refl; owed_w = refl; owed_r = refl }
+fits (WaitTurn Purpose.UpgradableRead) (Turn (Step.End (End.Refused r))) = record { reading = refl; marking = refl; standing_w = refl; standing_r = refl; set_by_turn = refl; cleared_by_own = refl; left_by_listed_w = refl; left_by_listed_r = refl; alone = refl; owed_w = refl; owed_r = refl }
+fits (WaitTurn Purpose.UpgradableRead) _ = record { reading = refl; marking = refl; standing_w = refl; standing_r = refl; set_by_turn = refl; cleared_by_own = refl; left_by_listed_w = refl; left_by_listed_r = refl; alone = refl; owed_w = refl; owed_r = refl }
+fits (TakeTurn Purpose.UpgradableRead) (Turn Step.More) = record { reading = refl; marking = refl; standing_w = refl; standing_r = refl; set_by_turn = refl; cleared_by_own = refl; left_by_listed_w = refl; left_by_listed_r = refl; alone = refl; owed_w = refl; owed_r = refl }
+fits (TakeTurn Purpose.UpgradableRead) (Turn (Step.End End.Got)) = record { reading = refl; marking = refl; standing_w = refl; standing_r = refl; set_by_turn = refl; cleared_by_own = refl; left_by_listed_w = refl; left_by_listed_r = refl; alone = refl; owed_w = refl; owed_r = refl }
+fits (TakeTurn Purpose.UpgradableRead) (Turn (Step.End (End.Refused r))) = record { reading = refl; marking = refl; standing_w = refl; standing_r = refl; set_by_turn = refl; cleared_by_own = refl; left_by_listed_w = refl; left_by_listed_r = refl; alone = refl; owed_w = refl; owed_r = refl }
+fits (TakeTurn Purpose.UpgradableRead) _ = record { reading = refl; marking = refl; standing_w = refl; standing_r = refl; set_by_turn = refl; cleared_by_own = refl; left_by_listed_w = refl; left_by_listed_r = refl; alone = refl; owed_w = refl; owed_r = refl }
+fits (EnterTurn Purpose.Write) (Turn Step.More) = record { reading = refl; marking = refl; standing_w = refl; standing_r = refl; set_by_turn = refl; cleared_by_own = refl; left_by_listed_w = refl; left_by_listed_r = refl; alone = refl; owed_w = refl; owed_r = refl }
+fits (EnterTurn Purpose.Write) (Turn (Step.End End.Got)) = record { reading = refl; marking = refl; standing_w = refl; standing_r = refl; set_by_turn = refl; cleared_by_own = refl; left_by_listed_w = refl; left_by_listed_r = refl; alone = refl; owed_w = refl; owed_r = refl }
+fits (EnterTurn Purpose.Write) (Turn (Step.End (End.Refused r))) = record { reading = refl; marking = refl; standing_w = refl; standing_r = refl; set_by_turn = refl; cleared_by_own = refl; left_by_listed_w = refl; left_by_listed_r = refl; alone = refl; owed_w = refl; owed_r = refl }
+fits (EnterTurn Purpose.Write) _ = record { reading = refl; marking = refl; standing_w = refl; standing_r = refl; set_by_turn = refl; cleared_by_own = refl; left_by_listed_w = refl; left_by_listed_r = refl; alone = refl; owed_w = refl; owed_r = refl }
+fits (WaitTurn Purpose.Write) (Turn Step.More) = record { reading = refl; marking = refl; standing_w = refl; standing_r = refl; set_by_turn = refl; cleared_by_own = refl; left_by_listed_w = refl; left_by_listed_r = refl; alone = refl; owed_w = refl; owed_r = refl }
+fits (WaitTurn Purpose.Write) (Turn (Step.End End.Got)) = record { reading = refl; marking = refl; standing_w = refl; standing_r = refl; set_by_turn = refl; cleared_by_own = refl; left_by_listed_w = refl; left_by_listed_r = refl; alone = refl; owed_w = refl; owed_r = refl }
+fits (WaitTurn Purpose.Write) (Turn (Step.End (End.Refused r))) = record { reading = refl; marking = refl; standing_w = refl; standing_r = refl; set_by_turn = refl; cleared_by_own = refl; left_by_listed_w = refl; left_by_listed_r = refl; alone = refl; owed_w = refl; owed_r = refl }
+fits (WaitTurn Purpose.Write) _ = record { reading = refl; marking = refl; standing_w = refl; standing_r = refl; set_by_turn = refl; cleared_by_own = refl; left_by_listed_w = refl; left_by_listed_r = refl; alone = refl; owed_w = refl; owed_r = refl }
+fits (TakeTurn Purpose.Write) (Turn Step.More) = record { reading = refl; marking = refl; standing_w = refl; standing_r = refl; set_by_turn = refl; cleared_by_own = refl; left_by_listed_w = refl; left_by_listed_r = refl; alone = refl; owed_w = refl; owed_r = refl }
+fits (TakeTurn Purpose.Write) (Turn (Step.End End.Got)) = record { reading = refl; marking = refl; standing_w = refl; standing_r = refl; set_by_turn = refl; cleared_by_own = refl; left_by_listed_w = refl; left_by_listed_r = refl; alone = refl; owed_w = refl; owed_r = refl }
+fits (TakeTurn Purpose.Write) (Turn (Step.End (End.Refused r))) = record { reading = refl; marking = refl; standing_w = refl; standing_r = refl; set_by_turn = refl; cleared_by_own = refl; left_by_listed_w = refl; left_by_listed_r = refl; alone = refl; owed_w = refl; owed_r = refl }
+fits (TakeTurn Purpose.Write) _ = record { reading = refl; marking = refl; standing_w = refl; standing_r = refl; set_by_turn = refl; cleared_by_own = refl; left_by_listed_w = refl; left_by_listed_r = refl; alone = refl; owed_w = refl; owed_r = refl }
+fits (TryTurn Purpose.UpgradableRead) (Turn (Step.End End.Got)) = record { reading = refl; marking = refl; standing_w = refl; standing_r = refl; set_by_turn = refl; cleared_by_own = refl; left_by_listed_w = refl; left_by_listed_r = refl; alone = refl; owed_w = refl; owed_r = refl }
+fits (TryTurn Purpose.UpgradableRead) _ = record { reading = refl; marking = refl; standing_w = refl; standing_r = refl; set_by_turn = refl; cleared_by_own = refl; left_by_listed_w = refl; left_by_listed_r = refl; alone = refl; owed_w = refl; owed_r = refl }
+fits (TryTurn Purpose.Write) (Turn (Step.End End.Got)) = record { reading = refl; marking = refl; standing_w = refl; standing_r = refl; set_by_turn = refl; cleared_by_own = refl; left_by_listed_w = refl; left_by_listed_r = refl; alone = refl; owed_w = refl; owed_r = refl }
+fits (TryTurn Purpose.Write) _ = record { reading = refl; marking = refl; standing_w = refl; standing_r = refl; set_by_turn = refl; cleared_by_own = refl; left_by_listed_w = refl; left_by_listed_r = refl; alone = refl; owed_w = refl; owed_r = refl }
+fits CancelTurn (Turn Step.More) = record { reading = refl; marking = refl; standing_w = refl; standing_r = refl; set_by_turn = refl; cleared_by_own = refl; left_by_listed_w = refl; left_by_listed_r = refl; alone = refl; owed_w = refl; owed_r = refl }
 fits CancelTurn _ = record { reading = refl; marking = refl; standing_w = refl; standing_r = refl; set_by_turn = refl; cleared_by_own = refl; left_by_listed_w = refl; left_by_listed_r = refl; alone = refl; owed_w = refl; owed_r = refl }
-fits CancellingTurn (Turn turn_step.More) = record { reading = refl; marking = refl; standing_w = refl; standing_r = refl; set_by_turn = refl; cleared_by_own = refl; left_by_listed_w = refl; left_by_listed_r = refl; alone = refl; owed_w = refl; owed_r = refl }
+fits CancellingTurn (Turn Step.More) = record { reading = refl; marking = refl; standing_w = refl; standing_r = refl; set_by_turn = refl; cleared_by_own = refl; left_by_listed_w = refl; left_by_listed_r = refl; alone = refl; owed_w = refl; owed_r = refl }
 fits CancellingTurn _ = record { reading = refl; marking = refl; standing_w = refl; standing_r = refl; set_by_turn = refl; cleared_by_own = refl; left_by_listed_w = refl; left_by_listed_r = refl; alone = refl; owed_w = refl; owed_r = refl }
-fits (ReleaseTurn ending.GivenBack) (Turn turn_step.More) = record { reading = refl; marking = refl; standing_w = refl; standing_r = refl; set_by_turn = refl; cleared_by_own = refl; left_by_listed_w = refl; left_by_listed_r = refl; alone = refl; owed_w = refl; owed_r = refl }
-fits (ReleaseTurn ending.GivenBack) _ = record { reading = refl; marking = refl; standing_w = refl; standing_r = refl; set_by_turn = refl; cleared_by_own = refl; left_by_listed_w = refl; left_by_listed_r = refl; alone = refl; owed_w = refl; owed_r = refl }
-fits (ReleaseTurn (ending.NotFree p)) (Turn turn_step.More) = record { reading = refl; marking = refl; standing_w = refl; standing_r = refl; set_by_turn = refl; cleared_by_own = refl; left_by_listed_w = refl; left_by_listed_r = refl; alone = refl; owed_w = refl; owed_r = refl }
-fits (ReleaseTurn (ending.NotFree p)) _ = record { reading = refl; marking = refl; standing_w = refl; standing_r = refl; set_by_turn = refl; cleared_by_own = refl; left_by_listed_w = refl; left_by_listed_r = refl; alone = refl; owed_w = refl; owed_r = refl }
-fits (ReleaseTurn ending.RefuseReaders) (Turn turn_step.More) = record { reading = refl; marking = refl; standing_w = refl; standing_r = refl; set_by_turn = refl; cleared_by_own = refl; left_by_listed_w = refl; left_by_listed_r = refl; alone = refl; owed_w = refl; owed_r = refl }
-fits (ReleaseTurn ending.RefuseReaders) _ = record { reading = refl; marking = refl; standing_w = refl; standing_r = refl; set_by_turn = refl; cleared_by_own = refl; left_by_listed_w = refl; left_by_listed_r = refl; alone = refl; owed_w = refl; owed_r = refl }
-fits (ReleaseTurn ending.RefuseMemory) (Turn turn_step.More) = record { reading = refl; marking = refl; standing_w = refl; standing_r = refl; set_by_turn = refl; cleared_by_own = refl; left_by_listed_w = refl; left_by_listed_r = refl; alone = refl; owed_w = refl; owed_r = refl }
-fits (ReleaseTurn ending.RefuseMemory) _ = record { reading = refl; marking = refl; standing_w = refl; standing_r = refl; set_by_turn = refl; cleared_by_own = refl; left_by_listed_w = refl; left_by_listed_r = refl; alone = refl; owed_w = refl; owed_r = refl }
-fits (ReleaseTurn ending.Reading) (Turn turn_step.More) = record { reading = refl; marking = refl; standing_w = refl; standing_r = refl; set_by_turn = refl; cleared_by_own = refl; left_by_listed_w = refl; left_by_listed_r = refl; alone = refl; owed_w = refl; owed_r = refl }
-fits (ReleaseTurn ending.Reading) _ = record { reading = refl; marking = refl; standing_w = refl; standing_r = refl; set_by_turn = refl; cleared_by_own = refl; left_by_listed_w = refl; left_by_listed_r = refl; alone = refl; owed_w = refl; owed_r = refl }
-fits (ReleaseTurn ending.NotifyReaders) (Turn turn_step.More) = record { reading = refl; marking = refl; standing_w = refl; standing_r = refl; set_by_turn = refl; cleared_by_own = refl; left_by_listed_w = refl; left_by_listed_r = refl; alone = refl; owed_w = refl; owed_r = refl }
-fits (ReleaseTurn ending.NotifyReaders) _ = record { reading = refl; marking = refl; standing_w = refl; standing_r = refl; set_by_turn = refl; cleared_by_own = refl; left_by_listed_w = refl; left_by_listed_r = refl; alone = refl; owed_w = refl; owed_r = refl }
-fits (ReleasingTurn ending.GivenBack) _ = record { reading = refl; marking = refl; standing_w = refl; standing_r = refl; set_by_turn = refl; cleared_by_own = refl; left_by_listed_w = refl; left_by_listed_r = refl; alone = refl; owed_w = refl; owed_r = refl }
-fits (ReleasingTurn (ending.NotFree p)) _ = record { reading = refl; marking = refl; standing_w = refl; standing_r = refl; set_by_turn = refl; cleared_by_own = refl; left_by_listed_w = refl; left_by_listed_r = refl; alone = refl; owed_w = refl; owed_r = refl }
-fits (ReleasingTurn ending.RefuseReaders) _ = record { reading = refl; marking = refl; standing_w = refl; standing_r = refl; set_by_turn = refl; cleared_by_own = refl; left_by_listed_w = refl; left_by_listed_r = refl; alone = refl; owed_w = refl; owed_r = refl }
-fits (ReleasingTurn ending.RefuseMemory) _ = record { reading = refl; marking = refl; standing_w = refl; standing_r = refl; set_by_turn = refl; cleared_by_own = refl; left_by_listed_w = refl; left_by_listed_r = refl; alone = refl; owed_w = refl; owed_r = refl }
-fits (ReleasingTurn ending.Reading) _ = record { reading = refl; marking = refl; standing_w = refl; standing_r = refl; set_by_turn = refl; cleared_by_own = refl; left_by_listed_w = refl; left_by_listed_r = refl; alone = refl; owed_w = refl; owed_r = refl }
-fits (ReleasingTurn ending.NotifyReaders) _ = record { reading = refl; marking = refl; standing_w = refl; standing_r = refl; set_by_turn = refl; cleared_by_own = refl; left_by_listed_w = refl; left_by_listed_r = refl; alone = refl; owed_w = refl; owed_r = refl }
+fits (ReleaseTurn Ending.GivenBack) (Turn Step.More) = record { reading = refl; marking = refl; standing_w = refl; standing_r = refl; set_by_turn = refl; cleared_by_own = refl; left_by_listed_w = refl; left_by_listed_r = refl; alone = refl; owed_w = refl; owed_r = refl }
+fits (ReleaseTurn Ending.GivenBack) _ = record { reading = refl; marking = refl; standing_w = refl; standing_r = refl; set_by_turn = refl; cleared_by_own = refl; left_by_listed_w = refl; left_by_listed_r = refl; alone = refl; owed_w = refl; owed_r = refl }
+fits (ReleaseTurn (Ending.NotFree p)) (Turn Step.More) = record { reading = refl; marking = refl; standing_w = refl; standing_r = refl; set_by_turn = refl; cleared_by_own = refl; left_by_listed_w = refl; left_by_listed_r = refl; alone = refl; owed_w = refl; owed_r = refl }
+fits (ReleaseTurn (Ending.NotFree p)) _ = record { reading = refl; marking = refl; standing_w = refl; standing_r = refl; set_by_turn = refl; cleared_by_own = refl; left_by_listed_w = refl; left_by_listed_r = refl; alone = refl; owed_w = refl; owed_r = refl }
+fits (ReleaseTurn Ending.RefuseReaders) (Turn Step.More) = record { reading = refl; marking = refl; standing_w = refl; standing_r = refl; set_by_turn = refl; cleared_by_own = refl; left_by_listed_w = refl; left_by_listed_r = refl; alone = refl; owed_w = refl; owed_r = refl }
+fits (ReleaseTurn Ending.RefuseReaders) _ = record { reading = refl; marking = refl; standing_w = refl; standing_r = refl; set_by_turn = refl; cleared_by_own = refl; left_by_listed_w = refl; left_by_listed_r = refl; alone = refl; owed_w = refl; owed_r = refl }
+fits (ReleaseTurn Ending.RefuseMemory) (Turn Step.More) = record { reading = refl; marking = refl; standing_w = refl; standing_r = refl; set_by_turn = refl; cleared_by_own = refl; left_by_listed_w = refl; left_by_listed_r = refl; alone = refl; owed_w = refl; owed_r = refl }
+fits (ReleaseTurn Ending.RefuseMemory) _ = record { reading = refl; marking = refl; standing_w = refl; standing_r = refl; set_by_turn = refl; cleared_by_own = refl; left_by_listed_w = refl; left_by_listed_r = refl; alone = refl; owed_w = refl; owed_r = refl }
+fits (ReleaseTurn Ending.Reading) (Turn Step.More) = record { reading = refl; marking = refl; standing_w = refl; standing_r = refl; set_by_turn = refl; cleared_by_own = refl; left_by_listed_w = refl; left_by_listed_r = refl; alone = refl; owed_w = refl; owed_r = refl }
+fits (ReleaseTurn Ending.Reading) _ = record { reading = refl; marking = refl; standing_w = refl; standing_r = refl; set_by_turn = refl; cleared_by_own = refl; left_by_listed_w = refl; left_by_listed_r = refl; alone = refl; owed_w = refl; owed_r = refl }
+fits (ReleaseTurn Ending.NotifyReaders) (Turn Step.More) = record { reading = refl; marking = refl; standing_w = refl; standing_r = refl; set_by_turn = refl; cleared_by_own = refl; left_by_listed_w = refl; left_by_listed_r = refl; alone = refl; owed_w = refl; owed_r = refl }
+fits (ReleaseTurn Ending.NotifyReaders) _ = record { reading = refl; marking = refl; standing_w = refl; standing_r = refl; set_by_turn = refl; cleared_by_own = refl; left_by_listed_w = refl; left_by_listed_r = refl; alone = refl; owed_w = refl; owed_r = refl }
+fits (ReleasingTurn Ending.GivenBack) _ = record { reading = refl; marking = refl; standing_w = refl; standing_r = refl; set_by_turn = refl; cleared_by_own = refl; left_by_listed_w = refl; left_by_listed_r = refl; alone = refl; owed_w = refl; owed_r = refl }
+fits (ReleasingTurn (Ending.NotFree p)) _ = record { reading = refl; marking = refl; standing_w = refl; standing_r = refl; set_by_turn = refl; cleared_by_own = refl; left_by_listed_w = refl; left_by_listed_r = refl; alone = refl; owed_w = refl; owed_r = refl }
+fits (ReleasingTurn Ending.RefuseReaders) _ = record { reading = refl; marking = refl; standing_w = refl; standing_r = refl; set_by_turn = refl; cleared_by_own = refl; left_by_listed_w = refl; left_by_listed_r = refl; alone = refl; owed_w = refl; owed_r = refl }
+fits (ReleasingTurn Ending.RefuseMemory) _ = record { reading = refl; marking = refl; standing_w = refl; standing_r = refl; set_by_turn = refl; cleared_by_own = refl; left_by_listed_w = refl; left_by_listed_r = refl; alone = refl; owed_w = refl; owed_r = refl }
+fits (ReleasingTurn Ending.Reading) _ = record { reading = refl; marking = refl; standing_w = refl; standing_r = refl; set_by_turn = refl; cleared_by_own = refl; left_by_listed_w = refl; left_by_listed_r = refl; alone = refl; owed_w = refl; owed_r = refl }
+fits (ReleasingTurn Ending.NotifyReaders) _ = record { reading = refl; marking = refl; standing_w = refl; standing_r = refl; set_by_turn = refl; cleared_by_own = refl; left_by_listed_w = refl; left_by_listed_r = refl; alone = refl; owed_w = refl; owed_r = refl }
 fits (Add true) Done = record { reading = refl; marking = refl; standing_w = refl; standing_r = refl; set_by_turn = refl; cleared_by_own = refl; left_by_listed_w = refl; left_by_listed_r = refl; alone = refl; owed_w = refl; owed_r = tt }
 fits (Add true) _ = record { reading = refl; marking = refl; standing_w = refl; standing_r = refl; set_by_turn = refl; cleared_by_own = refl; left_by_listed_w = refl; left_by_listed_r = refl; alone = refl; owed_w = refl; owed_r = refl }
 fits (Add false) Done = record { reading = refl; marking = refl; standing_w = refl; standing_r = refl; set_by_turn = refl; cleared_by_own = refl; left_by_listed_w = refl; left_by_listed_r = refl; alone = refl; owed_w = refl; owed_r = tt }

@@ -1,20 +1,9 @@
 -- Each action keeps what always holds of the numbers.
-use Rattle.std.proofs.Common.{◌≡◌, ℕ, ◌+◌, ◌-◌, ◌<◌, ◌≤◌, zero, suc, true, nat_eq, List, length, refl, ap, arith}
-use Rattle.std.proofs.lemmas.Bool.Decides.{nat_tests}
-use Rattle.lock_event.specs.declared.event.Entry.{Entry}
-use Rattle.lock_event.specs.Lists.{marked_count}
+use Rattle.world_rwlock.proofs.Prelude.{◌≡◌, ℕ, ◌+◌, ◌-◌, ◌<◌, ◌≤◌, zero, suc, true, nat_eq, List, length, refl, ap, arith, nat_tests, Entry, marked_count, Word, Place, Action, Found, Done, Writer, Full, NoneLeft, SomeLeft, Yes, No, bit, reads, marks, only_turns, writes, in_no_writer, waits_no_writer, owes_no_writer, in_no_readers, waits_no_readers, owes_no_readers, OnWord, OnNoWriter, OnNoReaders, Counts, tally_of}
 use Rattle.world_base.specs.queue.Debts.{IsOwed}
 use Rattle.world_base.proofs.of_queue.Debts.{debt_kept}
-use Rattle.world_rwlock.specs.declared.program.word.Word.{Word}
-use Rattle.lock_program.specs.declared.rwlock.Place.{Place}
-use Rattle.lock_program.specs.declared.rwlock.Action.{Action}
-use Rattle.lock_program.specs.declared.rwlock.Action.TheVariants as act
-use Rattle.lock_program.specs.declared.rwlock.Found.{Found}
-use Rattle.lock_program.specs.declared.rwlock.Found.TheVariants.{Done, Writer, Full, NoneLeft, SomeLeft, NotFree, Yes, No}
-use Rattle.world_rwlock.specs.machine.Roles.{bit, reads, marks, only_turns, writes, in_no_writer, waits_no_writer, owes_no_writer, in_no_readers, waits_no_readers, owes_no_readers}
-use Rattle.world_rwlock.specs.program.Words.{OnWord}
-use Rattle.world_rwlock.specs.program.Parties.{OnNoWriter, OnNoReaders}
-use Rattle.world_rwlock.specs.machine.Tally.{Counts, IsSound, tally_of}
+use Rattle.lock_program.specs.declared.rwlock.Found.TheVariants.{NotFree}
+use Rattle.world_rwlock.specs.machine.Tally.{IsSound}
 use Rattle.world_rwlock.proofs.of_machine.laws.Places.{IsCounted}
 use Rattle.world_rwlock.proofs.of_machine.laws.Steps.{on, off, sets, clears, in_w, out_w, in_r, out_r, taken_w, taken_r, keeps, Fits}
 use Rattle.world_rwlock.proofs.of_machine.laws.Lines.{Line, told}
@@ -55,36 +44,36 @@ module _ (v w : Word) where
     pub writer : bit w.writer + clears a f ≡ bit v.writer + sets a f
 
   pub follows : (a : Action) (f : Found) → OnWord a f v w → (0 < sets a f → bit v.writer ≡ 0) → (0 < clears a f → bit v.writer ≡ 1) → Follows a f
-  follows act.Nothing Done e s c = record { readers = omega (arith, rd e); writer = omega (arith, bt e) }
-  follows act.Nothing _ e s c = absurd e
-  follows act.Read Done e s c = record { readers = omega (arith, rd e.2); writer = omega (arith, bt e.2, ap bit e.0) }
-  follows act.Read Writer e s c = record { readers = omega (arith, rd e.1); writer = omega (arith, bt e.1) }
-  follows act.Read Full e s c = record { readers = omega (arith, rd e.2); writer = omega (arith, bt e.2) }
-  follows act.Read _ e s c = absurd e
-  follows act.Add Done e s c = record { readers = omega (arith, rd e.1); writer = omega (arith, bt e.1) }
-  follows act.Add Full e s c = record { readers = omega (arith, rd e.1); writer = omega (arith, bt e.1) }
-  follows act.Add _ e s c = absurd e
-  follows act.Off NoneLeft e s c = record { readers = omega (arith, rd e.1, e.0); writer = omega (arith, bt e.1) }
-  follows act.Off SomeLeft e s c = record { readers = omega (arith, e.1); writer = omega (arith, bt e.2) }
-  follows act.Off _ e s c = absurd e
-  follows act.Load NoneLeft e s c = record { readers = omega (arith, rd e.1); writer = omega (arith, bt e.1) }
-  follows act.Load SomeLeft e s c = record { readers = omega (arith, rd e.1); writer = omega (arith, bt e.1) }
-  follows act.Load _ e s c = absurd e
-  follows act.Mark NoneLeft e s c = record { readers = omega (arith, rd e.1); writer = omega (arith, bt e.1, s (omega arith)) }
-  follows act.Mark SomeLeft e s c = record { readers = omega (arith, rd e.1); writer = omega (arith, bt e.1, s (omega arith)) }
-  follows act.Mark _ e s c = absurd e
-  follows act.TryWrite Done e s c = record { readers = omega (arith, rd e.2); writer = omega (arith, bt e.2, ap bit e.0) }
-  follows act.TryWrite NotFree e s c = record { readers = omega (arith, rd e.1); writer = omega (arith, bt e.1) }
-  follows act.TryWrite _ e s c = absurd e
-  follows act.TryUpgrade Done e s c = record { readers = omega (arith, rd e.2, e.1); writer = omega (arith, bt e.2, ap bit e.0) }
-  follows act.TryUpgrade NotFree e s c = record { readers = omega (arith, rd e.1); writer = omega (arith, bt e.1) }
-  follows act.TryUpgrade _ e s c = absurd e
-  follows act.Upgrade Done e s c = record { readers = omega (arith, e.0); writer = omega (arith, bt e.1, s (omega arith)) }
-  follows act.Upgrade _ e s c = absurd e
-  follows act.Down Done e s c = record { readers = omega (arith, rd e); writer = omega (arith, bt e, c (omega arith)) }
-  follows act.Down _ e s c = absurd e
-  follows act.Unmark Done e s c = record { readers = omega (arith, rd e); writer = omega (arith, bt e, c (omega arith)) }
-  follows act.Unmark _ e s c = absurd e
+  follows Action.Nothing Done e s c = record { readers = omega (arith, rd e); writer = omega (arith, bt e) }
+  follows Action.Nothing _ e s c = absurd e
+  follows Action.Read Done e s c = record { readers = omega (arith, rd e.2); writer = omega (arith, bt e.2, ap bit e.0) }
+  follows Action.Read Writer e s c = record { readers = omega (arith, rd e.1); writer = omega (arith, bt e.1) }
+  follows Action.Read Full e s c = record { readers = omega (arith, rd e.2); writer = omega (arith, bt e.2) }
+  follows Action.Read _ e s c = absurd e
+  follows Action.Add Done e s c = record { readers = omega (arith, rd e.1); writer = omega (arith, bt e.1) }
+  follows Action.Add Full e s c = record { readers = omega (arith, rd e.1); writer = omega (arith, bt e.1) }
+  follows Action.Add _ e s c = absurd e
+  follows Action.Off NoneLeft e s c = record { readers = omega (arith, rd e.1, e.0); writer = omega (arith, bt e.1) }
+  follows Action.Off SomeLeft e s c = record { readers = omega (arith, e.1); writer = omega (arith, bt e.2) }
+  follows Action.Off _ e s c = absurd e
+  follows Action.Load NoneLeft e s c = record { readers = omega (arith, rd e.1); writer = omega (arith, bt e.1) }
+  follows Action.Load SomeLeft e s c = record { readers = omega (arith, rd e.1); writer = omega (arith, bt e.1) }
+  follows Action.Load _ e s c = absurd e
+  follows Action.Mark NoneLeft e s c = record { readers = omega (arith, rd e.1); writer = omega (arith, bt e.1, s (omega arith)) }
+  follows Action.Mark SomeLeft e s c = record { readers = omega (arith, rd e.1); writer = omega (arith, bt e.1, s (omega arith)) }
+  follows Action.Mark _ e s c = absurd e
+  follows Action.TryWrite Done e s c = record { readers = omega (arith, rd e.2); writer = omega (arith, bt e.2, ap bit e.0) }
+  follows Action.TryWrite NotFree e s c = record { readers = omega (arith, rd e.1); writer = omega (arith, bt e.1) }
+  follows Action.TryWrite _ e s c = absurd e
+  follows Action.TryUpgrade Done e s c = record { readers = omega (arith, rd e.2, e.1); writer = omega (arith, bt e.2, ap bit e.0) }
+  follows Action.TryUpgrade NotFree e s c = record { readers = omega (arith, rd e.1); writer = omega (arith, bt e.1) }
+  follows Action.TryUpgrade _ e s c = absurd e
+  follows Action.Upgrade Done e s c = record { readers = omega (arith, e.0); writer = omega (arith, bt e.1, s (omega arith)) }
+  follows Action.Upgrade _ e s c = absurd e
+  follows Action.Down Done e s c = record { readers = omega (arith, rd e); writer = omega (arith, bt e, c (omega arith)) }
+  follows Action.Down _ e s c = absurd e
+  follows Action.Unmark Done e s c = record { readers = omega (arith, rd e); writer = omega (arith, bt e, c (omega arith)) }
+  follows Action.Unmark _ e s c = absurd e
   follows _ f e s c = record { readers = omega (arith, rd e); writer = omega (arith, bt e) }
 
 module _ (p : ℕ) (v w : Word) (a b : Counts) (x y : Place) (mv : Moves x y a b) (ca : IsCounted a) (cb : IsCounted b) (turn : a.turning + a.marking ≤ 1) where
@@ -99,25 +88,25 @@ module _ (p : ℕ) (v w : Word) (a b : Counts) (x y : Place) (mv : Moves x y a b
 
     owed_w : (c : Action) (f : Found) → OnWord c f v w → OnNoWriter p c f l m → Fits c f x y → Line p (in_w c f) (out_w c f) (taken_w c f) l m → Follows v w c f
         → b.no_writer.listed ≡ length m → IsOwed (bit w.writer ≡ 0) b.no_writer.waiting b.no_writer.owing (marked_count m)
-    owed_w act.Read Done e el g line fo listed = goes_on_w act.Read Done g.owed_w refl refl refl line fo listed
-    owed_w act.Read Writer e el g line fo listed = λ free some. absurd (omega (arith, ap bit e.0, fo.writer))
-    owed_w act.Read Full e el g line fo listed = goes_on_w act.Read Full g.owed_w refl refl refl line fo listed
-    owed_w act.Read _ e el g line fo listed = absurd e
-    owed_w act.Mark f e el g line fo listed = λ free some. absurd (omega (arith, fo.writer))
-    owed_w act.TryWrite Done e el g line fo listed = λ free some. absurd (omega (arith, fo.writer))
-    owed_w act.TryWrite NotFree e el g line fo listed = goes_on_w act.TryWrite NotFree g.owed_w refl refl refl line fo listed
-    owed_w act.TryWrite _ e el g line fo listed = absurd e
-    owed_w act.TryUpgrade Done e el g line fo listed = λ free some. absurd (omega (arith, fo.writer))
-    owed_w act.TryUpgrade NotFree e el g line fo listed = goes_on_w act.TryUpgrade NotFree g.owed_w refl refl refl line fo listed
-    owed_w act.TryUpgrade _ e el g line fo listed = absurd e
-    owed_w act.Upgrade f e el g line fo listed = λ free some. absurd (omega (arith, fo.writer))
-    owed_w act.Down f e el g line fo listed = λ free some. omega (arith, g.owed_w, mv.owes_itself_w)
-    owed_w act.Unmark f e el g line fo listed = λ free some. omega (arith, g.owed_w, mv.owes_itself_w)
-    owed_w act.AskNoWriter Yes e el g line fo listed = λ free some. omega (arith, g.owed_w, mv.owes_itself_w)
-    owed_w act.AskNoWriter No e el g line fo listed = goes_on_w act.AskNoWriter No g.owed_w refl refl refl line fo listed
-    owed_w act.AskNoWriter _ e el g line fo listed = absurd el
-    owed_w act.NotifyNoWriter Done e el g line fo listed = λ free some. (let now : 0 < marked_count m = told p l m el (omega (arith, cb.waits_w, listed)) in omega arith)
-    owed_w act.NotifyNoWriter _ e el g line fo listed = absurd el
+    owed_w Action.Read Done e el g line fo listed = goes_on_w Action.Read Done g.owed_w refl refl refl line fo listed
+    owed_w Action.Read Writer e el g line fo listed = λ free some. absurd (omega (arith, ap bit e.0, fo.writer))
+    owed_w Action.Read Full e el g line fo listed = goes_on_w Action.Read Full g.owed_w refl refl refl line fo listed
+    owed_w Action.Read _ e el g line fo listed = absurd e
+    owed_w Action.Mark f e el g line fo listed = λ free some. absurd (omega (arith, fo.writer))
+    owed_w Action.TryWrite Done e el g line fo listed = λ free some. absurd (omega (arith, fo.writer))
+    owed_w Action.TryWrite NotFree e el g line fo listed = goes_on_w Action.TryWrite NotFree g.owed_w refl refl refl line fo listed
+    owed_w Action.TryWrite _ e el g line fo listed = absurd e
+    owed_w Action.TryUpgrade Done e el g line fo listed = λ free some. absurd (omega (arith, fo.writer))
+    owed_w Action.TryUpgrade NotFree e el g line fo listed = goes_on_w Action.TryUpgrade NotFree g.owed_w refl refl refl line fo listed
+    owed_w Action.TryUpgrade _ e el g line fo listed = absurd e
+    owed_w Action.Upgrade f e el g line fo listed = λ free some. absurd (omega (arith, fo.writer))
+    owed_w Action.Down f e el g line fo listed = λ free some. omega (arith, g.owed_w, mv.owes_itself_w)
+    owed_w Action.Unmark f e el g line fo listed = λ free some. omega (arith, g.owed_w, mv.owes_itself_w)
+    owed_w Action.AskNoWriter Yes e el g line fo listed = λ free some. omega (arith, g.owed_w, mv.owes_itself_w)
+    owed_w Action.AskNoWriter No e el g line fo listed = goes_on_w Action.AskNoWriter No g.owed_w refl refl refl line fo listed
+    owed_w Action.AskNoWriter _ e el g line fo listed = absurd el
+    owed_w Action.NotifyNoWriter Done e el g line fo listed = λ free some. (let now : 0 < marked_count m = told p l m el (omega (arith, cb.waits_w, listed)) in omega arith)
+    owed_w Action.NotifyNoWriter _ e el g line fo listed = absurd el
     owed_w c f e el g line fo listed = goes_on_w c f g.owed_w refl refl refl line fo listed
 
   module _ (l m k : List (Entry ℕ)) (i : IsSound (tally_of v k l) a) where
@@ -131,34 +120,34 @@ module _ (p : ℕ) (v w : Word) (a b : Counts) (x y : Place) (mv : Moves x y a b
 
     owed_r : (c : Action) (f : Found) → OnWord c f v w → OnNoReaders p c f l m → Fits c f x y → Line p (in_r c f) (out_r c f) (taken_r c f) l m → Follows v w c f
         → b.no_readers.listed ≡ length m → IsOwed (w.readers ≡ 0) b.no_readers.waiting b.no_readers.owing (marked_count m)
-    owed_r act.Read Done e el g line fo listed = λ free some. absurd (omega (arith, fo.readers))
-    owed_r act.Read Writer e el g line fo listed = goes_on_r act.Read Writer g.owed_r refl refl refl line fo listed
-    owed_r act.Read Full e el g line fo listed = goes_on_r act.Read Full g.owed_r refl refl refl line fo listed
-    owed_r act.Read _ e el g line fo listed = absurd e
-    owed_r act.Add Done e el g line fo listed = λ free some. absurd (omega (arith, fo.readers))
-    owed_r act.Add Full e el g line fo listed = goes_on_r act.Add Full g.owed_r refl refl refl line fo listed
-    owed_r act.Add _ e el g line fo listed = absurd e
-    owed_r act.Down Done e el g line fo listed = λ free some. absurd (omega (arith, fo.readers))
-    owed_r act.Down _ e el g line fo listed = absurd e
-    owed_r act.Off NoneLeft e el g line fo listed = λ free some. omega (arith, g.owed_r, mv.owes_itself_r)
-    owed_r act.Off SomeLeft e el g line fo listed = λ free some. absurd (omega (arith, e.0))
-    owed_r act.Off _ e el g line fo listed = absurd e
-    owed_r act.Load NoneLeft e el g line fo listed = goes_on_r act.Load NoneLeft g.owed_r refl refl refl line fo listed
-    owed_r act.Load SomeLeft e el g line fo listed = λ free some. absurd (omega (arith, e.0, fo.readers))
-    owed_r act.Load _ e el g line fo listed = absurd e
-    owed_r act.Mark f e el g line fo listed = λ free some. absurd (omega (arith, g.owed_r, g.set_by_turn, mv.waiting_r, mv.turns_itself, ca.waits_marking, turn))
-    owed_r act.TryWrite Done e el g line fo listed = λ free some. absurd (omega (arith, g.owed_r, g.set_by_turn, mv.waiting_r, mv.turns_itself, ca.waits_marking, turn))
-    owed_r act.TryWrite NotFree e el g line fo listed = goes_on_r act.TryWrite NotFree g.owed_r refl refl refl line fo listed
-    owed_r act.TryWrite _ e el g line fo listed = absurd e
-    owed_r act.TryUpgrade Done e el g line fo listed = λ free some. absurd (omega (arith, g.owed_r, g.set_by_turn, mv.waiting_r, mv.turns_itself, ca.waits_marking, turn))
-    owed_r act.TryUpgrade NotFree e el g line fo listed = goes_on_r act.TryUpgrade NotFree g.owed_r refl refl refl line fo listed
-    owed_r act.TryUpgrade _ e el g line fo listed = absurd e
-    owed_r act.Upgrade f e el g line fo listed = λ free some. absurd (omega (arith, g.owed_r, g.set_by_turn, mv.waiting_r, mv.turns_itself, ca.waits_marking, turn))
-    owed_r act.AskNoReaders Yes e el g line fo listed = λ free some. absurd (omega (arith, g.owed_r.0, g.owed_r.1, mv.waiting_r, ca.waits_marking, turn))
-    owed_r act.AskNoReaders No e el g line fo listed = goes_on_r act.AskNoReaders No g.owed_r refl refl refl line fo listed
-    owed_r act.AskNoReaders _ e el g line fo listed = absurd el
-    owed_r act.NotifyNoReaders Done e el g line fo listed = λ free some. (let now : 0 < marked_count m = told p l m el (omega (arith, cb.waits_r, listed)) in omega arith)
-    owed_r act.NotifyNoReaders _ e el g line fo listed = absurd el
+    owed_r Action.Read Done e el g line fo listed = λ free some. absurd (omega (arith, fo.readers))
+    owed_r Action.Read Writer e el g line fo listed = goes_on_r Action.Read Writer g.owed_r refl refl refl line fo listed
+    owed_r Action.Read Full e el g line fo listed = goes_on_r Action.Read Full g.owed_r refl refl refl line fo listed
+    owed_r Action.Read _ e el g line fo listed = absurd e
+    owed_r Action.Add Done e el g line fo listed = λ free some. absurd (omega (arith, fo.readers))
+    owed_r Action.Add Full e el g line fo listed = goes_on_r Action.Add Full g.owed_r refl refl refl line fo listed
+    owed_r Action.Add _ e el g line fo listed = absurd e
+    owed_r Action.Down Done e el g line fo listed = λ free some. absurd (omega (arith, fo.readers))
+    owed_r Action.Down _ e el g line fo listed = absurd e
+    owed_r Action.Off NoneLeft e el g line fo listed = λ free some. omega (arith, g.owed_r, mv.owes_itself_r)
+    owed_r Action.Off SomeLeft e el g line fo listed = λ free some. absurd (omega (arith, e.0))
+    owed_r Action.Off _ e el g line fo listed = absurd e
+    owed_r Action.Load NoneLeft e el g line fo listed = goes_on_r Action.Load NoneLeft g.owed_r refl refl refl line fo listed
+    owed_r Action.Load SomeLeft e el g line fo listed = λ free some. absurd (omega (arith, e.0, fo.readers))
+    owed_r Action.Load _ e el g line fo listed = absurd e
+    owed_r Action.Mark f e el g line fo listed = λ free some. absurd (omega (arith, g.owed_r, g.set_by_turn, mv.waiting_r, mv.turns_itself, ca.waits_marking, turn))
+    owed_r Action.TryWrite Done e el g line fo listed = λ free some. absurd (omega (arith, g.owed_r, g.set_by_turn, mv.waiting_r, mv.turns_itself, ca.waits_marking, turn))
+    owed_r Action.TryWrite NotFree e el g line fo listed = goes_on_r Action.TryWrite NotFree g.owed_r refl refl refl line fo listed
+    owed_r Action.TryWrite _ e el g line fo listed = absurd e
+    owed_r Action.TryUpgrade Done e el g line fo listed = λ free some. absurd (omega (arith, g.owed_r, g.set_by_turn, mv.waiting_r, mv.turns_itself, ca.waits_marking, turn))
+    owed_r Action.TryUpgrade NotFree e el g line fo listed = goes_on_r Action.TryUpgrade NotFree g.owed_r refl refl refl line fo listed
+    owed_r Action.TryUpgrade _ e el g line fo listed = absurd e
+    owed_r Action.Upgrade f e el g line fo listed = λ free some. absurd (omega (arith, g.owed_r, g.set_by_turn, mv.waiting_r, mv.turns_itself, ca.waits_marking, turn))
+    owed_r Action.AskNoReaders Yes e el g line fo listed = λ free some. absurd (omega (arith, g.owed_r.0, g.owed_r.1, mv.waiting_r, ca.waits_marking, turn))
+    owed_r Action.AskNoReaders No e el g line fo listed = goes_on_r Action.AskNoReaders No g.owed_r refl refl refl line fo listed
+    owed_r Action.AskNoReaders _ e el g line fo listed = absurd el
+    owed_r Action.NotifyNoReaders Done e el g line fo listed = λ free some. (let now : 0 < marked_count m = told p l m el (omega (arith, cb.waits_r, listed)) in omega arith)
+    owed_r Action.NotifyNoReaders _ e el g line fo listed = absurd el
     owed_r c f e el g line fo listed = goes_on_r c f g.owed_r refl refl refl line fo listed
 
   module _ (l k : List (Entry ℕ)) (i : IsSound (tally_of v l k) a) where
@@ -167,26 +156,26 @@ module _ (p : ℕ) (v w : Word) (a b : Counts) (x y : Place) (mv : Moves x y a b
     goes_on_alone c f g h fo some = (let none : v.readers ≡ 0 = i.alone (omega (arith, mv.writing)) in omega (arith, fo.readers))
 
     alone : (c : Action) (f : Found) → OnWord c f v w → Fits c f x y → Follows v w c f → b.marking ≡ bit w.writer → 0 < b.writing → w.readers ≡ 0
-    alone act.Read Done e g fo bears some = absurd (omega (arith, ap bit e.0, fo.writer, cb.writes_marking))
-    alone act.Read Writer e g fo bears some = goes_on_alone act.Read Writer g.alone refl fo some
-    alone act.Read Full e g fo bears some = goes_on_alone act.Read Full g.alone refl fo some
-    alone act.Read _ e g fo bears some = absurd e
-    alone act.Add Done e g fo bears some = absurd (omega (arith, fo.writer, cb.writes_marking, i.writer, turn, g.alone, mv.turns_itself))
-    alone act.Add Full e g fo bears some = goes_on_alone act.Add Full g.alone refl fo some
-    alone act.Add _ e g fo bears some = absurd e
-    alone act.Load NoneLeft e g fo bears some = omega (arith, e.0, fo.readers)
-    alone act.Load SomeLeft e g fo bears some = goes_on_alone act.Load SomeLeft g.alone refl fo some
-    alone act.Load _ e g fo bears some = absurd e
-    alone act.Mark NoneLeft e g fo bears some = omega (arith, e.0, fo.readers)
-    alone act.Mark SomeLeft e g fo bears some = goes_on_alone act.Mark SomeLeft g.alone refl fo some
-    alone act.Mark _ e g fo bears some = absurd e
-    alone act.TryWrite Done e g fo bears some = omega (arith, e.1, fo.readers)
-    alone act.TryWrite NotFree e g fo bears some = goes_on_alone act.TryWrite NotFree g.alone refl fo some
-    alone act.TryWrite _ e g fo bears some = absurd e
-    alone act.TryUpgrade Done e g fo bears some = omega (arith, e.1, fo.readers)
-    alone act.TryUpgrade NotFree e g fo bears some = goes_on_alone act.TryUpgrade NotFree g.alone refl fo some
-    alone act.TryUpgrade _ e g fo bears some = absurd e
-    alone act.Down f e g fo bears some = absurd (omega (arith, fo.writer, cb.writes_marking, bears, i.writer, turn))
+    alone Action.Read Done e g fo bears some = absurd (omega (arith, ap bit e.0, fo.writer, cb.writes_marking))
+    alone Action.Read Writer e g fo bears some = goes_on_alone Action.Read Writer g.alone refl fo some
+    alone Action.Read Full e g fo bears some = goes_on_alone Action.Read Full g.alone refl fo some
+    alone Action.Read _ e g fo bears some = absurd e
+    alone Action.Add Done e g fo bears some = absurd (omega (arith, fo.writer, cb.writes_marking, i.writer, turn, g.alone, mv.turns_itself))
+    alone Action.Add Full e g fo bears some = goes_on_alone Action.Add Full g.alone refl fo some
+    alone Action.Add _ e g fo bears some = absurd e
+    alone Action.Load NoneLeft e g fo bears some = omega (arith, e.0, fo.readers)
+    alone Action.Load SomeLeft e g fo bears some = goes_on_alone Action.Load SomeLeft g.alone refl fo some
+    alone Action.Load _ e g fo bears some = absurd e
+    alone Action.Mark NoneLeft e g fo bears some = omega (arith, e.0, fo.readers)
+    alone Action.Mark SomeLeft e g fo bears some = goes_on_alone Action.Mark SomeLeft g.alone refl fo some
+    alone Action.Mark _ e g fo bears some = absurd e
+    alone Action.TryWrite Done e g fo bears some = omega (arith, e.1, fo.readers)
+    alone Action.TryWrite NotFree e g fo bears some = goes_on_alone Action.TryWrite NotFree g.alone refl fo some
+    alone Action.TryWrite _ e g fo bears some = absurd e
+    alone Action.TryUpgrade Done e g fo bears some = omega (arith, e.1, fo.readers)
+    alone Action.TryUpgrade NotFree e g fo bears some = goes_on_alone Action.TryUpgrade NotFree g.alone refl fo some
+    alone Action.TryUpgrade _ e g fo bears some = absurd e
+    alone Action.Down f e g fo bears some = absurd (omega (arith, fo.writer, cb.writes_marking, bears, i.writer, turn))
     alone c f e g fo bears some = goes_on_alone c f g.alone refl fo some
 
   -- the step keeps what always holds

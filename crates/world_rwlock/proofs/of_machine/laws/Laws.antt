@@ -1,19 +1,8 @@
 -- What always holds, as callers see it.
-use Rattle.std.proofs.Common.{◌≡◌, ℕ, ◌+◌, ◌<◌, ◌≤◌, suc, true, List, [], ◌∷◌, length, refl, arith, ◌∙◌}
-use Rattle.std.specs.List.{sum_by}
-use Rattle.lock_event.specs.Lists.{marked_count, IsMarkedFirst}
-use Rattle.world_base.specs.queue.Queues.{Queue}
+use Rattle.world_rwlock.proofs.Prelude.{◌≡◌, ℕ, ◌+◌, ◌<◌, ◌≤◌, suc, true, List, [], ◌∷◌, length, refl, arith, ◌∙◌, sum_by, marked_count, IsMarkedFirst, Queue, TurnCourse, listed, rests_in_turn, Mutex, turn_at, IsMutex, IsTurnAtRest, out_rests, holding_rests, waiting_rests, out_unlisted, holding_unlisted, listed_once, Word, Place, Out, Made, Reading, Upgradable, Writing, LookNoWriter, AskNoWriter, LeaveNoWriter, RefuseLeave, CancelRead, WaitTurn, LookNoReaders, AskNoReaders, AwaitNoReaders, LookUnlisted, LeaveNoReaders, CancelAwait, bit, reads, marks, only_turns, writes, in_no_writer, in_no_readers, fits_turn, is_resting, RwLock, IsMachine, place_at, IsRwLock}
 use Rattle.world_base.specs.queue.Debts.{Rests, AllRest}
 use Rattle.world_base.proofs.of_queue.Debts.{paid_at_rest}
-use Rattle.world_mutex.specs.machine.Course.{Course as TurnCourse, listed, is_resting as rests_in_turn}
-use Rattle.world_mutex.specs.machine.Mutex.{Mutex, course_at as turn_at, IsMutex, IsAtRest as IsTurnAtRest}
-use Rattle.world_mutex.proofs.of_machine.callers.Callers.{out_rests, holding_rests, waiting_rests, out_unlisted, holding_unlisted, listed_once}
-use Rattle.world_rwlock.specs.declared.program.word.Word.{Word}
-use Rattle.lock_program.specs.declared.rwlock.Place.{Place}
-use Rattle.lock_program.specs.declared.rwlock.Place.TheVariants.{Out, Made, Reading, Upgradable, Writing, LookNoWriter, AskNoWriter, LeaveNoWriter, RefuseLeave, CancelRead, WaitTurn, LookNoReaders, AskNoReaders, AwaitNoReaders, LookUnlisted, LeaveNoReaders, CancelAwait}
-use Rattle.world_rwlock.specs.machine.Roles.{bit, reads, marks, only_turns, writes, in_no_writer, in_no_readers, for_no_writer, for_no_readers, fits_turn, is_resting}
-use Rattle.world_rwlock.specs.machine.Machine.{RwLock, IsMachine, place_at}
-use Rattle.world_rwlock.specs.machine.Acts.{IsRwLock}
+use Rattle.world_rwlock.specs.machine.Roles.{for_no_writer, for_no_readers}
 use Rattle.world_rwlock.proofs.of_machine.laws.Places.{turned, share, shares}
 use Rattle.world_rwlock.proofs.of_machine.laws.Machines.{one_turn}
 

@@ -1,16 +1,5 @@
 -- What an action does to one of the lists, for one party.
-use Rattle.std.proofs.Common.{◌≡◌, ◌≢◌, ℕ, ◌+◌, ◌<◌, Bool, true, List, length, refl, arith, sym, ◌∙◌}
-use Rattle.lock_event.specs.declared.event.Entry.{Entry}
-use Rattle.lock_event.specs.Lists.{marked_count, without, is_marked_at}
-use Rattle.world_base.specs.queue.Parties.{is_party, entries_of}
-use Rattle.world_base.specs.Steps.{ListFunction, joins, asks, leaves, notifies, list_after}
-use Rattle.world_base.proofs.Equations.{chosen}
-use Rattle.world_base.proofs.Lists.{CanList, done, counted_by, own_by, others_by, notified_marked}
-use Rattle.lock_program.specs.declared.rwlock.Action.{Action}
-use Rattle.lock_program.specs.declared.rwlock.Action.TheVariants as act
-use Rattle.lock_program.specs.declared.rwlock.Found.{Found}
-use Rattle.lock_program.specs.declared.rwlock.Found.TheVariants.{Done, NoMemory, Yes, No}
-use Rattle.world_rwlock.specs.program.Parties.{Joins, Asks, Leaves, Notifies, OnNoWriter, OnNoReaders}
+use Rattle.world_rwlock.proofs.Prelude.{◌≡◌, ◌≢◌, ℕ, ◌+◌, ◌<◌, Bool, true, List, length, refl, arith, sym, ◌∙◌, Entry, marked_count, without, is_marked_at, is_party, entries_of, ListFunction, joins, asks, leaves, notifies, list_after, chosen, CanList, done, counted_by, own_by, others_by, notified_marked, Action, Found, Done, NoMemory, Yes, No, Joins, Asks, Leaves, Notifies, OnNoWriter, OnNoReaders}
 use Rattle.world_rwlock.proofs.of_machine.laws.Steps.{in_w, out_w, in_r, out_r, taken_w, taken_r}
 
 -- one list: an entry comes or goes, the party's own, and a mark goes on or was taken by the party
@@ -59,27 +48,27 @@ module _ (p : ℕ) (l m : List (Entry ℕ)) where
       line (notifies 1) 0 0 0 tt e (omega (arith, c.0)) (λ some size. (let now : 0 < marked_count m = told e size in omega arith))
 
   pub line_w : (a : Action) (f : Found) → OnNoWriter p a f l m → (out_w a f ≡ 1 → 0 < entries_of p l) → Line p (in_w a f) (out_w a f) (taken_w a f) l m
-  line_w act.JoinNoWriter Done e some = joined e
-  line_w act.JoinNoWriter NoMemory e some = stands e
-  line_w act.JoinNoWriter _ e some = absurd e
-  line_w act.AskNoWriter Yes e some = asked (some refl) e
-  line_w act.AskNoWriter No e some = stands e.1
-  line_w act.AskNoWriter _ e some = absurd e
-  line_w act.LeaveNoWriter Done e some = left (some refl) e
-  line_w act.LeaveNoWriter _ e some = absurd e
-  line_w act.NotifyNoWriter Done e some = notified e
-  line_w act.NotifyNoWriter _ e some = absurd e
+  line_w Action.JoinNoWriter Done e some = joined e
+  line_w Action.JoinNoWriter NoMemory e some = stands e
+  line_w Action.JoinNoWriter _ e some = absurd e
+  line_w Action.AskNoWriter Yes e some = asked (some refl) e
+  line_w Action.AskNoWriter No e some = stands e.1
+  line_w Action.AskNoWriter _ e some = absurd e
+  line_w Action.LeaveNoWriter Done e some = left (some refl) e
+  line_w Action.LeaveNoWriter _ e some = absurd e
+  line_w Action.NotifyNoWriter Done e some = notified e
+  line_w Action.NotifyNoWriter _ e some = absurd e
   line_w _ f e some = stands e
 
   pub line_r : (a : Action) (f : Found) → OnNoReaders p a f l m → (out_r a f ≡ 1 → 0 < entries_of p l) → Line p (in_r a f) (out_r a f) (taken_r a f) l m
-  line_r act.JoinNoReaders Done e some = joined e
-  line_r act.JoinNoReaders NoMemory e some = stands e
-  line_r act.JoinNoReaders _ e some = absurd e
-  line_r act.AskNoReaders Yes e some = asked (some refl) e
-  line_r act.AskNoReaders No e some = stands e.1
-  line_r act.AskNoReaders _ e some = absurd e
-  line_r act.LeaveNoReaders Done e some = left (some refl) e
-  line_r act.LeaveNoReaders _ e some = absurd e
-  line_r act.NotifyNoReaders Done e some = notified e
-  line_r act.NotifyNoReaders _ e some = absurd e
+  line_r Action.JoinNoReaders Done e some = joined e
+  line_r Action.JoinNoReaders NoMemory e some = stands e
+  line_r Action.JoinNoReaders _ e some = absurd e
+  line_r Action.AskNoReaders Yes e some = asked (some refl) e
+  line_r Action.AskNoReaders No e some = stands e.1
+  line_r Action.AskNoReaders _ e some = absurd e
+  line_r Action.LeaveNoReaders Done e some = left (some refl) e
+  line_r Action.LeaveNoReaders _ e some = absurd e
+  line_r Action.NotifyNoReaders Done e some = notified e
+  line_r Action.NotifyNoReaders _ e some = absurd e
   line_r _ f e some = stands e

@@ -1,23 +1,5 @@
 -- A step of one party keeps what always holds of the lock.
-use Rattle.std.proofs.Common.{◌≡◌, ℕ, ◌+◌, ◌<◌, ◌≤◌, Bool, true, List, length, get_or, sym, subst, ap, arith, ◌∙◌, length-set, get_or-set_same, get_or-set_other}
-use Rattle.std.proofs.Math.ListN.{set}
-use Rattle.std.proofs.Math.Decide.{ℕ_discrete}
-use Rattle.std.specs.List.{sum_by}
-use Rattle.std.proofs.lemmas.List.Sums.{sum_by-set, get_or-le-sum_by}
-use Rattle.world_base.specs.queue.Parties.{entries_of}
-use Rattle.world_base.specs.queue.Queues.{Queue}
-use Rattle.world_mutex.specs.machine.Mutex.{Mutex, course_at as turn_at, IsMutex}
-use Rattle.world_rwlock.specs.declared.program.word.Word.{Word}
-use Rattle.lock_program.specs.declared.rwlock.Place.{Place}
-use Rattle.lock_program.specs.declared.rwlock.Place.TheVariants.{Out}
-use Rattle.lock_program.specs.declared.rwlock.Found.{Found}
-use Rattle.world_rwlock.specs.program.Program.{action_of, next_of, place_after}
-use Rattle.world_rwlock.specs.machine.Roles.{reads, marks, only_turns, writes, in_no_writer, waits_no_writer, owes_no_writer, in_no_readers, waits_no_readers, owes_no_readers, fits_turn}
-use Rattle.world_rwlock.specs.program.Words.{OnWord}
-use Rattle.world_rwlock.specs.program.Parties.{OnNoWriter, OnNoReaders}
-use Rattle.world_rwlock.specs.program.Turns.{OnTurn}
-use Rattle.world_rwlock.specs.machine.Tally.{counts_of}
-use Rattle.world_rwlock.specs.machine.Machine.{IsMachine, SameRoles, place_at}
+use Rattle.world_rwlock.proofs.Prelude.{◌≡◌, ℕ, ◌+◌, ◌<◌, ◌≤◌, Bool, true, List, length, get_or, sym, subst, ap, arith, ◌∙◌, length-set, get_or-set_same, get_or-set_other, set, ℕ_discrete, sum_by, sum_by-set, get_or-le-sum_by, entries_of, Queue, Mutex, turn_at, IsMutex, Word, Place, Out, Found, action_of, next_of, place_after, reads, marks, only_turns, writes, in_no_writer, waits_no_writer, owes_no_writer, in_no_readers, waits_no_readers, owes_no_readers, fits_turn, OnWord, OnNoWriter, OnNoReaders, OnTurn, counts_of, IsMachine, SameRoles, place_at}
 use Rattle.world_rwlock.proofs.of_machine.laws.Steps.{Fits, in_w, out_w, in_r, out_r, taken_w, taken_r}
 use Rattle.world_rwlock.proofs.of_machine.laws.Fits.{fits}
 use Rattle.world_rwlock.proofs.of_machine.stages.Leads.{led, turn_others, turn_length, turn_stays}

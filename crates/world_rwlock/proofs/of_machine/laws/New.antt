@@ -1,14 +1,6 @@
 -- A new lock.
-use Rattle.std.proofs.Common.{ℕ, [], replicate, refl, sym, arith, ◌∙◌}
-use Rattle.std.proofs.lemmas.List.{length-replicate}
-use Rattle.world_base.specs.queue.Queues.{queue}
+use Rattle.world_rwlock.proofs.Prelude.{ℕ, [], replicate, refl, sym, arith, ◌∙◌, length-replicate, queue, new_mutex, new_is_out, new_parties, Out, reads, marks, in_no_writer, waits_no_writer, in_no_readers, waits_no_readers, new_word, IsMachine}
 use Rattle.world_base.proofs.Alike.{all_alike, none_of_all}
-use Rattle.world_mutex.specs.machine.Mutex.{new_mutex}
-use Rattle.world_mutex.proofs.of_machine.callers.Callers.{new_is_out, new_parties}
-use Rattle.lock_program.specs.declared.rwlock.Place.TheVariants.{Out}
-use Rattle.world_rwlock.specs.machine.Roles.{reads, marks, in_no_writer, waits_no_writer, in_no_readers, waits_no_readers}
-use Rattle.world_rwlock.specs.program.Words.{new_word}
-use Rattle.world_rwlock.specs.machine.Machine.{IsMachine}
 
 pub new_is : (n starved limit : ℕ) → IsMachine (new_word limit) (replicate n Out) (queue n []) (queue n []) (new_mutex n starved)
 new_is n starved limit = record {

@@ -1,15 +1,5 @@
 -- What holds of each place's roles, and of their sums.
-use Rattle.std.proofs.Common.{◌≡◌, ◌≢◌, ℕ, ◌+◌, ◌≤◌, zero, suc, true, List, [], ◌∷◌, length, refl, ap, arith}
-use Rattle.std.specs.List.{sum_by}
-use Rattle.std.proofs.lemmas.List.Sums.{sum_by-le-sum_by, sum_by-cons}
-use Rattle.world_mutex.specs.machine.Course.{Course as TurnCourse, holds}
-use Rattle.world_mutex.specs.machine.Mutex.{course_at as turn_at}
-use Rattle.world_mutex.proofs.of_machine.callers.Callers.{holding_holds}
-use Rattle.lock_program.specs.declared.rwlock.Place.{Place}
-use Rattle.lock_program.specs.declared.rwlock.Place.TheVariants.{Out, Upgradable, Writing, AskNoWriter, ReleaseTurn, Add, TryUpgrade, Upgrade, Mark, TryWrite, JoinNoReaders, LookNoReaders, AskNoReaders, AwaitNoReaders, LookUnlisted, LeaveNoReaders, DropUpgradable, DropUpgradableNotify, DropWrite, CancelAwait, Unmark, UnmarkNotify, Down, DownNotify}
-use Rattle.world_rwlock.specs.machine.Roles.{marks, only_turns, has_turn, writes, in_no_writer, waits_no_writer, in_no_readers, waits_no_readers, fits_turn}
-use Rattle.world_rwlock.specs.machine.Machine.{place_at}
-use Rattle.world_rwlock.specs.machine.Tally.{Counts, counts_of}
+use Rattle.world_rwlock.proofs.Prelude.{◌≡◌, ◌≢◌, ℕ, ◌+◌, ◌≤◌, zero, suc, true, List, [], ◌∷◌, length, refl, ap, arith, sum_by, sum_by-le-sum_by, sum_by-cons, TurnCourse, holds, turn_at, holding_holds, Place, Out, Upgradable, Writing, AskNoWriter, ReleaseTurn, Add, TryUpgrade, Upgrade, Mark, TryWrite, JoinNoReaders, LookNoReaders, AskNoReaders, AwaitNoReaders, LookUnlisted, LeaveNoReaders, DropUpgradable, DropUpgradableNotify, DropWrite, CancelAwait, Unmark, UnmarkNotify, Down, DownNotify, marks, only_turns, has_turn, writes, in_no_writer, waits_no_writer, in_no_readers, waits_no_readers, fits_turn, place_at, Counts, counts_of}
 
 waits_w : (x : Place) → waits_no_writer x ≤ in_no_writer x
 waits_w AskNoWriter = omega arith

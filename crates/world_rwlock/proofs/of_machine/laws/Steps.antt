@@ -1,64 +1,58 @@
 -- What an action adds and takes away, and what it asks of the places before and after it.
-use Rattle.std.proofs.Common.{◌≡◌, ℕ, ◌+◌, ◌-◌, zero, suc, Bool, true, nat_eq}
-use Rattle.lock_program.specs.declared.rwlock.Place.{Place}
-use Rattle.lock_program.specs.declared.rwlock.Action.{Action}
-use Rattle.lock_program.specs.declared.rwlock.Action.TheVariants as act
-use Rattle.lock_program.specs.declared.rwlock.Found.{Found}
-use Rattle.lock_program.specs.declared.rwlock.Found.TheVariants.{Done, Writer, NoneLeft, Yes}
-use Rattle.world_rwlock.specs.machine.Roles.{reads, marks, only_turns, writes, in_no_writer, waits_no_writer, owes_no_writer, in_no_readers, waits_no_readers, owes_no_readers}
+use Rattle.world_rwlock.proofs.Prelude.{◌≡◌, ℕ, ◌+◌, ◌-◌, zero, suc, Bool, true, nat_eq, Place, Action, Found, Done, Writer, NoneLeft, Yes, reads, marks, only_turns, writes, in_no_writer, waits_no_writer, owes_no_writer, in_no_readers, waits_no_readers, owes_no_readers}
 
 -- readers that come and go
 abbrev pub on : Action → Found → ℕ
-on act.Read Done = 1
-on act.Add Done = 1
-on act.Down f = 1
+on Action.Read Done = 1
+on Action.Add Done = 1
+on Action.Down f = 1
 on _ f = 0
 
 abbrev pub off : Action → Found → ℕ
-off act.Off f = 1
-off act.TryUpgrade Done = 1
-off act.Upgrade f = 1
+off Action.Off f = 1
+off Action.TryUpgrade Done = 1
+off Action.Upgrade f = 1
 off _ f = 0
 
 -- the bit that is set and cleared
 abbrev pub sets : Action → Found → ℕ
-sets act.Mark f = 1
-sets act.TryWrite Done = 1
-sets act.TryUpgrade Done = 1
-sets act.Upgrade f = 1
+sets Action.Mark f = 1
+sets Action.TryWrite Done = 1
+sets Action.TryUpgrade Done = 1
+sets Action.Upgrade f = 1
 sets _ f = 0
 
 abbrev pub clears : Action → Found → ℕ
-clears act.Down f = 1
-clears act.Unmark f = 1
+clears Action.Down f = 1
+clears Action.Unmark f = 1
 clears _ f = 0
 
 -- entries that come and go in each list
 abbrev pub in_w : Action → Found → ℕ
-in_w act.JoinNoWriter Done = 1
+in_w Action.JoinNoWriter Done = 1
 in_w _ f = 0
 
 abbrev pub out_w : Action → Found → ℕ
-out_w act.AskNoWriter Yes = 1
-out_w act.LeaveNoWriter f = 1
+out_w Action.AskNoWriter Yes = 1
+out_w Action.LeaveNoWriter f = 1
 out_w _ f = 0
 
 abbrev pub in_r : Action → Found → ℕ
-in_r act.JoinNoReaders Done = 1
+in_r Action.JoinNoReaders Done = 1
 in_r _ f = 0
 
 abbrev pub out_r : Action → Found → ℕ
-out_r act.AskNoReaders Yes = 1
-out_r act.LeaveNoReaders f = 1
+out_r Action.AskNoReaders Yes = 1
+out_r Action.LeaveNoReaders f = 1
 out_r _ f = 0
 
 -- a mark that goes with its entry: the party that asked for it has it
 abbrev pub taken_w : Action → Found → ℕ
-taken_w act.AskNoWriter Yes = 1
+taken_w Action.AskNoWriter Yes = 1
 taken_w _ f = 0
 
 abbrev pub taken_r : Action → Found → ℕ
-taken_r act.AskNoReaders Yes = 1
+taken_r Action.AskNoReaders Yes = 1
 taken_r _ f = 0
 
 -- a party goes from waiting x, owing u to waiting y, owing v: it owes now, or it begins neither to wait nor stops to owe
@@ -68,43 +62,43 @@ keeps x y u (suc v) = true
 
 -- nobody begins to write but where no reader is left
 abbrev pub Alone : Action → Found → Place → Place → Type 0
-Alone act.Read Done x y = Unit {0}
-Alone act.Add Done x y = only_turns x ≡ 1
-Alone act.Load NoneLeft x y = Unit {0}
-Alone act.Mark NoneLeft x y = Unit {0}
-Alone act.TryWrite Done x y = Unit {0}
-Alone act.TryUpgrade Done x y = Unit {0}
-Alone act.Down f x y = Unit {0}
+Alone Action.Read Done x y = Unit {0}
+Alone Action.Add Done x y = only_turns x ≡ 1
+Alone Action.Load NoneLeft x y = Unit {0}
+Alone Action.Mark NoneLeft x y = Unit {0}
+Alone Action.TryWrite Done x y = Unit {0}
+Alone Action.TryUpgrade Done x y = Unit {0}
+Alone Action.Down f x y = Unit {0}
 Alone _ f x y = writes y - writes x ≡ 0
 
 -- what is owed to the list of those that wait for no writer
 abbrev pub Owed_w : Action → Found → Place → Place → Type 0
-Owed_w act.Read Writer x y = Unit {0}
-Owed_w act.Mark f x y = Unit {0}
-Owed_w act.TryWrite Done x y = Unit {0}
-Owed_w act.TryUpgrade Done x y = Unit {0}
-Owed_w act.Upgrade f x y = Unit {0}
-Owed_w act.Down f x y = owes_no_writer y ≡ 1
-Owed_w act.Unmark f x y = owes_no_writer y ≡ 1
-Owed_w act.AskNoWriter Yes x y = owes_no_writer y ≡ 1
-Owed_w act.NotifyNoWriter f x y = Unit {0}
+Owed_w Action.Read Writer x y = Unit {0}
+Owed_w Action.Mark f x y = Unit {0}
+Owed_w Action.TryWrite Done x y = Unit {0}
+Owed_w Action.TryUpgrade Done x y = Unit {0}
+Owed_w Action.Upgrade f x y = Unit {0}
+Owed_w Action.Down f x y = owes_no_writer y ≡ 1
+Owed_w Action.Unmark f x y = owes_no_writer y ≡ 1
+Owed_w Action.AskNoWriter Yes x y = owes_no_writer y ≡ 1
+Owed_w Action.NotifyNoWriter f x y = Unit {0}
 Owed_w _ f x y = keeps (waits_no_writer x) (waits_no_writer y) (owes_no_writer x) (owes_no_writer y) ≡ true
 
 -- and to the list of those that wait for no readers
 abbrev pub Owed_r : Action → Found → Place → Place → Type 0
-Owed_r act.Read Done x y = Unit {0}
-Owed_r act.Add Done x y = Unit {0}
-Owed_r act.Down f x y = Unit {0}
-Owed_r act.Off NoneLeft x y = owes_no_readers y ≡ 1
-Owed_r act.Off f x y = Unit {0}
-Owed_r act.Load NoneLeft x y = keeps (waits_no_readers x) (waits_no_readers y) (owes_no_readers x) (owes_no_readers y) ≡ true
-Owed_r act.Load f x y = Unit {0}
-Owed_r act.Mark f x y = waits_no_readers y - waits_no_readers x ≡ 0
-Owed_r act.TryWrite Done x y = waits_no_readers y - waits_no_readers x ≡ 0
-Owed_r act.TryUpgrade Done x y = waits_no_readers y - waits_no_readers x ≡ 0
-Owed_r act.Upgrade f x y = waits_no_readers y - waits_no_readers x ≡ 0
-Owed_r act.AskNoReaders Yes x y = (waits_no_readers x ≡ 1) × (waits_no_readers y ≡ 0)
-Owed_r act.NotifyNoReaders f x y = Unit {0}
+Owed_r Action.Read Done x y = Unit {0}
+Owed_r Action.Add Done x y = Unit {0}
+Owed_r Action.Down f x y = Unit {0}
+Owed_r Action.Off NoneLeft x y = owes_no_readers y ≡ 1
+Owed_r Action.Off f x y = Unit {0}
+Owed_r Action.Load NoneLeft x y = keeps (waits_no_readers x) (waits_no_readers y) (owes_no_readers x) (owes_no_readers y) ≡ true
+Owed_r Action.Load f x y = Unit {0}
+Owed_r Action.Mark f x y = waits_no_readers y - waits_no_readers x ≡ 0
+Owed_r Action.TryWrite Done x y = waits_no_readers y - waits_no_readers x ≡ 0
+Owed_r Action.TryUpgrade Done x y = waits_no_readers y - waits_no_readers x ≡ 0
+Owed_r Action.Upgrade f x y = waits_no_readers y - waits_no_readers x ≡ 0
+Owed_r Action.AskNoReaders Yes x y = (waits_no_readers x ≡ 1) × (waits_no_readers y ≡ 0)
+Owed_r Action.NotifyNoReaders f x y = Unit {0}
 Owed_r _ f x y = keeps (waits_no_readers x) (waits_no_readers y) (owes_no_readers x) (owes_no_readers y) ≡ true
 
 -- the roles of the places before and after an action follow what it does

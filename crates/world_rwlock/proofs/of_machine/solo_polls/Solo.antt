@@ -1,29 +1,6 @@
 -- Where a poll leads that is carried out alone while the lock is free for it.
-use Rattle.std.proofs.Common.{◌≡◌, ℕ, ◌+◌, ◌<◌, ◌⊎◌, inl, inr, zero, suc, Bool, true, List, [], ◌∷◌, length, get_or, refl, ap, arith, subst, ◌∙◌, get_or-set_same, length-set}
-use Rattle.std.proofs.Math.ListN.{set}
-use Rattle.std.specs.List.{sum_by}
-use Rattle.std.proofs.lemmas.List.Sums.{sum_by-set}
-use Rattle.lock_event.specs.declared.event.Entry.{Entry}
-use Rattle.lock_event.specs.Lists.{is_marked_at}
-use Rattle.world_base.specs.queue.Parties.{is_party}
-use Rattle.world_mutex.specs.machine.Course.{Course as TurnCourse, listed}
-use Rattle.world_mutex.specs.machine.Mutex.{course_at as turn_at}
-use Rattle.world_mutex.proofs.of_machine.callers.Callers.{out_unlisted, holding_unlisted, first_marked}
-use Rattle.lock_program.specs.declared.rwlock.Place.{Place}
-use Rattle.lock_program.specs.declared.rwlock.Place.TheVariants.{Out, Made, Reading, Upgradable, Writing, EnterRead, AskNoWriter, PassOn, WaitTurn, AwaitNoReaders, LookUnlisted, LeaveNoReaders}
-use Rattle.lock_program.specs.declared.rwlock.Action.TheVariants as act
-use Rattle.lock_program.specs.declared.rwlock.Found.{Found}
-use Rattle.lock_program.specs.declared.rwlock.Found.TheVariants.{Done, Writer, Full, NoneLeft, SomeLeft, Yes, No}
-use Rattle.lock_program.specs.declared.end.End.{End}
-use Rattle.lock_program.specs.declared.end.End.TheVariants.{Got}
-use Rattle.world_rwlock.specs.declared.program.led.Next.{Next}
-use Rattle.world_rwlock.specs.declared.program.led.Next.TheVariants as next
-use Rattle.world_rwlock.specs.program.Program.{next_of, place_after, go_to, ends}
-use Rattle.world_rwlock.specs.machine.Roles.{reads, marks, in_no_writer, in_no_readers, fits_turn, is_resting}
-use Rattle.world_rwlock.specs.program.Parties.{OnNoWriter}
-use Rattle.world_rwlock.specs.machine.Machine.{RwLock, place_at}
-use Rattle.world_rwlock.specs.machine.Acts.{Acts, Finds, IsRwLock, readers, marked}
-use Rattle.world_rwlock.specs.machine.Solo.{GoesOnAlone, last, step, PollsAlone, at_once, begun, waits_to_read, waits_to_write, looks_for_readers, waits_for_turn, Took, SoloPolls}
+use Rattle.world_rwlock.proofs.Prelude.{◌≡◌, ℕ, ◌+◌, ◌<◌, ◌⊎◌, inl, inr, zero, suc, Bool, true, List, [], ◌∷◌, length, get_or, refl, ap, arith, subst, ◌∙◌, get_or-set_same, length-set, set, sum_by, sum_by-set, Entry, is_marked_at, is_party, TurnCourse, listed, turn_at, out_unlisted, holding_unlisted, first_marked, Place, Out, Made, Reading, Upgradable, Writing, EnterRead, AskNoWriter, PassOn, WaitTurn, AwaitNoReaders, LookUnlisted, LeaveNoReaders, Action, Found, Done, Writer, Full, NoneLeft, SomeLeft, Yes, No, End, Got, Next, next_of, place_after, go_to, ends, reads, marks, in_no_writer, in_no_readers, fits_turn, is_resting, OnNoWriter, RwLock, place_at, Acts, Finds, IsRwLock, readers, marked, GoesOnAlone, last, step, PollsAlone, at_once, begun, waits_to_read, looks_for_readers, waits_for_turn, Took, SoloPolls}
+use Rattle.world_rwlock.specs.machine.Solo.{waits_to_write}
 use Rattle.world_rwlock.proofs.of_machine.solo_polls.SoloTurns.{either, must_take}
 
 module _ (memory : Bool) (p : ℕ) (v : RwLock) where
@@ -54,9 +31,9 @@ module _ (memory : Bool) (p : ℕ) (v : RwLock) where
   module _ (e : End) (new : RwLock) where
     -- what is left of a call after an action
     abbrev Rest : Next → RwLock → Type 0
-    Rest (next.Do a q) m = GoesOnAlone memory p e new m
-    Rest (next.End x q) m = (e ≡ x) × (new ≡ m)
-    Rest (next.Wait q) m = ⊥
+    Rest (Next.Do a q) m = GoesOnAlone memory p e new m
+    Rest (Next.End x q) m = (e ≡ x) × (new ≡ m)
+    Rest (Next.Wait q) m = ⊥
 
     -- the next action of a call from x, and the rest of it
     record Unfolded (x : Place) (m : RwLock) : Type 0 where
@@ -68,8 +45,8 @@ module _ (memory : Bool) (p : ℕ) (v : RwLock) where
       pub reached : Reached (place_after next) mid
 
     unfolds_here : (m : RwLock) → GoesOnAlone memory p e new m → (next : Next) × (mid : RwLock) × (starving : Bool) × Acts memory starving p (place_at m.places p) next m mid × Rest next mid
-    unfolds_here m (last old starving to a) = (next.End e to, new, starving, a, (refl, refl))
-    unfolds_here m (step old mid starving a to acts on) = (next.Do a to, mid, starving, acts, on)
+    unfolds_here m (last old starving to a) = (Next.End e to, new, starving, a, (refl, refl))
+    unfolds_here m (step old mid starving a to acts on) = (Next.Do a to, mid, starving, acts, on)
 
     unfolds : (x : Place) (m : RwLock) → Reached x m → GoesOnAlone memory p e new m → Unfolded x m
     unfolds x m r g =
@@ -84,25 +61,25 @@ module _ (memory : Bool) (p : ℕ) (v : RwLock) where
     took right m rest r = (rest.0, rw rest.1 r.here)
 
 -- a marked entry is found so
-asked : (p : ℕ) (l m : List (Entry ℕ)) (f : Found) → OnNoWriter p act.AskNoWriter f l m → is_marked_at (is_party p) l ≡ true → next_of AskNoWriter f ≡ go_to PassOn
+asked : (p : ℕ) (l m : List (Entry ℕ)) (f : Found) → OnNoWriter p Action.AskNoWriter f l m → is_marked_at (is_party p) l ≡ true → next_of AskNoWriter f ≡ go_to PassOn
 asked p l m Yes e told = refl
 asked p l m No e told = absurd (cc)
 asked p l m _ e told = absurd e
 
 -- where the bit is clear and readers are below the limit, a reader reads
-entered : (memory : Bool) (v : RwLock) (f : Found) → Finds memory act.Read f v → marked v ≡ 0 → readers v < v.limit → next_of (EnterRead true) f ≡ ends Got Reading
+entered : (memory : Bool) (v : RwLock) (f : Found) → Finds memory Action.Read f v → marked v ≡ 0 → readers v < v.limit → next_of (EnterRead true) f ≡ ends Got Reading
 entered memory v Done e free below = refl
 entered memory v Writer e free below = absurd (omega arith)
 entered memory v Full e free below = absurd (omega arith)
 entered memory v _ e free below = absurd e
 
 -- where no reader is left, none is found
-none_left : (memory : Bool) (v : RwLock) (upgrade : Bool) (f : Found) → Finds memory act.Load f v → readers v ≡ 0 → next_of (AwaitNoReaders upgrade) f ≡ go_to LeaveNoReaders
+none_left : (memory : Bool) (v : RwLock) (upgrade : Bool) (f : Found) → Finds memory Action.Load f v → readers v ≡ 0 → next_of (AwaitNoReaders upgrade) f ≡ go_to LeaveNoReaders
 none_left memory v upgrade NoneLeft e none = refl
 none_left memory v upgrade SomeLeft e none = absurd (omega arith)
 none_left memory v upgrade _ e none = absurd e
 
-none_found : (memory : Bool) (v : RwLock) (f : Found) → Finds memory act.Load f v → readers v ≡ 0 → next_of (LookUnlisted true) f ≡ ends Got Writing
+none_found : (memory : Bool) (v : RwLock) (f : Found) → Finds memory Action.Load f v → readers v ≡ 0 → next_of (LookUnlisted true) f ≡ ends Got Writing
 none_found memory v NoneLeft e none = refl
 none_found memory v SomeLeft e none = absurd (omega arith)
 none_found memory v _ e none = absurd e

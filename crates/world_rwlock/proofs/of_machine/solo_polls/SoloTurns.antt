@@ -1,34 +1,9 @@
 -- Where a poll leads that is carried out alone by a party that waits for the turn, while nobody has it.
-use Rattle.std.proofs.Common.{◌≡◌, ℕ, ◌<◌, ◌⊎◌, zero, suc, inl, inr, Bool, true, false, List, [], ◌∷◌, length, refl, sym, ap, arith, subst, ◌∙◌, get_or-set_same, length-set, set-set}
-use Rattle.std.proofs.Math.ListN.{set}
-use Rattle.std.specs.List.{sum_by}
-use Rattle.std.proofs.lemmas.List.Sums.{sum_by-set}
+use Rattle.world_rwlock.proofs.Prelude.{◌≡◌, ℕ, ◌<◌, ◌⊎◌, zero, suc, inl, inr, Bool, true, false, List, [], ◌∷◌, length, refl, sym, ap, arith, subst, ◌∙◌, get_or-set_same, length-set, set-set, set, sum_by, sum_by-set, LockCall, TurnStep, End as TurnEnd, Mutex, IsStarved, holders, starved, Purpose, Place, Out, Upgradable, Writing, WaitTurn, TakeTurn, Add, Mark, JoinNoReaders, LookNoReaders, AskNoReaders, LookUnlisted, LeaveNoReaders, Action, Found, Done, Full, NoneLeft, SomeLeft, NoMemory, Yes, Turn, End, Got, Pending, Refused, Next, action_of, next_of, after_lock, with_turn, place_after, go_to, ends, reads, OnTurn, RwLock, place_at, Acts, Finds, IsRwLock, readers, GoesOnAlone, last, step, PollsAlone, at_once, begun, waits_for_turn, IsCalledToTurn, TookTurn, GaveTurnWay, HasEnough}
 use Rattle.lock_program.specs.declared.refusal.Refusal.TheVariants.{Starved}
-use Rattle.lock_program.specs.declared.mutex.LockCall.TheVariants as turn_call
-use Rattle.lock_program.specs.declared.mutex.Step.{Step as TurnStep}
-use Rattle.lock_program.specs.declared.mutex.Step.TheVariants as turn_step
-use Rattle.lock_program.specs.declared.end.End.{End as TurnEnd}
-use Rattle.lock_program.specs.declared.end.End.TheVariants as turn_end
-use Rattle.world_mutex.specs.machine.Mutex.{Mutex, IsStarved, holders, starved}
 use Rattle.world_mutex.specs.machine.Alone as turn
 use Rattle.world_mutex.proofs.of_machine.callers.AloneSeen.{solo_polls as turn_law}
-use Rattle.lock_program.specs.declared.rwlock.Purpose.{Purpose}
-use Rattle.lock_program.specs.declared.rwlock.Purpose.TheVariants as purpose
-use Rattle.lock_program.specs.declared.rwlock.Place.{Place}
-use Rattle.lock_program.specs.declared.rwlock.Place.TheVariants.{Out, Upgradable, Writing, WaitTurn, TakeTurn, Add, Mark, JoinNoReaders, LookNoReaders, AskNoReaders, LookUnlisted, LeaveNoReaders}
-use Rattle.lock_program.specs.declared.rwlock.Action.TheVariants as act
-use Rattle.lock_program.specs.declared.rwlock.Found.{Found}
-use Rattle.lock_program.specs.declared.rwlock.Found.TheVariants.{Done, Full, NoneLeft, SomeLeft, NoMemory, Yes, Turn}
-use Rattle.lock_program.specs.declared.end.End.{End}
-use Rattle.lock_program.specs.declared.end.End.TheVariants.{Got, Pending, Refused}
-use Rattle.world_rwlock.specs.declared.program.led.Next.{Next}
-use Rattle.world_rwlock.specs.declared.program.led.Next.TheVariants as next
-use Rattle.world_rwlock.specs.program.Program.{action_of, next_of, after_lock, with_turn, place_after, go_to, ends}
-use Rattle.world_rwlock.specs.machine.Roles.{reads}
-use Rattle.world_rwlock.specs.program.Turns.{OnTurn}
-use Rattle.world_rwlock.specs.machine.Machine.{RwLock, place_at}
-use Rattle.world_rwlock.specs.machine.Acts.{Acts, Finds, IsRwLock, readers}
-use Rattle.world_rwlock.specs.machine.Solo.{GoesOnAlone, last, step, PollsAlone, at_once, begun, waits_to_write, waits_for_turn, IsCalledToTurn, TookTurn, GaveTurnWay, HasEnough}
+use Rattle.world_rwlock.specs.machine.Solo.{waits_to_write}
 
 -- ---- once the turn is got
 
@@ -44,9 +19,9 @@ is_on_way _ = false
 
 -- further on its way, to writing, or to waiting until no reader is left
 abbrev LeadsOn : Next → Type 0
-LeadsOn (next.Do a to) = is_on_way to ≡ true
-LeadsOn (next.End Got to) = to ≡ Writing
-LeadsOn (next.End Pending to) = waits_to_write to ≡ true
+LeadsOn (Next.Do a to) = is_on_way to ≡ true
+LeadsOn (Next.End Got to) = to ≡ Writing
+LeadsOn (Next.End Pending to) = waits_to_write to ≡ true
 LeadsOn _ = ⊥
 
 leads_on : (x : Place) (f : Found) (v : RwLock) → is_on_way x ≡ true → Finds true (action_of x) f v → LeadsOn (next_of x f)
@@ -65,13 +40,13 @@ leads_on LeaveNoReaders f v h e = refl
 leads_on _ f v h e = absurd (cc)
 
 -- where readers are below the limit, an upgradable reader is added
-adds : (memory : Bool) (v : RwLock) (f : Found) → Finds memory act.Add f v → readers v < v.limit → next_of (Add false) f ≡ ends Got Upgradable
+adds : (memory : Bool) (v : RwLock) (f : Found) → Finds memory Action.Add f v → readers v < v.limit → next_of (Add false) f ≡ ends Got Upgradable
 adds memory v Done e below = refl
 adds memory v Full e below = absurd (omega arith)
 adds memory v _ e below = absurd e
 
 -- where no reader is left, a write has the lock as soon as it has marked it
-marks_last : (memory : Bool) (v : RwLock) (f : Found) → Finds memory act.Mark f v → readers v ≡ 0 → next_of Mark f ≡ ends Got Writing
+marks_last : (memory : Bool) (v : RwLock) (f : Found) → Finds memory Action.Mark f v → readers v ≡ 0 → next_of Mark f ≡ ends Got Writing
 marks_last memory v NoneLeft e none = refl
 marks_last memory v SomeLeft e none = absurd (omega arith)
 marks_last memory v _ e none = absurd e
@@ -80,13 +55,13 @@ none_or_some : (n : ℕ) → (n ≡ 0) ⊎ (0 < n)
 none_or_some zero = inl refl
 none_or_some (suc n) = inr (omega arith)
 
-end_eq : (x y : End) (to at : Place) → next.End x to ≡ next.End y at → (x ≡ y) × (to ≡ at)
+end_eq : (x y : End) (to at : Place) → Next.End x to ≡ Next.End y at → (x ≡ y) × (to ≡ at)
 end_eq x y to at h = (cc, cc)
 
-never : {P : Type 0} (a : _) (x : End) (to at : Place) → next.Do a to ≡ next.End x at → P
+never : {P : Type 0} (a : _) (x : End) (to at : Place) → Next.Do a to ≡ Next.End x at → P
 never a x to at h = absurd (cc)
 
-ends_not : {P : Type 0} (x : End) (to : Place) {q : Purpose} → next.End x to ≡ go_to (TakeTurn q) → P
+ends_not : {P : Type 0} (x : End) (to : Place) {q : Purpose} → Next.End x to ≡ go_to (TakeTurn q) → P
 ends_not x to h = absurd (cc)
 
 -- nothing was done on the two lists
@@ -94,11 +69,11 @@ abbrev SameLists : RwLock → RwLock → Type 0
 SameLists m mid = (mid.no_writer ≡ m.no_writer) × (mid.no_readers ≡ m.no_readers)
 
 -- what a step in the turn finds there
-goes : (memory : Bool) (p : ℕ) (starving : Bool) (t u : Mutex) (f : Found) → OnTurn memory starving p act.Go f t u → (n : TurnStep) × (f ≡ Turn n) × turn.HasGoneOn memory p n t u
+goes : (memory : Bool) (p : ℕ) (starving : Bool) (t u : Mutex) (f : Found) → OnTurn memory starving p Action.Go f t u → (n : TurnStep) × (f ≡ Turn n) × turn.HasGoneOn memory p n t u
 goes memory p starving t u (Turn n) o = (n, refl, o.done)
 goes memory p starving t u _ o = absurd o
 
-begins : (memory : Bool) (p : ℕ) (starving : Bool) (t u : Mutex) (f : Found) → OnTurn memory starving p (act.Begin turn_call.Poll) f t u → (n : TurnStep) × (f ≡ Turn n) × turn.HasBegun memory p turn_call.Poll n t u
+begins : (memory : Bool) (p : ℕ) (starving : Bool) (t u : Mutex) (f : Found) → OnTurn memory starving p (Action.Begin LockCall.Poll) f t u → (n : TurnStep) × (f ≡ Turn n) × turn.HasBegun memory p LockCall.Poll n t u
 begins memory p starving t u (Turn n) o = (n, refl, o.done)
 begins memory p starving t u _ o = absurd o
 
@@ -110,43 +85,43 @@ module _ (memory : Bool) (p : ℕ) (e : End) (new : RwLock) where
     ap (λ ps. place_at ps p) a.places ∙ get_or-set_same m.places p (place_after n) Out known,
   )
 
-  ended : (x : End) (to : Place) → LeadsOn (next.End x to) → place_at new.places p ≡ to → TookTurn p x new
+  ended : (x : End) (to : Place) → LeadsOn (Next.End x to) → place_at new.places p ≡ to → TookTurn p x new
   ended Got to leads at = inr (at ∙ leads)
   ended Pending to leads at = ap waits_to_write at ∙ leads
   ended _ to leads at = absurd leads
 
   goes_to_write : (m : RwLock) → memory ≡ true → p < length m.places → is_on_way (place_at m.places p) ≡ true → GoesOnAlone memory p e new m → TookTurn p e new
   goes_to_write m found known way (last old starving to a) =
-      let led : LeadsOn (next.End e to) = subst LeadsOn (sym a.next_is) (leads_on (place_at m.places p) a.found m way (subst (λ b. Finds b (action_of (place_at m.places p)) a.found m) found a.finds)) in
-      ended e to led (lands starving (place_at m.places p) (next.End e to) m new known a).1
+      let led : LeadsOn (Next.End e to) = subst LeadsOn (sym a.next_is) (leads_on (place_at m.places p) a.found m way (subst (λ b. Finds b (action_of (place_at m.places p)) a.found m) found a.finds)) in
+      ended e to led (lands starving (place_at m.places p) (Next.End e to) m new known a).1
   goes_to_write m found known way (step old mid starving a to acts on) =
-      let led : LeadsOn (next.Do a to) = subst LeadsOn (sym acts.next_is) (leads_on (place_at m.places p) acts.found m way (subst (λ b. Finds b (action_of (place_at m.places p)) acts.found m) found acts.finds)) in
-      let there = lands starving (place_at m.places p) (next.Do a to) m mid known acts in
+      let led : LeadsOn (Next.Do a to) = subst LeadsOn (sym acts.next_is) (leads_on (place_at m.places p) acts.found m way (subst (λ b. Finds b (action_of (place_at m.places p)) acts.found m) found acts.finds)) in
+      let there = lands starving (place_at m.places p) (Next.Do a to) m mid known acts in
       goes_to_write mid found there.0 (ap is_on_way there.1 ∙ led) on
 
   adds_itself : (m : RwLock) → p < length m.places → place_at m.places p ≡ Add false → readers m < m.limit → GoesOnAlone memory p e new m → TookTurn p e new
   adds_itself m known here below (last old starving to a) =
-      let acts : Acts memory starving p (Add false) (next.End e to) m new = rw here at a in
+      let acts : Acts memory starving p (Add false) (Next.End e to) m new = rw here at a in
       let is = end_eq e Got to Upgradable (acts.next_is ∙ adds memory m acts.found acts.finds below) in
-      let there = lands starving (Add false) (next.End e to) m new known acts in
+      let there = lands starving (Add false) (Next.End e to) m new known acts in
       subst (λ x. TookTurn p x new) (sym is.0) (inl (there.1 ∙ is.1))
   adds_itself m known here below (step old mid starving a to b on) =
-      let acts : Acts memory starving p (Add false) (next.Do a to) m mid = rw here at b in
+      let acts : Acts memory starving p (Add false) (Next.Do a to) m mid = rw here at b in
       never a Got to Upgradable (acts.next_is ∙ adds memory m acts.found acts.finds below)
 
   marks_it : (m : RwLock) → p < length m.places → place_at m.places p ≡ Mark → readers m ≡ 0 → GoesOnAlone memory p e new m → TookTurn p e new
   marks_it m known here none (last old starving to a) =
-      let acts : Acts memory starving p Mark (next.End e to) m new = rw here at a in
+      let acts : Acts memory starving p Mark (Next.End e to) m new = rw here at a in
       let is = end_eq e Got to Writing (acts.next_is ∙ marks_last memory m acts.found acts.finds none) in
-      let there = lands starving Mark (next.End e to) m new known acts in
+      let there = lands starving Mark (Next.End e to) m new known acts in
       subst (λ x. TookTurn p x new) (sym is.0) (inr (there.1 ∙ is.1))
   marks_it m known here none (step old mid starving a to b on) =
-      let acts : Acts memory starving p Mark (next.Do a to) m mid = rw here at b in
+      let acts : Acts memory starving p Mark (Next.Do a to) m mid = rw here at b in
       never a Got to Writing (acts.next_is ∙ marks_last memory m acts.found acts.finds none)
 
-  goes_with_turn : (q : Purpose) (m : RwLock) → p < length m.places → place_at m.places p ≡ with_turn q false → readers m < m.limit → (q ≡ purpose.Write → 0 < readers m → memory ≡ true) → GoesOnAlone memory p e new m → TookTurn p e new
-  goes_with_turn purpose.UpgradableRead m known here below enough g = adds_itself m known here below g
-  goes_with_turn purpose.Write m known here below enough g = elim (none_or_some (readers m)) as (λ _. TookTurn p e new) [
+  goes_with_turn : (q : Purpose) (m : RwLock) → p < length m.places → place_at m.places p ≡ with_turn q false → readers m < m.limit → (q ≡ Purpose.Write → 0 < readers m → memory ≡ true) → GoesOnAlone memory p e new m → TookTurn p e new
+  goes_with_turn Purpose.UpgradableRead m known here below enough g = adds_itself m known here below g
+  goes_with_turn Purpose.Write m known here below enough g = elim (none_or_some (readers m)) as (λ _. TookTurn p e new) [
     | inl none ↦ marks_it m known here none g
     | inr some ↦ goes_to_write m (enough refl some) known (ap is_on_way here) g
   ]
@@ -155,24 +130,24 @@ module _ (memory : Bool) (p : ℕ) (e : End) (new : RwLock) where
 
   -- what is left of a call after an action
   abbrev Rest : Next → RwLock → Type 0
-  Rest (next.Do a q) m = GoesOnAlone memory p e new m
-  Rest (next.End x q) m = (e ≡ x) × (new ≡ m)
-  Rest (next.Wait q) m = ⊥
+  Rest (Next.Do a q) m = GoesOnAlone memory p e new m
+  Rest (Next.End x q) m = (e ≡ x) × (new ≡ m)
+  Rest (Next.Wait q) m = ⊥
 
   -- the poll's call on the turn has ended so, and nothing else was done
   record TurnEnded (Polls : TurnEnd → Mutex → Type 0) (q : Purpose) (from : RwLock) : Type 0 where
     pub turn_end : TurnEnd
     pub mid : RwLock
     pub polls : Polls turn_end mid.turn
-    pub rest : Rest (after_lock q (Turn (turn_step.End turn_end))) mid
-    pub places : mid.places ≡ set from.places p (place_after (after_lock q (Turn (turn_step.End turn_end))))
+    pub rest : Rest (after_lock q (Turn (TurnStep.End turn_end))) mid
+    pub places : mid.places ≡ set from.places p (place_after (after_lock q (Turn (TurnStep.End turn_end))))
     pub no_writer : mid.no_writer ≡ from.no_writer
     pub no_readers : mid.no_readers ≡ from.no_readers
     pub limit : mid.limit ≡ from.limit
 
   -- with this action
   ends_turn : (Polls : TurnEnd → Mutex → Type 0) (q : Purpose) (x : Place) (starving : Bool) (n : Next) (m mid : RwLock) (te : TurnEnd) → Acts memory starving p x n m mid → SameLists m mid → Rest n mid
-      → n ≡ after_lock q (Turn (turn_step.End te)) → Polls te mid.turn → TurnEnded Polls q m
+      → n ≡ after_lock q (Turn (TurnStep.End te)) → Polls te mid.turn → TurnEnded Polls q m
   ends_turn Polls q x starving n m mid te a same rest is polls = record {
     turn_end = te;
     mid = mid;
@@ -188,7 +163,7 @@ module _ (memory : Bool) (p : ℕ) (e : End) (new : RwLock) where
   later : (Polls Then : TurnEnd → Mutex → Type 0) (q : Purpose) (m mid : RwLock) → SameLists m mid → mid.places ≡ set m.places p (TakeTurn q) → mid.limit ≡ m.limit
       → ((te : TurnEnd) (l : Mutex) → Then te l → Polls te l) → TurnEnded Then q mid → TurnEnded Polls q m
   later Polls Then q m mid same places limit onward k =
-      let to : Place = place_after (after_lock q (Turn (turn_step.End k.turn_end))) in
+      let to : Place = place_after (after_lock q (Turn (TurnStep.End k.turn_end))) in
       record {
         turn_end = k.turn_end;
         mid = k.mid;
@@ -211,39 +186,39 @@ module _ (memory : Bool) (p : ℕ) (e : End) (new : RwLock) where
     -- the next action of a call on the turn, and the rest of it
     one_goes : Acts memory starving p (TakeTurn q) n m mid → Rest n mid → (n ≡ go_to (TakeTurn q) → p < length mid.places → place_at mid.places p ≡ TakeTurn q → TurnEnded (Goes mid) q mid)
         → (k : TurnStep) → n ≡ after_lock q (Turn k) → turn.HasGoneOn memory p k m.turn mid.turn → TurnEnded (Goes m) q m
-    one_goes acts rest more turn_step.More is did =
+    one_goes acts rest more TurnStep.More is did =
         let there = lands starving (TakeTurn q) n m mid known acts in
         later (Goes m) (Goes mid) q m mid (acts.no_writer, acts.no_readers) (acts.places ∙ ap (λ k. set m.places p (place_after k)) is) acts.limit
         (λ te l g. turn.further m.turn mid.turn did g) (more is there.0 (there.1 ∙ ap place_after is))
-    one_goes acts rest more (turn_step.End te) is did = ends_turn (Goes m) q (TakeTurn q) starving n m mid te acts (acts.no_writer, acts.no_readers) rest is (turn.last m.turn did)
+    one_goes acts rest more (TurnStep.End te) is did = ends_turn (Goes m) q (TakeTurn q) starving n m mid te acts (acts.no_writer, acts.no_readers) rest is (turn.last m.turn did)
 
     first_goes : Acts memory starving p (WaitTurn q) n m mid → Rest n mid → (n ≡ go_to (TakeTurn q) → p < length mid.places → place_at mid.places p ≡ TakeTurn q → TurnEnded (Goes mid) q mid)
-        → (k : TurnStep) → n ≡ after_lock q (Turn k) → turn.HasBegun memory p turn_call.Poll k m.turn mid.turn → TurnEnded (Polls m) q m
-    first_goes acts rest more turn_step.More is did =
+        → (k : TurnStep) → n ≡ after_lock q (Turn k) → turn.HasBegun memory p LockCall.Poll k m.turn mid.turn → TurnEnded (Polls m) q m
+    first_goes acts rest more TurnStep.More is did =
         let there = lands starving (WaitTurn q) n m mid known acts in
         later (Polls m) (Goes mid) q m mid (acts.no_writer, acts.no_readers) (acts.places ∙ ap (λ k. set m.places p (place_after k)) is) acts.limit
         (λ te l g. turn.begun m.turn mid.turn did g) (more is there.0 (there.1 ∙ ap place_after is))
-    first_goes acts rest more (turn_step.End te) is did = ends_turn (Polls m) q (WaitTurn q) starving n m mid te acts (acts.no_writer, acts.no_readers) rest is (turn.at_once m.turn did)
+    first_goes acts rest more (TurnStep.End te) is did = ends_turn (Polls m) q (WaitTurn q) starving n m mid te acts (acts.no_writer, acts.no_readers) rest is (turn.at_once m.turn did)
 
   turn_goes : (q : Purpose) (m : RwLock) → p < length m.places → place_at m.places p ≡ TakeTurn q → GoesOnAlone memory p e new m → TurnEnded (Goes m) q m
   turn_goes q m known here (last old starving to a) =
-      let acts : Acts memory starving p (TakeTurn q) (next.End e to) m new = rw here at a in
+      let acts : Acts memory starving p (TakeTurn q) (Next.End e to) m new = rw here at a in
       let found = goes memory p starving m.turn new.turn acts.found acts.turn in
-      one_goes q starving m new (next.End e to) known acts (refl, refl) (λ is known_then there. ends_not e to is) found.0 (acts.next_is ∙ ap (next_of (TakeTurn q)) found.1) found.2
+      one_goes q starving m new (Next.End e to) known acts (refl, refl) (λ is known_then there. ends_not e to is) found.0 (acts.next_is ∙ ap (next_of (TakeTurn q)) found.1) found.2
   turn_goes q m known here (step old mid starving a to b on) =
-      let acts : Acts memory starving p (TakeTurn q) (next.Do a to) m mid = rw here at b in
+      let acts : Acts memory starving p (TakeTurn q) (Next.Do a to) m mid = rw here at b in
       let found = goes memory p starving m.turn mid.turn acts.found acts.turn in
-      one_goes q starving m mid (next.Do a to) known acts on (λ is known_then there. turn_goes q mid known_then there on) found.0 (acts.next_is ∙ ap (next_of (TakeTurn q)) found.1) found.2
+      one_goes q starving m mid (Next.Do a to) known acts on (λ is known_then there. turn_goes q mid known_then there on) found.0 (acts.next_is ∙ ap (next_of (TakeTurn q)) found.1) found.2
 
   turn_polls : (q : Purpose) (m : RwLock) → p < length m.places → place_at m.places p ≡ WaitTurn q → PollsAlone memory p e new m → TurnEnded (Polls m) q m
   turn_polls q m known here (at_once old starving to b) =
-      let acts : Acts memory starving p (WaitTurn q) (next.End e to) m new = rw here at b in
+      let acts : Acts memory starving p (WaitTurn q) (Next.End e to) m new = rw here at b in
       let found = begins memory p starving m.turn new.turn acts.found acts.turn in
-      first_goes q starving m new (next.End e to) known acts (refl, refl) (λ is known_then there. ends_not e to is) found.0 (acts.next_is ∙ ap (next_of (WaitTurn q)) found.1) found.2
+      first_goes q starving m new (Next.End e to) known acts (refl, refl) (λ is known_then there. ends_not e to is) found.0 (acts.next_is ∙ ap (next_of (WaitTurn q)) found.1) found.2
   turn_polls q m known here (begun old mid starving a to b on) =
-      let acts : Acts memory starving p (WaitTurn q) (next.Do a to) m mid = rw here at b in
+      let acts : Acts memory starving p (WaitTurn q) (Next.Do a to) m mid = rw here at b in
       let found = begins memory p starving m.turn mid.turn acts.found acts.turn in
-      first_goes q starving m mid (next.Do a to) known acts on (λ is known_then there. turn_goes q mid known_then there on) found.0 (acts.next_is ∙ ap (next_of (WaitTurn q)) found.1) found.2
+      first_goes q starving m mid (Next.Do a to) known acts on (λ is known_then there. turn_goes q mid known_then there on) found.0 (acts.next_is ∙ ap (next_of (WaitTurn q)) found.1) found.2
 
 -- a party whose place is not Out is one of the lock's
 known_waiter : (ps : List Place) (p : ℕ) → waits_for_turn (place_at ps p) ≡ true → p < length ps
@@ -257,8 +232,8 @@ waiter_at _ h = absurd (cc)
 
 -- whoever has just got the turn doesn't read yet
 pub reads_not : (q : Purpose) → reads (with_turn q false) ≡ 0
-reads_not purpose.UpgradableRead = refl
-reads_not purpose.Write = refl
+reads_not Purpose.UpgradableRead = refl
+reads_not Purpose.Write = refl
 
 module _ (memory : Bool) (p : ℕ) (e : End) (new v : RwLock) (laws : IsRwLock v) (free : holders v.turn ≡ 0) (below : readers v < v.limit) (called : IsCalledToTurn v p) where
   waiter : (q : Purpose) × (place_at v.places p ≡ WaitTurn q)
@@ -274,8 +249,8 @@ module _ (memory : Bool) (p : ℕ) (e : End) (new v : RwLock) (laws : IsRwLock v
   law = turn_law v.turn laws.turn free
 
   -- the turn was got there
-  got : (te : TurnEnd) (mid : RwLock) → HasEnough memory v p → te ≡ turn_end.Got → Rest memory p e new (after_lock waiter.0 (Turn (turn_step.End te))) mid → mid.places ≡ set v.places p (place_after (after_lock waiter.0 (Turn (turn_step.End te)))) → mid.limit ≡ v.limit → TookTurn p e new
-  got turn_end.Got mid enough is rest places limit =
+  got : (te : TurnEnd) (mid : RwLock) → HasEnough memory v p → te ≡ End.Got → Rest memory p e new (after_lock waiter.0 (Turn (TurnStep.End te))) mid → mid.places ≡ set v.places p (place_after (after_lock waiter.0 (Turn (TurnStep.End te)))) → mid.limit ≡ v.limit → TookTurn p e new
+  got End.Got mid enough is rest places limit =
       let to : Place = with_turn waiter.0 false in
       let here : place_at mid.places p ≡ to = ap (λ ps. place_at ps p) places ∙ get_or-set_same v.places p to Out known in
       let size : length mid.places ≡ length v.places = ap length places ∙ length-set v.places p to in
@@ -287,9 +262,9 @@ module _ (memory : Bool) (p : ℕ) (e : End) (new v : RwLock) (laws : IsRwLock v
   got _ mid enough is rest places limit = absurd (cc)
 
   -- its party gave way there
-  gave : (te : TurnEnd) (mid : RwLock) → turn.GaveWay p v.turn te mid.turn → turn.StandsBack p v.turn te mid.turn → Rest memory p e new (after_lock waiter.0 (Turn (turn_step.End te))) mid → mid.places ≡ set v.places p (place_after (after_lock waiter.0 (Turn (turn_step.End te))))
+  gave : (te : TurnEnd) (mid : RwLock) → turn.GaveWay p v.turn te mid.turn → turn.StandsBack p v.turn te mid.turn → Rest memory p e new (after_lock waiter.0 (Turn (TurnStep.End te))) mid → mid.places ≡ set v.places p (place_after (after_lock waiter.0 (Turn (TurnStep.End te))))
       → SameLists v mid → mid.limit ≡ v.limit → GaveTurnWay p v e new
-  gave turn_end.Pending mid g back rest places same limit =
+  gave End.Pending mid g back rest places same limit =
       let here : place_at mid.places p ≡ WaitTurn waiter.0 = ap (λ ps. place_at ps p) places ∙ get_or-set_same v.places p (WaitTurn waiter.0) Out known in
       let so : GaveTurnWay p v Pending mid = record {
         stands_back = (g, here ∙ sym waiter.1);
@@ -299,8 +274,8 @@ module _ (memory : Bool) (p : ℕ) (e : End) (new v : RwLock) (laws : IsRwLock v
         limit = limit;
       } in
       subst (λ x. GaveTurnWay p v x new) (sym rest.0) (subst (λ m. GaveTurnWay p v Pending m) (sym rest.1) so)
-  gave (turn_end.Refused Starved) mid g back rest places same limit =
-      let to : Place = place_after (after_lock waiter.0 (Turn (turn_step.End (turn_end.Refused Starved)))) in
+  gave (End.Refused Starved) mid g back rest places same limit =
+      let to : Place = place_after (after_lock waiter.0 (Turn (TurnStep.End (End.Refused Starved)))) in
       let here : place_at mid.places p ≡ to = ap (λ ps. place_at ps p) places ∙ get_or-set_same v.places p to Out known in
       let so : GaveTurnWay p v (Refused Starved) mid = record {
         stands_back = (g, rw here refl);

@@ -1,19 +1,5 @@
 -- Where a step in the turn leads its party there.
-use Rattle.std.proofs.Common.{◌≡◌, ◌≢◌, ℕ, Bool, true, false, length, refl, ap, arith}
-use Rattle.world_mutex.specs.machine.Course.{Course as TurnCourse, Takes, Tries, Releases, Cancels, is_out}
-use Rattle.lock_program.specs.declared.mutex.Step.{Step as TurnStep}
-use Rattle.lock_program.specs.declared.mutex.Step.TheVariants as turn_step
-use Rattle.lock_program.specs.declared.end.End.TheVariants as turn_end
-use Rattle.world_mutex.specs.machine.Mutex.{Mutex, course_at as turn_at, TakenFairly}
-use Rattle.lock_program.specs.declared.rwlock.Place.{Place}
-use Rattle.lock_program.specs.declared.rwlock.Place.TheVariants.{EnterTurn, WaitTurn, TakeTurn, TryTurn, CancelTurn, CancellingTurn, ReleaseTurn, ReleasingTurn}
-use Rattle.lock_program.specs.declared.rwlock.Action.{Action}
-use Rattle.lock_program.specs.declared.rwlock.Action.TheVariants as act
-use Rattle.lock_program.specs.declared.rwlock.Found.{Found}
-use Rattle.lock_program.specs.declared.rwlock.Found.TheVariants.{Turn}
-use Rattle.world_rwlock.specs.program.Program.{action_of}
-use Rattle.world_rwlock.specs.machine.Roles.{fits_turn}
-use Rattle.world_rwlock.specs.program.Turns.{OnTurn}
+use Rattle.world_rwlock.proofs.Prelude.{◌≡◌, ◌≢◌, ℕ, Bool, true, false, length, refl, ap, arith, TurnCourse, Takes, Tries, Releases, Cancels, is_out, TurnStep, End, Mutex, turn_at, TakenFairly, Place, EnterTurn, WaitTurn, TakeTurn, TryTurn, CancelTurn, CancellingTurn, ReleaseTurn, ReleasingTurn, Action, Found, Turn, action_of, fits_turn, OnTurn}
 
 -- the action of this place is a step in the turn
 abbrev pub steps_in_turn : Place → Bool
@@ -29,7 +15,7 @@ steps_in_turn _ = false
 
 -- a release ends with its second action
 abbrev pub Ends : TurnStep → TurnCourse → Type 0
-Ends (turn_step.End turn_end.GivenBack) to = is_out to ≡ true
+Ends (TurnStep.End End.GivenBack) to = is_out to ≡ true
 Ends _ to = ⊥
 
 -- what a step at this place finds in the turn, and where it leads there
@@ -55,25 +41,25 @@ Led _ f to = Unit {0}
 module _ (memory starving : Bool) (p : ℕ) (t u : Mutex) where
   -- a step moves none but its party in the turn
   pub turn_others : (a : Action) (f : Found) → OnTurn memory starving p a f t u → (j : ℕ) → j ≢ p → turn_at u.courses j ≡ turn_at t.courses j
-  turn_others (act.Begin c) (Turn n) e j apart = e.legal.others j apart
-  turn_others (act.Begin c) _ e j apart = absurd e
-  turn_others act.Go (Turn n) e j apart = e.legal.others j apart
-  turn_others act.Go _ e j apart = absurd e
+  turn_others (Action.Begin c) (Turn n) e j apart = e.legal.others j apart
+  turn_others (Action.Begin c) _ e j apart = absurd e
+  turn_others Action.Go (Turn n) e j apart = e.legal.others j apart
+  turn_others Action.Go _ e j apart = absurd e
   turn_others _ f e j apart = ap (λ t. turn_at t.courses j) e
 
   pub turn_length : (a : Action) (f : Found) → OnTurn memory starving p a f t u → length u.courses ≡ length t.courses
-  turn_length (act.Begin c) (Turn n) e = e.legal.parties
-  turn_length (act.Begin c) _ e = absurd e
-  turn_length act.Go (Turn n) e = e.legal.parties
-  turn_length act.Go _ e = absurd e
+  turn_length (Action.Begin c) (Turn n) e = e.legal.parties
+  turn_length (Action.Begin c) _ e = absurd e
+  turn_length Action.Go (Turn n) e = e.legal.parties
+  turn_length Action.Go _ e = absurd e
   turn_length _ f e = ap (λ t. length t.courses) e
 
   -- whoever has taken the turn took it fairly
   pub turn_fair : (a : Action) (f : Found) → OnTurn memory starving p a f t u → TakenFairly t u
-  turn_fair (act.Begin c) (Turn n) e = e.fair
-  turn_fair (act.Begin c) _ e = absurd e
-  turn_fair act.Go (Turn n) e = e.fair
-  turn_fair act.Go _ e = absurd e
+  turn_fair (Action.Begin c) (Turn n) e = e.fair
+  turn_fair (Action.Begin c) _ e = absurd e
+  turn_fair Action.Go (Turn n) e = e.fair
+  turn_fair Action.Go _ e = absurd e
   turn_fair _ f e = rw e (λ q out holds. absurd (omega (arith, out, holds)))
 
   -- a step that is not in the turn leaves its party there where it was
@@ -88,7 +74,7 @@ module _ (memory starving : Bool) (p : ℕ) (t u : Mutex) where
   turn_stays (ReleasingTurn q) f e h = absurd (cc)
   turn_stays _ f e h = ap (λ t. turn_at t.courses p) e
 
-  ended : (n : TurnStep) → n ≡ turn_step.End turn_end.GivenBack → is_out (turn_at u.courses p) ≡ true → Ends n (turn_at u.courses p)
+  ended : (n : TurnStep) → n ≡ TurnStep.End End.GivenBack → is_out (turn_at u.courses p) ≡ true → Ends n (turn_at u.courses p)
   ended n e o = rw e o
 
   pub led : (x : Place) (f : Found) → OnTurn memory starving p (action_of x) f t u → fits_turn x (turn_at t.courses p) ≡ true → Led x f (turn_at u.courses p)

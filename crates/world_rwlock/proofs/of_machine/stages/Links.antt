@@ -1,17 +1,5 @@
 -- Each step leaves the party's place fitting its place in the turn. Written by generators/rwlock_rows.py.
-use Rattle.std.proofs.Common.{◌≡◌, refl, true, false}
-use Rattle.lock_program.specs.declared.refusal.Refusal.TheVariants as refusal
-use Rattle.world_mutex.specs.machine.Course.{Course as TurnCourse}
-use Rattle.lock_program.specs.declared.mutex.Step.TheVariants as turn_step
-use Rattle.lock_program.specs.declared.end.End.TheVariants as turn_end
-use Rattle.lock_program.specs.declared.rwlock.Purpose.TheVariants as purpose
-use Rattle.lock_program.specs.declared.rwlock.Ending.TheVariants as ending
-use Rattle.lock_program.specs.declared.rwlock.Place.{Place}
-use Rattle.lock_program.specs.declared.rwlock.Place.TheVariants.{Out, Made, Reading, Upgradable, Writing, EnterRead, JoinNoWriter, LookNoWriter, AskNoWriter, PassOn, LeaveNoWriter, RefuseLeave, RefuseNotify, CancelRead, TryRead, EnterTurn, WaitTurn, TakeTurn, TryTurn, CancelTurn, CancellingTurn, ReleaseTurn, ReleasingTurn, Add, TryUpgrade, Upgrade, Mark, TryWrite, JoinNoReaders, LookNoReaders, AskNoReaders, AwaitNoReaders, LookUnlisted, LeaveNoReaders, DropRead, DropReadNotify, DropUpgradable, DropUpgradableNotify, DropWrite, CancelAwait, Unmark, UnmarkNotify, Down, DownNotify, DowngradeNotify}
-use Rattle.lock_program.specs.declared.rwlock.Found.{Found}
-use Rattle.lock_program.specs.declared.rwlock.Found.TheVariants.{Done, Writer, NoneLeft, Yes, Turn}
-use Rattle.world_rwlock.specs.program.Program.{next_of, place_after}
-use Rattle.world_rwlock.specs.machine.Roles.{fits_turn}
+use Rattle.world_rwlock.proofs.Prelude.{◌≡◌, refl, true, false, Refusal, TurnCourse, TurnStep as Step, End, Purpose, Ending, Place, Out, Made, Reading, Upgradable, Writing, EnterRead, JoinNoWriter, LookNoWriter, AskNoWriter, PassOn, LeaveNoWriter, RefuseLeave, RefuseNotify, CancelRead, TryRead, EnterTurn, WaitTurn, TakeTurn, TryTurn, CancelTurn, CancellingTurn, ReleaseTurn, ReleasingTurn, Add, TryUpgrade, Upgrade, Mark, TryWrite, JoinNoReaders, LookNoReaders, AskNoReaders, AwaitNoReaders, LookUnlisted, LeaveNoReaders, DropRead, DropReadNotify, DropUpgradable, DropUpgradableNotify, DropWrite, CancelAwait, Unmark, UnmarkNotify, Down, DownNotify, DowngradeNotify, Found, Done, Writer, NoneLeft, Yes, Turn, next_of, place_after, fits_turn}
 use Rattle.world_rwlock.proofs.of_machine.stages.Leads.{Led, steps_in_turn}
 
 -- a step that is not in the turn leaves the party there where it was
@@ -45,84 +33,84 @@ links CancelRead _ t to h same e = rw (same refl) e
 links TryRead Done t to h same e = rw (same refl) e
 links TryRead Writer t to h same e = rw (same refl) e
 links TryRead _ t to h same e = rw (same refl) e
-links (EnterTurn purpose.UpgradableRead) (Turn turn_step.More) t to h same e = h
-links (EnterTurn purpose.UpgradableRead) (Turn (turn_step.End turn_end.Got)) t to h same e = rw h refl
-links (EnterTurn purpose.UpgradableRead) (Turn (turn_step.End turn_end.Pending)) t to h same e = h
-links (EnterTurn purpose.UpgradableRead) (Turn (turn_step.End (turn_end.Refused refusal.Memory))) t to h same e = rw h refl
-links (EnterTurn purpose.UpgradableRead) (Turn (turn_step.End (turn_end.Refused refusal.Starved))) t to h same e = rw h refl
-links (EnterTurn purpose.UpgradableRead) _ t to h same e = absurd h
-links (WaitTurn purpose.UpgradableRead) (Turn turn_step.More) t to h same e = h
-links (WaitTurn purpose.UpgradableRead) (Turn (turn_step.End turn_end.Got)) t to h same e = rw h refl
-links (WaitTurn purpose.UpgradableRead) (Turn (turn_step.End turn_end.Pending)) t to h same e = h
-links (WaitTurn purpose.UpgradableRead) (Turn (turn_step.End (turn_end.Refused refusal.Memory))) t to h same e = rw h refl
-links (WaitTurn purpose.UpgradableRead) (Turn (turn_step.End (turn_end.Refused refusal.Starved))) t to h same e = rw h refl
-links (WaitTurn purpose.UpgradableRead) _ t to h same e = absurd h
-links (TakeTurn purpose.UpgradableRead) (Turn turn_step.More) t to h same e = h
-links (TakeTurn purpose.UpgradableRead) (Turn (turn_step.End turn_end.Got)) t to h same e = rw h refl
-links (TakeTurn purpose.UpgradableRead) (Turn (turn_step.End turn_end.Pending)) t to h same e = h
-links (TakeTurn purpose.UpgradableRead) (Turn (turn_step.End (turn_end.Refused refusal.Memory))) t to h same e = rw h refl
-links (TakeTurn purpose.UpgradableRead) (Turn (turn_step.End (turn_end.Refused refusal.Starved))) t to h same e = rw h refl
-links (TakeTurn purpose.UpgradableRead) _ t to h same e = absurd h
-links (EnterTurn purpose.Write) (Turn turn_step.More) t to h same e = h
-links (EnterTurn purpose.Write) (Turn (turn_step.End turn_end.Got)) t to h same e = rw h refl
-links (EnterTurn purpose.Write) (Turn (turn_step.End turn_end.Pending)) t to h same e = h
-links (EnterTurn purpose.Write) (Turn (turn_step.End (turn_end.Refused refusal.Memory))) t to h same e = rw h refl
-links (EnterTurn purpose.Write) (Turn (turn_step.End (turn_end.Refused refusal.Starved))) t to h same e = rw h refl
-links (EnterTurn purpose.Write) _ t to h same e = absurd h
-links (WaitTurn purpose.Write) (Turn turn_step.More) t to h same e = h
-links (WaitTurn purpose.Write) (Turn (turn_step.End turn_end.Got)) t to h same e = rw h refl
-links (WaitTurn purpose.Write) (Turn (turn_step.End turn_end.Pending)) t to h same e = h
-links (WaitTurn purpose.Write) (Turn (turn_step.End (turn_end.Refused refusal.Memory))) t to h same e = rw h refl
-links (WaitTurn purpose.Write) (Turn (turn_step.End (turn_end.Refused refusal.Starved))) t to h same e = rw h refl
-links (WaitTurn purpose.Write) _ t to h same e = absurd h
-links (TakeTurn purpose.Write) (Turn turn_step.More) t to h same e = h
-links (TakeTurn purpose.Write) (Turn (turn_step.End turn_end.Got)) t to h same e = rw h refl
-links (TakeTurn purpose.Write) (Turn (turn_step.End turn_end.Pending)) t to h same e = h
-links (TakeTurn purpose.Write) (Turn (turn_step.End (turn_end.Refused refusal.Memory))) t to h same e = rw h refl
-links (TakeTurn purpose.Write) (Turn (turn_step.End (turn_end.Refused refusal.Starved))) t to h same e = rw h refl
-links (TakeTurn purpose.Write) _ t to h same e = absurd h
-links (TryTurn purpose.UpgradableRead) (Turn (turn_step.End turn_end.Got)) t to h same e = rw h refl
-links (TryTurn purpose.UpgradableRead) (Turn (turn_step.End turn_end.NotFree)) t to h same e = rw h refl
-links (TryTurn purpose.UpgradableRead) _ t to h same e = absurd h
-links (TryTurn purpose.Write) (Turn (turn_step.End turn_end.Got)) t to h same e = rw h refl
-links (TryTurn purpose.Write) (Turn (turn_step.End turn_end.NotFree)) t to h same e = rw h refl
-links (TryTurn purpose.Write) _ t to h same e = absurd h
-links CancelTurn (Turn turn_step.More) t to h same e = h
-links CancelTurn (Turn (turn_step.End turn_end.GivenBack)) t to h same e = rw h refl
+links (EnterTurn Purpose.UpgradableRead) (Turn Step.More) t to h same e = h
+links (EnterTurn Purpose.UpgradableRead) (Turn (Step.End End.Got)) t to h same e = rw h refl
+links (EnterTurn Purpose.UpgradableRead) (Turn (Step.End End.Pending)) t to h same e = h
+links (EnterTurn Purpose.UpgradableRead) (Turn (Step.End (End.Refused Refusal.Memory))) t to h same e = rw h refl
+links (EnterTurn Purpose.UpgradableRead) (Turn (Step.End (End.Refused Refusal.Starved))) t to h same e = rw h refl
+links (EnterTurn Purpose.UpgradableRead) _ t to h same e = absurd h
+links (WaitTurn Purpose.UpgradableRead) (Turn Step.More) t to h same e = h
+links (WaitTurn Purpose.UpgradableRead) (Turn (Step.End End.Got)) t to h same e = rw h refl
+links (WaitTurn Purpose.UpgradableRead) (Turn (Step.End End.Pending)) t to h same e = h
+links (WaitTurn Purpose.UpgradableRead) (Turn (Step.End (End.Refused Refusal.Memory))) t to h same e = rw h refl
+links (WaitTurn Purpose.UpgradableRead) (Turn (Step.End (End.Refused Refusal.Starved))) t to h same e = rw h refl
+links (WaitTurn Purpose.UpgradableRead) _ t to h same e = absurd h
+links (TakeTurn Purpose.UpgradableRead) (Turn Step.More) t to h same e = h
+links (TakeTurn Purpose.UpgradableRead) (Turn (Step.End End.Got)) t to h same e = rw h refl
+links (TakeTurn Purpose.UpgradableRead) (Turn (Step.End End.Pending)) t to h same e = h
+links (TakeTurn Purpose.UpgradableRead) (Turn (Step.End (End.Refused Refusal.Memory))) t to h same e = rw h refl
+links (TakeTurn Purpose.UpgradableRead) (Turn (Step.End (End.Refused Refusal.Starved))) t to h same e = rw h refl
+links (TakeTurn Purpose.UpgradableRead) _ t to h same e = absurd h
+links (EnterTurn Purpose.Write) (Turn Step.More) t to h same e = h
+links (EnterTurn Purpose.Write) (Turn (Step.End End.Got)) t to h same e = rw h refl
+links (EnterTurn Purpose.Write) (Turn (Step.End End.Pending)) t to h same e = h
+links (EnterTurn Purpose.Write) (Turn (Step.End (End.Refused Refusal.Memory))) t to h same e = rw h refl
+links (EnterTurn Purpose.Write) (Turn (Step.End (End.Refused Refusal.Starved))) t to h same e = rw h refl
+links (EnterTurn Purpose.Write) _ t to h same e = absurd h
+links (WaitTurn Purpose.Write) (Turn Step.More) t to h same e = h
+links (WaitTurn Purpose.Write) (Turn (Step.End End.Got)) t to h same e = rw h refl
+links (WaitTurn Purpose.Write) (Turn (Step.End End.Pending)) t to h same e = h
+links (WaitTurn Purpose.Write) (Turn (Step.End (End.Refused Refusal.Memory))) t to h same e = rw h refl
+links (WaitTurn Purpose.Write) (Turn (Step.End (End.Refused Refusal.Starved))) t to h same e = rw h refl
+links (WaitTurn Purpose.Write) _ t to h same e = absurd h
+links (TakeTurn Purpose.Write) (Turn Step.More) t to h same e = h
+links (TakeTurn Purpose.Write) (Turn (Step.End End.Got)) t to h same e = rw h refl
+links (TakeTurn Purpose.Write) (Turn (Step.End End.Pending)) t to h same e = h
+links (TakeTurn Purpose.Write) (Turn (Step.End (End.Refused Refusal.Memory))) t to h same e = rw h refl
+links (TakeTurn Purpose.Write) (Turn (Step.End (End.Refused Refusal.Starved))) t to h same e = rw h refl
+links (TakeTurn Purpose.Write) _ t to h same e = absurd h
+links (TryTurn Purpose.UpgradableRead) (Turn (Step.End End.Got)) t to h same e = rw h refl
+links (TryTurn Purpose.UpgradableRead) (Turn (Step.End End.NotFree)) t to h same e = rw h refl
+links (TryTurn Purpose.UpgradableRead) _ t to h same e = absurd h
+links (TryTurn Purpose.Write) (Turn (Step.End End.Got)) t to h same e = rw h refl
+links (TryTurn Purpose.Write) (Turn (Step.End End.NotFree)) t to h same e = rw h refl
+links (TryTurn Purpose.Write) _ t to h same e = absurd h
+links CancelTurn (Turn Step.More) t to h same e = h
+links CancelTurn (Turn (Step.End End.GivenBack)) t to h same e = rw h refl
 links CancelTurn _ t to h same e = absurd h
-links CancellingTurn (Turn turn_step.More) t to h same e = h
-links CancellingTurn (Turn (turn_step.End turn_end.GivenBack)) t to h same e = rw h refl
+links CancellingTurn (Turn Step.More) t to h same e = h
+links CancellingTurn (Turn (Step.End End.GivenBack)) t to h same e = rw h refl
 links CancellingTurn _ t to h same e = absurd h
-links (ReleaseTurn ending.GivenBack) (Turn turn_step.More) t to h same e = h
-links (ReleaseTurn ending.GivenBack) (Turn (turn_step.End turn_end.GivenBack)) t to h same e = rw h refl
-links (ReleaseTurn ending.GivenBack) _ t to h same e = absurd h
-links (ReleaseTurn (ending.NotFree p)) (Turn turn_step.More) t to h same e = h
-links (ReleaseTurn (ending.NotFree p)) (Turn (turn_step.End turn_end.GivenBack)) t to h same e = rw h refl
-links (ReleaseTurn (ending.NotFree p)) _ t to h same e = absurd h
-links (ReleaseTurn ending.RefuseReaders) (Turn turn_step.More) t to h same e = h
-links (ReleaseTurn ending.RefuseReaders) (Turn (turn_step.End turn_end.GivenBack)) t to h same e = rw h refl
-links (ReleaseTurn ending.RefuseReaders) _ t to h same e = absurd h
-links (ReleaseTurn ending.RefuseMemory) (Turn turn_step.More) t to h same e = h
-links (ReleaseTurn ending.RefuseMemory) (Turn (turn_step.End turn_end.GivenBack)) t to h same e = rw h refl
-links (ReleaseTurn ending.RefuseMemory) _ t to h same e = absurd h
-links (ReleaseTurn ending.Reading) (Turn turn_step.More) t to h same e = h
-links (ReleaseTurn ending.Reading) (Turn (turn_step.End turn_end.GivenBack)) t to h same e = rw h refl
-links (ReleaseTurn ending.Reading) _ t to h same e = absurd h
-links (ReleaseTurn ending.NotifyReaders) (Turn turn_step.More) t to h same e = h
-links (ReleaseTurn ending.NotifyReaders) (Turn (turn_step.End turn_end.GivenBack)) t to h same e = rw h refl
-links (ReleaseTurn ending.NotifyReaders) _ t to h same e = absurd h
-links (ReleasingTurn ending.GivenBack) (Turn (turn_step.End turn_end.GivenBack)) t to h same e = rw h refl
-links (ReleasingTurn ending.GivenBack) _ t to h same e = absurd h
-links (ReleasingTurn (ending.NotFree p)) (Turn (turn_step.End turn_end.GivenBack)) t to h same e = rw h refl
-links (ReleasingTurn (ending.NotFree p)) _ t to h same e = absurd h
-links (ReleasingTurn ending.RefuseReaders) (Turn (turn_step.End turn_end.GivenBack)) t to h same e = rw h refl
-links (ReleasingTurn ending.RefuseReaders) _ t to h same e = absurd h
-links (ReleasingTurn ending.RefuseMemory) (Turn (turn_step.End turn_end.GivenBack)) t to h same e = rw h refl
-links (ReleasingTurn ending.RefuseMemory) _ t to h same e = absurd h
-links (ReleasingTurn ending.Reading) (Turn (turn_step.End turn_end.GivenBack)) t to h same e = rw h refl
-links (ReleasingTurn ending.Reading) _ t to h same e = absurd h
-links (ReleasingTurn ending.NotifyReaders) (Turn (turn_step.End turn_end.GivenBack)) t to h same e = rw h refl
-links (ReleasingTurn ending.NotifyReaders) _ t to h same e = absurd h
+links (ReleaseTurn Ending.GivenBack) (Turn Step.More) t to h same e = h
+links (ReleaseTurn Ending.GivenBack) (Turn (Step.End End.GivenBack)) t to h same e = rw h refl
+links (ReleaseTurn Ending.GivenBack) _ t to h same e = absurd h
+links (ReleaseTurn (Ending.NotFree p)) (Turn Step.More) t to h same e = h
+links (ReleaseTurn (Ending.NotFree p)) (Turn (Step.End End.GivenBack)) t to h same e = rw h refl
+links (ReleaseTurn (Ending.NotFree p)) _ t to h same e = absurd h
+links (ReleaseTurn Ending.RefuseReaders) (Turn Step.More) t to h same e = h
+links (ReleaseTurn Ending.RefuseReaders) (Turn (Step.End End.GivenBack)) t to h same e = rw h refl
+links (ReleaseTurn Ending.RefuseReaders) _ t to h same e = absurd h
+links (ReleaseTurn Ending.RefuseMemory) (Turn Step.More) t to h same e = h
+links (ReleaseTurn Ending.RefuseMemory) (Turn (Step.End End.GivenBack)) t to h same e = rw h refl
+links (ReleaseTurn Ending.RefuseMemory) _ t to h same e = absurd h
+links (ReleaseTurn Ending.Reading) (Turn Step.More) t to h same e = h
+links (ReleaseTurn Ending.Reading) (Turn (Step.End End.GivenBack)) t to h same e = rw h refl
+links (ReleaseTurn Ending.Reading) _ t to h same e = absurd h
+links (ReleaseTurn Ending.NotifyReaders) (Turn Step.More) t to h same e = h
+links (ReleaseTurn Ending.NotifyReaders) (Turn (Step.End End.GivenBack)) t to h same e = rw h refl
+links (ReleaseTurn Ending.NotifyReaders) _ t to h same e = absurd h
+links (ReleasingTurn Ending.GivenBack) (Turn (Step.End End.GivenBack)) t to h same e = rw h refl
+links (ReleasingTurn Ending.GivenBack) _ t to h same e = absurd h
+links (ReleasingTurn (Ending.NotFree p)) (Turn (Step.End End.GivenBack)) t to h same e = rw h refl
+links (ReleasingTurn (Ending.NotFree p)) _ t to h same e = absurd h
+links (ReleasingTurn Ending.RefuseReaders) (Turn (Step.End End.GivenBack)) t to h same e = rw h refl
+links (ReleasingTurn Ending.RefuseReaders) _ t to h same e = absurd h
+links (ReleasingTurn Ending.RefuseMemory) (Turn (Step.End End.GivenBack)) t to h same e = rw h refl
+links (ReleasingTurn Ending.RefuseMemory) _ t to h same e = absurd h
+links (ReleasingTurn Ending.Reading) (Turn (Step.End End.GivenBack)) t to h same e = rw h refl
+links (ReleasingTurn Ending.Reading) _ t to h same e = absurd h
+links (ReleasingTurn Ending.NotifyReaders) (Turn (Step.End End.GivenBack)) t to h same e = rw h refl
+links (ReleasingTurn Ending.NotifyReaders) _ t to h same e = absurd h
 links (Add true) Done t to h same e = rw (same refl) e
 links (Add true) _ t to h same e = rw (same refl) e
 links (Add false) Done t to h same e = rw (same refl) e

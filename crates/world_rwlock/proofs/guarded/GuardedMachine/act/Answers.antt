@@ -1,12 +1,7 @@
 -- An action of one party is one of its program, and leaves each party where it may stand.
-use Rattle.std.proofs.Common.{◌≡◌, ◌<◌, ℕ, Option, Some, None, ap, sym, ◌∙◌, refl, subst}
-use Rattle.world_base.specs.Frame.{put_in}
+use Rattle.world_rwlock.proofs.Prelude.{◌≡◌, ◌<◌, ℕ, Option, Some, None, ap, sym, ◌∙◌, refl, subst, put_in, Value, Holding, stage_after, Keeps, Called, Guarded, Does, with_value, parties, knows_there as knows, MovesThere as Moves}
 use Rattle.world_base.specs.declared.moves.Answer.TheVariants.{Granted}
-use Rattle.world_base.specs.declared.moves.Got.TheVariants.{Value}
-use Rattle.world_base.specs.declared.standing.Rest.TheVariants.{Holding}
-use Rattle.world_base.specs.table.Stages.{stage_after}
-use Rattle.world_base.specs.table.Tables.{Keeps, Called}
-use Rattle.world_rwlock.specs.Guarded.{Guarded, Does, with_value, parties, knows, Stands, Moves}
+use Rattle.world_rwlock.specs.Guarded.{Stands}
 use Rattle.world_rwlock.proofs.table.Kept.{acted, kept}
 use Rattle.world_rwlock.proofs.guarded.GuardedMachine.act.Goals as goal
 

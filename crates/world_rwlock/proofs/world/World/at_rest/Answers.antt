@@ -1,8 +1,5 @@
 -- The World is at rest where its table is.
-use Rattle.std.proofs.Common.{ap, sym, ◌∙◌}
-use Rattle.world_base.proofs.of_table.Views.{rest_seen}
-use Rattle.world_rwlock.specs.Laws.{is_at_rest}
-use Rattle.world_rwlock.specs.View.{verdict_of}
+use Rattle.world_rwlock.proofs.Prelude.{ap, sym, ◌∙◌, rest_seen, is_at_rest, verdict_of}
 use Rattle.world_rwlock.proofs.world.World.at_rest.Goals as goal
 
 pub returns : goal.returns

@@ -1,11 +1,6 @@
 -- A value is put in the World as in its table.
-use Rattle.std.proofs.Common.{◌≡◌, true, refl, ap, sym, ◌∙◌}
-use Rattle.std.specs.List.{list_all}
-use Rattle.world_base.specs.Standings.{is_outside_stage}
-use Rattle.world_base.proofs.of_table.Views.{rest_seen}
-use Rattle.world_rwlock.specs.Laws.{is_at_rest}
+use Rattle.world_rwlock.proofs.Prelude.{◌≡◌, true, refl, ap, sym, ◌∙◌, list_all, is_outside_stage, rest_seen, is_at_rest, verdict_of}
 use Rattle.world_rwlock.specs.Lending.{world_with}
-use Rattle.world_rwlock.specs.View.{verdict_of}
 use Rattle.world_rwlock.proofs.laws.Sound.{put_seen}
 use Rattle.world_rwlock.proofs.world.World.get_mut.Goals as goal
 

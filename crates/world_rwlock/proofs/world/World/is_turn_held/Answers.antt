@@ -1,9 +1,5 @@
 -- The turn's word is held exactly where a party has the turn.
-use Rattle.std.proofs.Common.{ap, ◌∙◌}
-use Rattle.world_mutex.specs.machine.Mutex.{holders}
-use Rattle.world_rwlock.specs.machine.Machine.{RwLock}
-use Rattle.world_rwlock.specs.Guarded.{Guarded}
-use Rattle.world_rwlock.specs.State.{is_nobody}
+use Rattle.world_rwlock.proofs.Prelude.{ap, ◌∙◌, holders, RwLock, Guarded, is_nobody}
 use Rattle.world_rwlock.proofs.laws.Sound.{held_seen}
 use Rattle.world_rwlock.proofs.world.World.is_turn_held.Goals as goal
 

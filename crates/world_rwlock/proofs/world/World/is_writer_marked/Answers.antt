@@ -1,8 +1,5 @@
 -- The bit is set exactly where a party waits to write, or writes.
-use Rattle.std.proofs.Common.{ap, ◌∙◌}
-use Rattle.world_rwlock.specs.machine.Acts.{marked}
-use Rattle.world_rwlock.specs.Guarded.{Guarded}
-use Rattle.world_rwlock.specs.State.{is_marked}
+use Rattle.world_rwlock.proofs.Prelude.{ap, ◌∙◌, marked, Guarded, is_marked}
 use Rattle.world_rwlock.proofs.laws.Sound.{marked_seen}
 use Rattle.world_rwlock.proofs.world.World.is_writer_marked.Goals as goal
 

@@ -1,8 +1,5 @@
 -- The word's number is the size of the reader set.
-use Rattle.std.proofs.Common.{ap, sym, ◌∙◌}
-use Rattle.world_rwlock.specs.machine.Acts.{readers}
-use Rattle.world_rwlock.specs.Guarded.{Guarded}
-use Rattle.world_rwlock.specs.State.{how_many_read}
+use Rattle.world_rwlock.proofs.Prelude.{ap, sym, ◌∙◌, readers, Guarded, how_many_read}
 use Rattle.world_rwlock.proofs.table.Views.{how_many-read}
 use Rattle.world_rwlock.proofs.world.World.readers.Goals as goal
 

@@ -1,9 +1,5 @@
 -- The word's number is the size of the starved set.
-use Rattle.std.proofs.Common.{ap, sym, ◌∙◌}
-use Rattle.world_mutex.specs.machine.Mutex.{starved}
-use Rattle.world_base.specs.Rosters.{how_many}
-use Rattle.world_rwlock.specs.machine.Machine.{RwLock}
-use Rattle.world_rwlock.specs.Guarded.{Guarded}
+use Rattle.world_rwlock.proofs.Prelude.{ap, sym, ◌∙◌, starved, how_many, RwLock, Guarded}
 use Rattle.world_mutex.proofs.of_machine.callers.Holders.{how_many_counted}
 use Rattle.world_rwlock.proofs.world.World.starved.Goals as goal
 

@@ -1,6 +1,5 @@
 -- The World's number is the one that stands behind its table.
-use Rattle.std.proofs.Common.{ap, ◌∙◌}
-use Rattle.world_rwlock.specs.Guarded.{Guarded}
+use Rattle.world_rwlock.proofs.Prelude.{ap, ◌∙◌, Guarded}
 use Rattle.world_rwlock.proofs.world.World.value.Goals as goal
 
 pub returns : goal.returns

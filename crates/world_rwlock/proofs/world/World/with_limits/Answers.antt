@@ -1,8 +1,5 @@
 -- A new table is seen as a new World.
-use Rattle.std.proofs.Common.{◌≡◌, ℕ, ap, ◌∙◌}
-use Rattle.world_base.specs.table.Tables.{new_table}
-use Rattle.world_rwlock.specs.State.{new_world}
-use Rattle.world_rwlock.specs.View.{view_of}
+use Rattle.world_rwlock.proofs.Prelude.{◌≡◌, ℕ, ap, ◌∙◌, new_table, new_world, view_of}
 use Rattle.world_rwlock.proofs.table.Opening.{starts_new}
 use Rattle.world_rwlock.proofs.world.World.with_limits.Goals as goal
 

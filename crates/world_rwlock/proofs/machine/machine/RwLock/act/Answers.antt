@@ -1,18 +1,10 @@
 -- An action of one party keeps what always holds.
-use Rattle.std.proofs.Common.{◌≡◌, ◌<◌, length, ap, ◌∙◌}
-use Rattle.std.proofs.Math.ListN.{set}
-use Rattle.world_rwlock.specs.program.Program.{action_of, next_of, place_after, led_by}
-use Rattle.world_rwlock.specs.program.Words.{OnWord}
-use Rattle.world_rwlock.specs.program.Parties.{FindsMemory, OnNoWriter, OnNoReaders}
-use Rattle.world_rwlock.specs.program.Turns.{OnTurn}
-use Rattle.world_rwlock.specs.machine.Machine.{SameRoles, place_at}
+use Rattle.world_rwlock.proofs.Prelude.{◌≡◌, ◌<◌, length, ap, ◌∙◌, set, action_of, next_of, place_after, led_by, OnWord, FindsMemory, OnNoWriter, OnNoReaders, OnTurn, SameRoles, place_at, in_no_writer, in_no_readers, entries_of}
 use Rattle.world_rwlock.proofs.of_machine.laws.CanDo.{can_do}
 use Rattle.world_rwlock.proofs.of_machine.laws.Machines.{kept}
 use Rattle.world_rwlock.proofs.of_machine.laws.Finds.{finds, limit_kept}
 use Rattle.world_rwlock.proofs.of_machine.stages.Leads.{turn_fair}
 use Rattle.world_rwlock.proofs.of_machine.falls.Alone.{fewer}
-use Rattle.world_rwlock.specs.machine.Roles.{in_no_writer, in_no_readers}
-use Rattle.world_base.specs.queue.Parties.{entries_of}
 use Rattle.world_rwlock.proofs.machine.machine.RwLock.act.Goals as goal
 
 pub carry_out-found-requires : goal.carry_out-found-requires

@@ -1,6 +1,5 @@
 -- A call begins with the roles that its party has, and ends in time.
-use Rattle.std.proofs.Common.{◌≡◌, Some, sym, ◌∙◌}
-use Rattle.world_rwlock.specs.program.Program.{start_of}
+use Rattle.world_rwlock.proofs.Prelude.{◌≡◌, Some, sym, ◌∙◌, start_of}
 use Rattle.world_rwlock.proofs.of_machine.stages.Starts.{start_same}
 use Rattle.world_rwlock.proofs.of_machine.falls.Alone.{begun_within}
 use Rattle.world_rwlock.proofs.machine.machine.RwLock.begin.Goals as goal

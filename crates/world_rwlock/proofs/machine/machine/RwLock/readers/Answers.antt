@@ -1,6 +1,5 @@
 -- The readers are the word's.
-use Rattle.std.proofs.Common.{ap, sym, ◌∙◌}
-use Rattle.world_rwlock.specs.machine.Acts.{readers}
+use Rattle.world_rwlock.proofs.Prelude.{ap, sym, ◌∙◌, readers}
 use Rattle.world_rwlock.proofs.machine.machine.RwLock.readers.Goals as goal
 
 pub returns : goal.returns
