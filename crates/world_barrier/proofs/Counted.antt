@@ -1,14 +1,6 @@
 -- Whose wait is counted, by where it stands.
-use Rattle.std.proofs.Common.{◌≡◌, ℕ, true, false, Some, None, refl}
-use Rattle.sync_program.specs.declared.barrier.Aim.{Aim}
-use Rattle.sync_program.specs.declared.barrier.Aim.TheVariants as aim
-use Rattle.sync_program.specs.declared.barrier.Ending.{Ending}
-use Rattle.sync_program.specs.declared.barrier.Ending.TheVariants as ending
-use Rattle.sync_program.specs.declared.barrier.Place.{Place}
-use Rattle.sync_program.specs.declared.barrier.Place.TheVariants.{EnterLock, WaitLock, TakeLock, Look, Join, Arrive, Complete, ReleaseLock, ReleasingLock, CancelLock, CancellingLock, CancelLeave, Abandon}
-use Rattle.sync_program.specs.declared.barrier.Position.{Position}
-use Rattle.sync_program.specs.declared.barrier.Position.TheVariants.{Out, Made, Locking, Waiting, At}
-use Rattle.world_barrier.specs.machine.Waits.{Wait, no_wait, uncounted, counted, number_of, is_counted, wait_for, wait_until, wait_of, wait_at}
+use Rattle.world_barrier.proofs.Prelude.{◌≡◌, ℕ, true, false, Some, None, refl, Aim, Ending, Place, EnterLock, WaitLock, TakeLock, Look, Join, Arrive, Complete, ReleaseLock, ReleasingLock, CancelLock, CancellingLock, CancelLeave, Abandon, Position, Out, Made, Locking, Waiting, At, Wait, no_wait, uncounted, counted, is_counted, wait_for, wait_until, place_wait as wait_of, wait_at}
+use Rattle.world_barrier.specs.machine.Waits.{number_of}
 
 -- a wait has its number, whichever that is, or none
 data Numbered (a : ℕ) : Wait → Wait → Type 0 where
@@ -18,15 +10,15 @@ data Numbered (a : ℕ) : Wait → Wait → Type 0 where
 
 module _ (n a : ℕ) where
   by_aim : (x : Aim) → Numbered a (wait_for x n) (wait_for x a)
-  by_aim aim.Arrive = not_yet
-  by_aim aim.Check = with_number n
+  by_aim Aim.Arrive = not_yet
+  by_aim Aim.Check = with_number n
 
   by_ending : (e : Ending) → Numbered a (wait_until e n) (wait_until e a)
-  by_ending ending.Wait = with_number n
-  by_ending ending.Follow = with_number n
-  by_ending ending.Lead = with_number n
-  by_ending ending.RefuseGenerations = not_yet
-  by_ending (ending.RefuseMemory x) = by_aim x
+  by_ending Ending.Wait = with_number n
+  by_ending Ending.Follow = with_number n
+  by_ending Ending.Lead = with_number n
+  by_ending Ending.RefuseGenerations = not_yet
+  by_ending (Ending.RefuseMemory x) = by_aim x
 
   by_place : (x : Place) → Numbered a (wait_of x n) (wait_of x a)
   by_place (EnterLock x) = by_aim x

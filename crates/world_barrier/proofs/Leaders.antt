@@ -1,18 +1,6 @@
 -- As many waits are ready as a leader's along a run as generations are finished in it.
-use Rattle.std.proofs.Common.{◌≡◌, ℕ, ◌+◌, ◌⊎◌, inl, inr, if◌then◌else◌, Bool, true, false, List, [], ◌∷◌, Option, Some, refl, arith, ap, sym, ◌∙◌, subst}
-use Rattle.world_base.specs.declared.moves.Answer.{Answer}
-use Rattle.world_base.specs.declared.moves.Answer.TheVariants as answer
-use Rattle.world_base.specs.declared.moves.Got.TheVariants as got
-use Rattle.world_base.specs.declared.moves.Move.{Move}
-use Rattle.world_base.specs.Accounts.{Account, accounts_after}
-use Rattle.world_base.specs.Standings.{is_decided, decision}
-use Rattle.world_base.specs.Steps.{Deed, nothing, changes, does}
-use Rattle.world_barrier.specs.declared.world.ListName.{ListName}
-use Rattle.world_barrier.specs.Numbers.{Leads, generations_of}
-use Rattle.world_barrier.specs.State.{World, standing_of}
-use Rattle.world_barrier.specs.Changes.{Change, takes, releases, starves, recovers, arrives, arrivals_after}
-use Rattle.world_barrier.specs.Legal.{Legal}
-use Rattle.world_barrier.specs.Runs.{Runs, is_leaders, leaders_in, leaders}
+use Rattle.world_barrier.proofs.Prelude.{◌≡◌, ℕ, ◌+◌, ◌⊎◌, inl, inr, if◌then◌else◌, Bool, true, false, List, [], ◌∷◌, Option, Some, refl, arith, ap, sym, ◌∙◌, subst, Answer, Got, Move, Account, accounts_after, is_decided, Deed, nothing, changes, does, ListName, Leads, generations_of, World, standing_of, Change, takes, releases, starves, recovers, arrives, arrivals_after, Legal, Runs, is_leaders, leaders_in, leaders}
+use Rattle.world_base.specs.Standings.{decision}
 use Rattle.world_barrier.proofs.Numbers.{next_generation, same_generation, leads_or_follows}
 
 one_or_none : (d : Deed Change ListName) (k : ℕ) → (arrivals_after d k ≡ k) ⊎ (arrivals_after d k ≡ k + 1)
@@ -24,8 +12,8 @@ one_or_none (changes recovers) k = inl refl
 one_or_none (changes arrives) k = inr refl
 one_or_none (does list f) k = inl refl
 
-leads_so : (o : Option Answer) → is_leaders o ≡ true → o ≡ Some (answer.Ready (got.Leader true))
-leads_so (Some (answer.Ready (got.Leader true))) h = refl
+leads_so : (o : Option Answer) → is_leaders o ≡ true → o ≡ Some (Answer.Ready (Got.Leader true))
+leads_so (Some (Answer.Ready (Got.Leader true))) h = refl
 leads_so _ h = absurd (cc h)
 
 none_leads : (decided leads : Bool) → (decided ≡ false → leads ≡ true → ⊥) → Path ℕ (if decided then 0 else (if leads then 1 else 0)) 0
@@ -48,7 +36,7 @@ module _ (w : World) (m : Move) (a : Answer) (v : World) (l : Legal w m a v) whe
   -- a leader's answer is decided where an arrival that leads has just been counted
   none : ((v.arrivals ≡ w.arrivals + 1) → Leads v.size v.arrivals → ⊥) → these ≡ 0
   none never = none_leads (is_decided (standing_of w m.party)) (is_leaders (decision a (standing_of v m.party)))
-      (λ d h. (let carried = l.carries.ready (got.Leader true) (d, leads_so (decision a (standing_of v m.party)) h) in never carried.0.number carried.1))
+      (λ d h. (let carried = l.carries.ready (Got.Leader true) (d, leads_so (decision a (standing_of v m.party)) h) in never carried.0.number carried.1))
 
   same_size : (k : ℕ) → generations_of v.size k ≡ generations_of w.size k
   same_size k = ap (λ n. generations_of n k) l.one_change.size

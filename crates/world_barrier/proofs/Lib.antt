@@ -1,3 +1,4 @@
+mod Prelude
 pub mod of_machine
 pub mod Numbers
 pub mod table

@@ -1,11 +1,7 @@
 -- What the numbers of arrivals say of how far a barrier is, and the other way round.
-use Rattle.std.proofs.Common.{◌≡◌, ◌≢◌, ℕ, zero, suc, ◌+◌, ◌*◌, ◌/◌, ◌%◌, ◌^◌, ◌<◌, ◌≤◌, ◌⊎◌, inl, inr, refl, sym, ap, ◌∙◌, subst, arith}
+use Rattle.world_barrier.proofs.Prelude.{◌≡◌, ◌≢◌, ℕ, zero, suc, ◌+◌, ◌*◌, ◌/◌, ◌%◌, ◌^◌, ◌<◌, ◌≤◌, ◌⊎◌, inl, inr, refl, sym, ap, ◌∙◌, subst, arith, cases_lt, Progress, progress, arrivals_at, IsPast, IsWithin, IsFollower, Leads, IsFinished, generations_of, count_of}
 use Rattle.std.proofs.Math.Nat.{mul_comm, mul-suc, div-add-mod, mod-lt}
-use Rattle.std.proofs.lemmas.Bool.{cases_lt}
 use Rattle.std.proofs.lemmas.Nat.{mul-le, div-mul-add, mod-mul-add}
-use Rattle.world_barrier.specs.declared.program.words.Progress.{Progress}
-use Rattle.world_barrier.specs.program.Words.{progress, arrivals_at, IsPast, IsWithin, IsFollower}
-use Rattle.world_barrier.specs.Numbers.{Leads, IsFinished, generations_of, count_of}
 
 -- ---- multiples
 

@@ -1,16 +1,9 @@
 -- Solo polls in turn: each that passes the free inner lock over gives way.
-use Rattle.std.proofs.Common.{◌≡◌, ℕ, ◌⊎◌, inl, inr, None, refl}
-use Rattle.world_base.specs.declared.moves.Answer.{Answer}
-use Rattle.world_base.specs.declared.moves.Call.TheVariants as call
-use Rattle.world_base.specs.declared.moves.Inputs.{Inputs}
+use Rattle.world_barrier.proofs.Prelude.{◌≡◌, ℕ, ◌⊎◌, inl, inr, None, refl, Answer, Call, Inputs, Lock, GivesWay, PassesOver, IsBounded, IsSound, IsAwake, IsWanted, known_of, World, wait_of}
 use Rattle.world_base.specs.Bounds.{GaveWay}
 use Rattle.world_base.proofs.Bounds.{one_takes}
 use Rattle.world_base.proofs.of_table.Bounds.{first_marked}
-use Rattle.world_barrier.specs.declared.world.ListName.TheVariants.{Lock}
-use Rattle.world_barrier.specs.Bound.{Takes, GivesWay, PassesOver, IsBounded}
-use Rattle.world_barrier.specs.Laws.{IsSound, IsAwake, IsWanted}
-use Rattle.world_barrier.specs.Runs.{known_of}
-use Rattle.world_barrier.specs.State.{World, wait_of}
+use Rattle.world_barrier.specs.Bound.{Takes}
 use Rattle.world_barrier.proofs.whole.Promises.{keeps_promise}
 
 abbrev IsFree : World → Type 0
@@ -21,7 +14,7 @@ passed w p a v not_taken (inl takes) = absurd (not_taken takes)
 passed w p a v not_taken (inr gives) = (gives.free, gives.gave_way)
 
 gives : (w : World) (p : ℕ) (inputs : Inputs) (a : Answer) (v : World) → IsFree w → PassesOver w p inputs a v → IsFree v × GaveWay p w.lock.starved w.lock_list v.lock.starved v.lock_list
-gives w p inputs a v free over = passed w p a v over.not_taken (((keeps_promise (known_of w) w p call.Poll inputs over.whole.more a v over.whole.runs over.whole.ended).solo refl over.solo free).takes_or_gives_way over.limit)
+gives w p inputs a v free over = passed w p a v over.not_taken (((keeps_promise (known_of w) w p Call.Poll inputs over.whole.more a v over.whole.runs over.whole.ended).solo refl over.solo free).takes_or_gives_way over.limit)
 
 pub bounded : (w : World) → IsSound w → IsAwake w → IsWanted w → IsBounded w
 bounded w sound awake wanted =

@@ -1,62 +1,12 @@
 -- What always holds of a barrier's World, as callers see it.
-use Rattle.std.proofs.Common.{◌≡◌, ℕ, zero, suc, ◌+◌, ◌<◌, ◌≤◌, inl, inr, true, false, List, [], ◌∷◌, length, Option, Some, None, refl, arith, ap, sym, ◌∙◌, subst}
-use Rattle.std.specs.List.{list_all}
-use Rattle.lock_event.specs.Lists.{is_marked_at, IsMarkedFirst}
-use Rattle.world_base.specs.queue.Parties.{is_party, entries_of}
-use Rattle.world_base.specs.declared.moves.Answer.{Answer}
-use Rattle.world_base.specs.declared.standing.Kind.{Kind}
-use Rattle.world_base.specs.declared.standing.Kind.TheVariants as kind
-use Rattle.world_base.specs.declared.standing.Rest.{Rest}
-use Rattle.world_base.specs.declared.standing.Rest.TheVariants as rest
-use Rattle.world_base.specs.declared.standing.Stage.{Stage}
-use Rattle.world_base.specs.declared.standing.Stage.TheVariants.{Outside, Inside, Forgotten}
-use Rattle.world_base.specs.declared.standing.Within.{Within}
-use Rattle.world_base.specs.Standings.{Standing, outside, inside, forgotten, is_outside, is_outside_stage}
-use Rattle.world_base.proofs.Equations.{both}
-use Rattle.world_base.specs.table.Stages.{stage_at, stands_as}
-use Rattle.world_base.specs.table.Tables.{Table}
+use Rattle.world_barrier.proofs.Prelude.{◌≡◌, ℕ, zero, suc, ◌+◌, ◌<◌, ◌≤◌, inl, inr, true, false, List, [], ◌∷◌, length, Option, Some, None, refl, arith, ap, sym, ◌∙◌, subst, list_all, is_marked_at, IsMarkedFirst, is_party, entries_of, Answer, Kind, Rest, Stage, Outside, Inside, Forgotten, Within, Standing, outside, inside, forgotten, is_outside, is_outside_stage, both, stage_at, stands_as, Table, by_stage_or_past, by_stage_or_past_at, rest_seen, outside_at, Course, bit, starved_there, listed_there, rests_there, course_at, LockAtRest, out_rests, waiting_rests, out_unlisted, holding_unlisted, listed_once, Aim, Ending, Place, EnterLock, WaitLock, TakeLock, Arrive, NotifyAll, Check, JoinAgain, ReleaseLock, ReleasingLock, Ask, CancelLeave, Abandon, Position, Out, Made, Locking, Waiting, At, Progress, Words, arrivals_at, IsFollower, fits_lock, in_lock, listed, follows, HasOutcome, Outcome, is_resting, counted, wait_for, wait_until, wait_at, Barrier, IsBarrier, HasArrived, IsAtRest, goes_with, is_begun, is_abandoning, runs, position_at, arrival_at, ListName, Lock, Generation, IsFinished, World, list_in, standing_of, wait_of, is_starved, verdict_in, view_of, HasItsOwn, IsSound, IsAwake, IsStillThere, is_at_rest, is_long_call, IsBarrierTable, ◌⊎◌, false≢true, marked_count, is_decided, taking, releasing, undecided, called, counting, has_lock, giving_up, is_out as is_out_there, is_holding, is_waiting, is_cancelling, is_due_there, CancelLock, CancellingLock, verdict, is_due, IsDue}
 use Rattle.world_base.proofs.of_table.Mapped.{past_last}
-use Rattle.world_base.proofs.of_table.Past.{by_stage_or_past, by_stage_or_past_at}
-use Rattle.world_base.proofs.of_table.Views.{rest_seen, outside_at}
-use Rattle.world_mutex.specs.machine.Course.{Course, bit, counted as starved_there, listed as listed_there, is_resting as rests_there}
-use Rattle.world_mutex.specs.machine.Mutex.{course_at, IsAtRest as LockAtRest}
-use Rattle.world_mutex.proofs.of_machine.callers.Callers.{out_rests, waiting_rests, out_unlisted, holding_unlisted, listed_once}
 use Rattle.world_mutex.proofs.of_machine.callers.Holders as sees
-use Rattle.sync_program.specs.declared.barrier.Aim.{Aim}
-use Rattle.sync_program.specs.declared.barrier.Aim.TheVariants as aim
-use Rattle.sync_program.specs.declared.barrier.Ending.{Ending}
-use Rattle.sync_program.specs.declared.barrier.Ending.TheVariants as ending
-use Rattle.sync_program.specs.declared.barrier.Place.{Place}
-use Rattle.sync_program.specs.declared.barrier.Place.TheVariants.{EnterLock, WaitLock, TakeLock, Arrive, NotifyAll, Check, JoinAgain, ReleaseLock, ReleasingLock, Ask, CancelLeave, Abandon}
-use Rattle.sync_program.specs.declared.barrier.Position.{Position}
-use Rattle.sync_program.specs.declared.barrier.Position.TheVariants.{Out, Made, Locking, Waiting, At}
-use Rattle.world_barrier.specs.declared.program.words.Progress.{Progress}
-use Rattle.world_barrier.specs.declared.program.words.Words.{Words}
-use Rattle.world_barrier.specs.program.Words.{arrivals_at, IsFollower}
-use Rattle.world_barrier.specs.machine.Roles.{fits_lock, in_lock, listed, follows, HasOutcome, Outcome, is_resting}
-use Rattle.world_barrier.specs.machine.Waits.{counted, wait_for, wait_until, wait_at}
-use Rattle.world_barrier.specs.machine.Machine.{Barrier, IsBarrier, HasArrived, IsAtRest, goes_with, is_begun, is_abandoning, runs, position_at, arrival_at}
-use Rattle.world_barrier.specs.declared.world.ListName.{ListName}
-use Rattle.world_barrier.specs.declared.world.ListName.TheVariants.{Lock, Generation}
-use Rattle.world_barrier.specs.Numbers.{IsFinished}
-use Rattle.world_barrier.specs.State.{World, list_in, standing_of, wait_of, is_starved}
-use Rattle.world_barrier.specs.View.{verdict_in, view_of}
-use Rattle.world_barrier.specs.Legal.{HasItsOwn}
-use Rattle.world_barrier.specs.Laws.{IsSound, IsAwake, IsStillThere, is_at_rest, is_long_call}
-use Rattle.world_barrier.specs.Steps.{IsBarrierTable}
 use Rattle.world_barrier.proofs.table.Seen as seen
 use Rattle.world_barrier.proofs.step.Locks.{releasing_unlisted}
 use Rattle.world_barrier.proofs.step.Owns as owns
 use Rattle.world_barrier.proofs.step.Owns.{at_most_once}
 use Rattle.world_barrier.proofs.Numbers as numbers
-use Rattle.std.proofs.Common.{◌⊎◌, false}
-use Rattle.std.proofs.lemmas.Bool.{false≢true}
-use Rattle.lock_event.specs.Lists.{marked_count}
-use Rattle.world_base.specs.Standings.{is_decided}
-use Rattle.world_mutex.specs.machine.Course.{taking, releasing, undecided, called, counting, has_lock, gives_up as giving_up, is_out as is_out_there, is_holding, is_waiting, is_cancelling, is_due as is_due_there}
-use Rattle.sync_program.specs.declared.barrier.Place.TheVariants.{CancelLock, CancellingLock}
-use Rattle.world_barrier.specs.machine.Waits.{verdict}
-use Rattle.world_barrier.specs.Laws.{is_due, IsDue}
 
 -- ---- calls
 
@@ -65,11 +15,11 @@ abandon_unbegun Abandon h b = cc b
 abandon_unbegun _ h b = cc h
 
 long_by : (k : Kind) (r : Rest) (x : Place) → is_begun x ≡ true → runs k r x ≡ true → is_long_call k r ≡ true
-long_by kind.FirstPoll rest.Idle x b h = refl
-long_by kind.FirstPoll rest.Finished x b h = refl
-long_by kind.LaterPoll rest.Pending x b h = refl
-long_by kind.Drop rest.Pending x b h = refl
-long_by kind.Drop rest.Finished x b h = absurd (abandon_unbegun x h b)
+long_by Kind.FirstPoll Rest.Idle x b h = refl
+long_by Kind.FirstPoll Rest.Finished x b h = refl
+long_by Kind.LaterPoll Rest.Pending x b h = refl
+long_by Kind.Drop Rest.Pending x b h = refl
+long_by Kind.Drop Rest.Finished x b h = absurd (abandon_unbegun x h b)
 long_by _ _ x b h = absurd (cc h)
 
 long_at : (s : Stage) (x : Position) (d : Option Answer) (u : Within) (e : Option Answer) → goes_with s x ≡ true → stands_as d s ≡ inside u e → is_long_call u.kind u.was ≡ true
@@ -107,15 +57,15 @@ same_number : (n a : ℕ) → counted n ≡ counted a → a ≡ n
 same_number n a e = cc
 
 counted_for : (m : Aim) (n a : ℕ) (r : Progress) (v : Words) → wait_for m n ≡ counted a → (follows (Made m) ≡ true → IsFollower v.size r) → (a ≡ n) × HasArrived r
-counted_for aim.Arrive n a r v e f = absurd (cc e)
-counted_for aim.Check n a r v e f = let k = (f refl).counted in (same_number n a e, omega arith)
+counted_for Aim.Arrive n a r v e f = absurd (cc e)
+counted_for Aim.Check n a r v e f = let k = (f refl).counted in (same_number n a e, omega arith)
 
 counted_until : (k : Ending) (n a : ℕ) (r : Progress) (v : Words) → wait_until k n ≡ counted a → (follows (At (ReleaseLock k)) ≡ true → IsFollower v.size r) → Outcome k r v → (a ≡ n) × HasArrived r
-counted_until ending.Wait n a r v e f o = let k = (f refl).counted in (same_number n a e, omega arith)
-counted_until ending.Follow n a r v e f o = let k = o.0.counted in (same_number n a e, omega arith)
-counted_until ending.Lead n a r v e f o = let k = o.1 in (same_number n a e, omega arith)
-counted_until ending.RefuseGenerations n a r v e f o = absurd (cc e)
-counted_until (ending.RefuseMemory m) n a r v e f o = counted_for m n a r v e f
+counted_until Ending.Wait n a r v e f o = let k = (f refl).counted in (same_number n a e, omega arith)
+counted_until Ending.Follow n a r v e f o = let k = o.0.counted in (same_number n a e, omega arith)
+counted_until Ending.Lead n a r v e f o = let k = o.1 in (same_number n a e, omega arith)
+counted_until Ending.RefuseGenerations n a r v e f o = absurd (cc e)
+counted_until (Ending.RefuseMemory m) n a r v e f o = counted_for m n a r v e f
 
 counted_by : (x : Position) (n a : ℕ) (r : Progress) (v : Words) → wait_at x n ≡ counted a → (follows x ≡ true → IsFollower v.size r) → HasOutcome x r v → (a ≡ n) × HasArrived r
 counted_by Out n a r v e f o = absurd (cc e)
@@ -137,9 +87,9 @@ counted_by (At _) n a r v e f o = absurd (cc e)
 listed_follows : (x : Position) (n a : ℕ) → wait_at x n ≡ counted a → 0 < listed x → follows x ≡ true
 listed_follows Waiting n a e some = refl
 listed_follows (At Arrive) n a e some = absurd (cc e)
-listed_follows (At (ReleaseLock ending.Wait)) n a e some = refl
+listed_follows (At (ReleaseLock Ending.Wait)) n a e some = refl
 listed_follows (At (ReleaseLock _)) n a e some = absurd (omega arith)
-listed_follows (At (ReleasingLock ending.Wait)) n a e some = refl
+listed_follows (At (ReleasingLock Ending.Wait)) n a e some = refl
 listed_follows (At (ReleasingLock _)) n a e some = absurd (omega arith)
 listed_follows (At Ask) n a e some = refl
 listed_follows (At CancelLeave) n a e some = absurd (cc e)
@@ -153,10 +103,10 @@ resting (Outside r) Out g o = refl
 resting (Outside r) (Made a) g o = refl
 resting (Outside r) (Locking a) g o = refl
 resting (Outside r) Waiting g o = refl
-resting (Outside rest.Idle) (At y) g o = absurd (cc g)
-resting (Outside rest.Pending) (At y) g o = absurd (cc g)
-resting (Outside rest.Holding) (At y) g o = absurd (cc g)
-resting (Outside rest.Finished) (At y) g o = absurd (cc g)
+resting (Outside Rest.Idle) (At y) g o = absurd (cc g)
+resting (Outside Rest.Pending) (At y) g o = absurd (cc g)
+resting (Outside Rest.Holding) (At y) g o = absurd (cc g)
+resting (Outside Rest.Finished) (At y) g o = absurd (cc g)
 resting (Inside w) x g o = absurd (cc o)
 resting Forgotten x g o = g
 
@@ -187,20 +137,20 @@ rest_waits _ h some = absurd (omega arith)
 
 -- who stands in a list outside every call is pending, or was when it was forgotten
 still_there : (s : Stage) (x : Position) (d : Option Answer) → goes_with s x ≡ true → is_outside_stage s ≡ true → (x ≡ Out → ⊥) → IsStillThere (stands_as d s)
-still_there (Outside rest.Pending) x d g o h = inl refl
+still_there (Outside Rest.Pending) x d g o h = inl refl
 still_there Forgotten x d g o h = inr refl
-still_there (Outside rest.Idle) Out d g o h = absurd (h refl)
-still_there (Outside rest.Idle) _ d g o h = absurd (cc g)
-still_there (Outside rest.Finished) Out d g o h = absurd (h refl)
-still_there (Outside rest.Finished) _ d g o h = absurd (cc g)
-still_there (Outside rest.Holding) x d g o h = absurd (cc g)
+still_there (Outside Rest.Idle) Out d g o h = absurd (h refl)
+still_there (Outside Rest.Idle) _ d g o h = absurd (cc g)
+still_there (Outside Rest.Finished) Out d g o h = absurd (h refl)
+still_there (Outside Rest.Finished) _ d g o h = absurd (cc g)
+still_there (Outside Rest.Holding) x d g o h = absurd (cc g)
 still_there (Inside w) x d g o h = absurd (cc o)
 
 inside_by : (w : World) (p : ℕ) (s : Standing) → HasItsOwn w p s → w.lock.holder ≡ Some p → is_outside s ≡ false
-inside_by w p (outside rest.Idle) k h = absurd (k.clear.lock h)
-inside_by w p (outside rest.Finished) k h = absurd (k.clear.lock h)
-inside_by w p (outside rest.Pending) k h = absurd (k.0 h)
-inside_by w p (outside rest.Holding) k h = absurd k
+inside_by w p (outside Rest.Idle) k h = absurd (k.clear.lock h)
+inside_by w p (outside Rest.Finished) k h = absurd (k.clear.lock h)
+inside_by w p (outside Rest.Pending) k h = absurd (k.0 h)
+inside_by w p (outside Rest.Holding) k h = absurd k
 inside_by w p (inside u d) k h = refl
 inside_by w p forgotten k h = absurd (k h)
 
@@ -244,11 +194,11 @@ polls_due u a _ h = absurd (cc h)
 
 due_inside : (u : Within) (y : Place) (c : Course) → fits_lock (in_lock (At y)) c ≡ true → is_due_there c ≡ true → Moves c → is_due (stands_as (verdict (At y) c) (Inside u)) ≡ true
 due_inside u (TakeLock a) c link h m = polls_due u a c h
-due_inside u (ReleasingLock ending.Wait) c link h m = refl
-due_inside u (ReleasingLock ending.Follow) c link h m = refl
-due_inside u (ReleasingLock ending.Lead) c link h m = refl
-due_inside u (ReleasingLock ending.RefuseGenerations) c link h m = refl
-due_inside u (ReleasingLock (ending.RefuseMemory a)) c link h m = refl
+due_inside u (ReleasingLock Ending.Wait) c link h m = refl
+due_inside u (ReleasingLock Ending.Follow) c link h m = refl
+due_inside u (ReleasingLock Ending.Lead) c link h m = refl
+due_inside u (ReleasingLock Ending.RefuseGenerations) c link h m = refl
+due_inside u (ReleasingLock (Ending.RefuseMemory a)) c link h m = refl
 due_inside u (WaitLock a) c link h m = absurd (false≢true (sym m.not_waiting ∙ link))
 due_inside u CancelLock c link h m = absurd (false≢true (sym m.not_waiting ∙ link))
 due_inside u CancellingLock c link h m = absurd (false≢true (sym m.not_cancelling ∙ link))

@@ -1,21 +1,6 @@
 -- The laws of a barrier's World: what follows from one step that its table did.
-use Rattle.std.proofs.Common.{◌≡◌, ◌≢◌, ℕ, ◌+◌, ◌<◌, ◌≤◌, true, refl, sym, subst}
-use Rattle.world_base.specs.declared.moves.Answer.{Answer}
-use Rattle.world_base.specs.declared.moves.Answer.TheVariants as answer
-use Rattle.world_base.specs.declared.moves.Call.{Call}
-use Rattle.world_base.specs.declared.moves.Inputs.{Inputs}
-use Rattle.world_base.specs.declared.moves.Move.{Move}
-use Rattle.world_base.specs.declared.standing.Rest.TheVariants as rest
-use Rattle.world_base.specs.Accounts.{Account, accounts_after}
-use Rattle.world_base.specs.Standings.{is_outside, is_possible}
-use Rattle.world_base.specs.Whole.{going_on}
-use Rattle.world_base.specs.any_world.Steps.{StepsWell, left_by, beginning}
+use Rattle.world_barrier.proofs.Prelude.{◌≡◌, ◌≢◌, ℕ, ◌+◌, ◌<◌, ◌≤◌, true, refl, sym, subst, Answer, Call, Inputs, Move, Rest, Account, accounts_after, is_outside, is_possible, going_on, StepsWell, left_by, beginning, knows, World, standing_of, IsSound, IsAwake, is_at_rest, TellsNoRights, HoldsWell, known_of, Stands, Steps}
 use Rattle.world_base.proofs.of_any_world.Endings.{ends_outside as outside_at_end}
-use Rattle.world_barrier.specs.machine.Machine.{knows}
-use Rattle.world_barrier.specs.State.{World, standing_of}
-use Rattle.world_barrier.specs.Laws.{IsSound, IsAwake, is_at_rest}
-use Rattle.world_barrier.specs.Runs.{TellsNoRights, HoldsWell, known_of}
-use Rattle.world_barrier.specs.Steps.{Stands, Steps}
 use Rattle.world_barrier.specs.Whole.{most_steps_of, steps_left_of}
 use Rattle.world_barrier.proofs.laws.Sound.{sound, awake}
 use Rattle.world_barrier.proofs.rights.Rights.{quiet, holds_well}
@@ -39,5 +24,5 @@ begins_few w p c i a v s = whole.begins_few w.behind v.behind s.did.stood.barrie
 pub falls : (w : World) (p : ℕ) (i : Inputs) (a : Answer) (v : World) → Steps w (going_on p i) a v → left_by a (steps_left_of v p) < steps_left_of w p
 falls w p i a v s = whole.falls w.behind v.behind s.did.stood.barrier s.did.stood.fits p i a s.did.step
 
-pub ends_outside : (w : World) (m : Move) (a : Answer) (v : World) → Steps w m a v → a ≢ answer.Stepped → is_possible a ≡ true → is_outside (standing_of v m.party) ≡ true
-ends_outside w m a v s = outside_at_end standing_of (λ x p. knows) rest.Finished w m a v s.legal.possible s.legal.ends_properly
+pub ends_outside : (w : World) (m : Move) (a : Answer) (v : World) → Steps w m a v → a ≢ Answer.Stepped → is_possible a ≡ true → is_outside (standing_of v m.party) ≡ true
+ends_outside w m a v s = outside_at_end standing_of (λ x p. knows) Rest.Finished w m a v s.legal.possible s.legal.ends_properly

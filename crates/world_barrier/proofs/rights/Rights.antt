@@ -1,28 +1,6 @@
 -- After each step what is known by the answers goes on to be so.
-use Rattle.std.proofs.Common.{◌≡◌, ℕ, ◌==◌, if◌then◌else◌, Bool, true, false, Some, refl, ap, sym, ◌∙◌}
-use Rattle.world_base.specs.declared.moves.Answer.{Answer}
-use Rattle.world_base.specs.declared.moves.Answer.TheVariants as answer
-use Rattle.world_base.specs.declared.moves.Call.TheVariants as call
-use Rattle.world_base.specs.declared.moves.Inputs.{Inputs}
-use Rattle.world_base.specs.declared.moves.Move.{Move}
-use Rattle.world_base.specs.declared.moves.What.{What}
-use Rattle.world_base.specs.declared.moves.What.TheVariants.{Begin, Go}
-use Rattle.world_base.specs.declared.standing.Rest.TheVariants as rest
-use Rattle.world_base.specs.Accounts.{Account, account_after, accounts_after}
-use Rattle.world_base.proofs.Equations.{none_some}
-use Rattle.world_base.specs.any_world.Steps.{StepsWell}
-use Rattle.world_base.specs.table.Stages.{stage_at}
-use Rattle.world_base.specs.table.Tables.{Table}
+use Rattle.world_barrier.proofs.Prelude.{◌≡◌, ℕ, ◌==◌, if◌then◌else◌, Bool, true, false, Some, refl, ap, sym, ◌∙◌, Answer, Call, Inputs, Move, What, Begin, Go, Rest, Account, account_after, accounts_after, none_some, StepsWell, stage_at, Table, way, by_way, Place, Position, place_for, Barrier, Moves, position_at, World, IsSound, IsAwake, is_at_rest, TellsNoRights, HoldsWell, no_account, TableSteps}
 use Rattle.world_base.proofs.of_table.Rights.{idle_account, again_account}
-use Rattle.world_base.proofs.of_table.Ways.{way, by_way}
-use Rattle.sync_program.specs.declared.barrier.Place.{Place}
-use Rattle.sync_program.specs.declared.barrier.Position.{Position}
-use Rattle.world_barrier.specs.program.Program.{place_for}
-use Rattle.world_barrier.specs.machine.Machine.{Barrier, Moves, position_at}
-use Rattle.world_barrier.specs.State.{World}
-use Rattle.world_barrier.specs.Laws.{IsSound, IsAwake, is_at_rest}
-use Rattle.world_barrier.specs.Runs.{TellsNoRights, HoldsWell, no_account}
-use Rattle.world_barrier.specs.Steps.{TableSteps}
 use Rattle.world_barrier.proofs.whole.Alone.{known_calls}
 
 -- ---- no answer of a barrier gives a right
@@ -31,31 +9,31 @@ abbrev Quiet : What → Answer → Type 0
 Quiet what a = account_after no_account what a ≡ no_account
 
 quiet_go : (i : Inputs) (a : Answer) → Quiet (Go i) a
-quiet_go i answer.None = refl
+quiet_go i Answer.None = refl
 quiet_go i _ = refl
 
-quiet_wait : (i : Inputs) (a : Answer) → Quiet (Begin call.Wait i) a
-quiet_wait i answer.None = refl
+quiet_wait : (i : Inputs) (a : Answer) → Quiet (Begin Call.Wait i) a
+quiet_wait i Answer.None = refl
 quiet_wait i _ = refl
 
-quiet_poll : (i : Inputs) (a : Answer) → Quiet (Begin call.Poll i) a
-quiet_poll i answer.None = refl
+quiet_poll : (i : Inputs) (a : Answer) → Quiet (Begin Call.Poll i) a
+quiet_poll i Answer.None = refl
 quiet_poll i _ = refl
 
-quiet_drop : (i : Inputs) (a : Answer) → Quiet (Begin call.Drop i) a
-quiet_drop i answer.None = refl
+quiet_drop : (i : Inputs) (a : Answer) → Quiet (Begin Call.Drop i) a
+quiet_drop i Answer.None = refl
 quiet_drop i _ = refl
 
 quietly : (what : What) (x : Position) (from : Place) → place_for what x ≡ Some from → (a : Answer) → Quiet what a
 quietly (Go i) x from e a = quiet_go i a
-quietly (Begin call.Wait i) x from e a = quiet_wait i a
-quietly (Begin call.Poll i) x from e a = quiet_poll i a
-quietly (Begin call.Drop i) x from e a = quiet_drop i a
+quietly (Begin Call.Wait i) x from e a = quiet_wait i a
+quietly (Begin Call.Poll i) x from e a = quiet_poll i a
+quietly (Begin Call.Drop i) x from e a = quiet_drop i a
 quietly (Begin _ i) x from e a = absurd (none_some e)
 
 pub quiet : (t u : Table Barrier) (m : Move) (a : Answer) → TableSteps t m a u → Quiet m.what a
-quiet t u m a step = by_way known_calls rest.Finished Moves t u m a (λ b x. Quiet m.what b) (λ e. idle_account no_account m.what) (λ w e f. again_account no_account (stage_at t.stages m.party) m.what f)
-    (λ w e f k. quietly m.what (position_at t.machine.positions m.party) k.acts.from k.acts.starts a) (way known_calls rest.Finished Moves t u m a step)
+quiet t u m a step = by_way known_calls Rest.Finished Moves t u m a (λ b x. Quiet m.what b) (λ e. idle_account no_account m.what) (λ w e f. again_account no_account (stage_at t.stages m.party) m.what f)
+    (λ w e f k. quietly m.what (position_at t.machine.positions m.party) k.acts.from k.acts.starts a) (way known_calls Rest.Finished Moves t u m a step)
 
 -- ---- what is known, and that all is well
 

@@ -1,54 +1,8 @@
 -- An action of a party is a legal step, as callers see it.
-use Rattle.std.proofs.Common.{◌≡◌, ◌≢◌, ℕ, ◌<◌, ◌||◌, ◌⊎◌, inl, inr, Bool, true, false, List, length, Option, Some, None, is_some, refl, arith, ap, sym, ◌∙◌, subst, get_or-set_same, get_or-set_other}
-use Rattle.std.proofs.Math.ListN.{set}
-use Rattle.world_base.specs.declared.moves.Answer.{Answer}
-use Rattle.world_base.specs.declared.moves.Answer.TheVariants as answer
-use Rattle.world_base.specs.declared.moves.Inputs.{Inputs}
-use Rattle.world_base.specs.declared.moves.Move.{Move}
-use Rattle.world_base.specs.declared.moves.What.{What}
-use Rattle.lock_program.specs.declared.refusal.Refusal.{Refusal}
-use Rattle.lock_program.specs.declared.refusal.Refusal.TheVariants as refusal
-use Rattle.world_base.specs.declared.standing.Rest.TheVariants as rest
-use Rattle.world_base.specs.declared.standing.Stage.{Stage}
-use Rattle.world_base.specs.declared.standing.Within.{Within}
-use Rattle.world_base.specs.Standings.{Standing, inside, inputs_of, call_in, is_possible, is_stepped, is_decided, may_end, decision, refused, IsUndecided}
-use Rattle.world_base.specs.Frame.{is_drop, is_poll_after_ready, is_refusal}
-use Rattle.lock_program.specs.Refusals.{number_of}
-use Rattle.world_base.specs.Rosters.{is_on}
-use Rattle.world_base.specs.Steps.{Deed, nothing, changes, does}
-use Rattle.world_base.proofs.Equations.{some_eq, none_some}
-use Rattle.world_base.specs.table.Stages.{stage_at, stands_as, call_at, polls_again, stage_after}
-use Rattle.world_base.specs.table.Tables.{Table}
+use Rattle.world_barrier.proofs.Prelude.{◌≡◌, ◌≢◌, ℕ, ◌<◌, ◌||◌, ◌⊎◌, inl, inr, Bool, true, false, List, length, Option, Some, None, is_some, refl, arith, ap, sym, ◌∙◌, subst, get_or-set_same, get_or-set_other, set, Answer, Inputs, Move, What, Refusal, Rest, Stage, Within, Standing, inside, inputs_of, call_in, is_possible, is_stepped, is_decided, may_end, refused, IsUndecided, is_drop, is_poll_after_ready, is_refusal, number_of, is_on, Deed, nothing, changes, does, some_eq, none_some, stage_at, stands_as, call_at, polls_again, stage_after, Table, call_seen, again_seen, stands_seen, decided_after, decision_seen, Course, Mutex, course_at, Action, Aim, Found, Next, Place, Arrive, Complete, Position, Out, Made, At, Progress, Words, progress, arrivals_at, place_for, action_of, next_of, position_after, words_after, arrival_after, OnLock, fits_lock, in_lock, listed, Wait, wait_at, verdict_of, verdict, Barrier, IsBarrier, Acts, knows, runs, position_at, arrival_at, answer_by, ListName, World, standing_of, wait_of, is_starved, is_held_by, IsClear, verdict_in, view_of, Change, takes, releases, starves, recovers, arrives, lock_after, wait_then, wait_after, call_of, DecidesOn, MayTake, IsAllowed, ChangesOneThing, TellsOnRelease, IsTakenFairly, Carried, Carries, Waits, IsCause, IsRefusedForCause, LeavesClear, EndsProperly, Legal, IsBarrierTable, is_counting, is_releasing}
+use Rattle.world_base.specs.Standings.{decision}
 use Rattle.world_base.proofs.of_table.Acting as acting
-use Rattle.world_base.proofs.of_table.Calls.{call_seen, again_seen, stands_seen, decided_after, decision_seen}
-use Rattle.world_mutex.specs.machine.Course.{Course}
-use Rattle.world_mutex.specs.machine.Mutex.{Mutex, course_at}
-use Rattle.sync_program.specs.declared.barrier.Action.{Action}
-use Rattle.sync_program.specs.declared.barrier.Action.TheVariants as act
-use Rattle.sync_program.specs.declared.barrier.Aim.{Aim}
-use Rattle.sync_program.specs.declared.barrier.Found.{Found}
-use Rattle.sync_program.specs.declared.barrier.Found.TheVariants as found
-use Rattle.world_barrier.specs.program.Program.{Next}
-use Rattle.sync_program.specs.declared.barrier.Place.{Place}
-use Rattle.sync_program.specs.declared.barrier.Place.TheVariants.{Arrive, Complete}
-use Rattle.sync_program.specs.declared.barrier.Position.{Position}
-use Rattle.sync_program.specs.declared.barrier.Position.TheVariants.{Out, Made, At}
-use Rattle.world_barrier.specs.declared.program.words.Progress.{Progress}
-use Rattle.world_barrier.specs.declared.program.words.Words.{Words}
-use Rattle.world_barrier.specs.program.Words.{progress, arrivals_at}
-use Rattle.world_barrier.specs.program.Program.{place_for, action_of, next_of, position_after}
-use Rattle.world_barrier.specs.program.Deeds.{words_after, arrival_after}
-use Rattle.world_barrier.specs.program.Locks.{OnLock}
-use Rattle.world_barrier.specs.machine.Roles.{fits_lock, in_lock, listed}
-use Rattle.world_barrier.specs.machine.Waits.{Wait, wait_at, verdict_of, verdict}
-use Rattle.world_barrier.specs.machine.Machine.{Barrier, IsBarrier, Acts, knows, runs, position_at, arrival_at, answer_by}
 use Rattle.world_barrier.proofs.of_machine.stages.Links.{lock_others}
-use Rattle.world_barrier.specs.declared.world.ListName.{ListName}
-use Rattle.world_barrier.specs.State.{World, standing_of, wait_of, is_starved, is_held_by, IsClear}
-use Rattle.world_barrier.specs.View.{verdict_in, view_of}
-use Rattle.world_barrier.specs.Changes.{Change, takes, releases, starves, recovers, arrives, lock_after, wait_then, wait_after}
-use Rattle.world_barrier.specs.Legal.{call_of, DecidesOn, MayTake, IsAllowed, ChangesOneThing, TellsOnRelease, IsTakenFairly, Carried, Carries, Waits, IsCause, IsRefusedForCause, LeavesClear, EndsProperly, Legal}
-use Rattle.world_barrier.specs.Steps.{IsBarrierTable}
 use Rattle.world_barrier.proofs.table.Seen as seen
 use Rattle.world_barrier.proofs.step.Here.{Here, may_begin_at}
 use Rattle.world_barrier.proofs.step.Locks.{wait_by}
@@ -58,11 +12,10 @@ use Rattle.world_barrier.proofs.step.Turns as turns
 use Rattle.world_barrier.proofs.step.Turns.{said}
 use Rattle.world_barrier.proofs.step.Rows.{row}
 use Rattle.world_barrier.proofs.step.Endings.{said_so, possible_by, said_then, ends_by, wait_goes}
-use Rattle.world_mutex.specs.machine.Course.{is_counting, is_releasing}
 
 -- ---- By the deed
 
-wait_deed : (d : Deed Change ListName) (k : ℕ) (what : What) (n : Next) (b : Wait) → wait_by d k (answer_by n) (wait_then what answer.Stepped b) ≡ wait_after d k what (answer_by n) b
+wait_deed : (d : Deed Change ListName) (k : ℕ) (what : What) (n : Next) (b : Wait) → wait_by d k (answer_by n) (wait_then what Answer.Stepped b) ≡ wait_after d k what (answer_by n) b
 wait_deed (changes arrives) k what n b = refl
 wait_deed (changes _) k what n b = sym (wait_goes what n b)
 wait_deed nothing k what n b = sym (wait_goes what n b)
@@ -123,12 +76,12 @@ module _ (t u : Table Barrier) (m : Move) (w : Within) (starts : Bool) where
   kept_on (Some d) o b j e = j ∙ e
   kept_on None o b j e = absurd (none_some e)
 
-  reasoned : (v o : Option Answer) (b : Answer) → Judged v o → ((d : Answer) → v ≡ Some d → d ≡ answer.GivenBack) → o ≡ Some b → (b ≡ answer.GivenBack) ⊎ turns.Reason t u m w starts b
+  reasoned : (v o : Option Answer) (b : Answer) → Judged v o → ((d : Answer) → v ≡ Some d → d ≡ Answer.GivenBack) → o ≡ Some b → (b ≡ Answer.GivenBack) ⊎ turns.Reason t u m w starts b
   reasoned (Some d) o b j late e = inl (some_eq (sym e ∙ j) ∙ late d refl)
   reasoned None None b j late e = absurd (none_some e)
   reasoned None (Some d) b j late e = let P : Answer → Type 0 = turns.Reason t u m w starts in inr (subst P (some_eq e) j)
 
-  pended : (v o : Option Answer) → Judged v o → (v ≡ Some answer.Pending → ⊥) → o ≡ Some answer.Pending → turns.Reason t u m w starts answer.Pending
+  pended : (v o : Option Answer) → Judged v o → (v ≡ Some Answer.Pending → ⊥) → o ≡ Some Answer.Pending → turns.Reason t u m w starts Answer.Pending
   pended (Some d) o j late e = absurd (late (sym j ∙ e))
   pended None None j late e = absurd (none_some e)
   pended None (Some d) j late e = let P : Answer → Type 0 = turns.Reason t u m w starts in subst P (some_eq e) j
@@ -146,10 +99,10 @@ most_kept Complete v = refl
 most_kept _ v = refl
 
 lock_limit : (i : Inputs) (p : ℕ) (t u : Mutex) (a : Action) (f : Found) → OnLock i p a f t u → u.limit ≡ t.limit
-lock_limit i p t u (act.Begin c) (found.Lock n) e = e.legal.limit
-lock_limit i p t u (act.Begin c) _ e = absurd e
-lock_limit i p t u act.Go (found.Lock n) e = e.legal.limit
-lock_limit i p t u act.Go _ e = absurd e
+lock_limit i p t u (Action.Begin c) (Found.Lock n) e = e.legal.limit
+lock_limit i p t u (Action.Begin c) _ e = absurd e
+lock_limit i p t u Action.Go (Found.Lock n) e = e.legal.limit
+lock_limit i p t u Action.Go _ e = absurd e
 lock_limit i p t u _ f e = ap (λ (l : Mutex). l.limit) e
 
 undecided_inside : (s : Standing) (w : Within) (o : Option Answer) → s ≡ inside w o → is_decided s ≡ false → IsUndecided s
@@ -210,7 +163,7 @@ module _ (t u : Table Barrier) (m : Move) (a : Answer) (w : Within) where
     pub runs : runs w.kind w.was from ≡ true
     pub acts : Acts i p from found t.machine u.machine
     pub answer : a ≡ answer_by (next_of from found)
-    pub stages : u.stages ≡ set t.stages p (stage_after rest.Finished w a)
+    pub stages : u.stages ≡ set t.stages p (stage_after Rest.Finished w a)
     pub opening : u.opening ≡ t.opening
 
   module _ (k : Acting) where
@@ -253,17 +206,17 @@ module _ (t u : Table Barrier) (m : Move) (a : Answer) (w : Within) where
     pub stood : standing_of old p ≡ stands_as (verdict x c) s
     stood = seen.standing_seen t p
 
-    pub stands : standing_of new p ≡ stands_as (verdict to d) (stage_after rest.Finished w a)
-    stands = acting.stands verdict_in rest.Finished t u p w a k.inside k.stages ∙ ap (λ y. stands_as (verdict y d) (stage_after rest.Finished w a)) lands_at
+    pub stands : standing_of new p ≡ stands_as (verdict to d) (stage_after Rest.Finished w a)
+    stands = acting.stands verdict_in Rest.Finished t u p w a k.inside k.stages ∙ ap (λ y. stands_as (verdict y d) (stage_after Rest.Finished w a)) lands_at
 
     same_verdict : (q : ℕ) → q ≢ p → verdict_in u.machine q ≡ verdict_in t.machine q
     same_verdict q apart = ap (λ y. verdict y (course_at u.machine.lock.courses q)) (stays q apart) ∙ ap (verdict (position_at xs q)) (course_stays q apart)
 
     pub others_stand : (q : ℕ) → q ≢ p → standing_of new q ≡ standing_of old q
-    others_stand q apart = acting.others_stand verdict_in rest.Finished t u p w a k.inside k.stages q apart (same_verdict q apart)
+    others_stand q apart = acting.others_stand verdict_in Rest.Finished t u p w a k.inside k.stages q apart (same_verdict q apart)
 
     pub decides : decision a (standing_of new p) ≡ said n d
-    decides = ap (decision a) stands ∙ (decision_seen rest.Finished w a (verdict to d) ∙ (ap (λ b. decided_after b (verdict to d)) k.answer ∙ said_so n d))
+    decides = ap (decision a) stands ∙ (decision_seen Rest.Finished w a (verdict to d) ∙ (ap (λ b. decided_after b (verdict to d)) k.answer ∙ said_so n d))
 
     pub wait_old : wait_of old p ≡ wait_at x num
     wait_old = seen.wait_seen t p
@@ -307,7 +260,7 @@ module _ (t u : Table Barrier) (m : Move) (a : Answer) (w : Within) where
 
     own_wait : wait_of new p ≡ wait_after r.deed old.arrivals m.what a (wait_of old p)
     own_wait =
-        r.wait ∙ (ap (wait_by r.deed old.arrivals (answer_by n)) (sym (k.here.wait num)) ∙ (ap (λ b. wait_by r.deed old.arrivals (answer_by n) (wait_then m.what answer.Stepped b)) (sym wait_old)
+        r.wait ∙ (ap (wait_by r.deed old.arrivals (answer_by n)) (sym (k.here.wait num)) ∙ (ap (λ b. wait_by r.deed old.arrivals (answer_by n) (wait_then m.what Answer.Stepped b)) (sym wait_old)
         ∙ (wait_deed r.deed old.arrivals m.what n (wait_of old p) ∙ ap (λ b. wait_after r.deed old.arrivals m.what b (wait_of old p)) (sym k.answer))))
 
     one_change : ChangesOneThing old m a new
@@ -321,7 +274,7 @@ module _ (t u : Table Barrier) (m : Move) (a : Answer) (w : Within) where
       wait = own_wait;
       other_waits = other_waits;
       others = others_stand;
-      parties = acting.as_many verdict_in rest.Finished t u p w a k.inside k.stages;
+      parties = acting.as_many verdict_in Rest.Finished t u p w a k.inside k.stages;
       size = same_size;
       starved_limit = lock_limit i p t.machine.lock u.machine.lock (action_of from) k.found k.acts.lock;
       generations_limit = ap (λ (v : Words). v.most) k.acts.words ∙ most_kept from t.machine.words;
@@ -334,29 +287,29 @@ module _ (t u : Table Barrier) (m : Move) (a : Answer) (w : Within) where
     starts_here = may_begin_at from
 
     -- what is decided now, and was not before, has its reason, or is given back
-    reason : (b : Answer) → DecidesOn old m a new b → (b ≡ answer.GivenBack) ⊎ turns.Reason t u m w starts_here b
+    reason : (b : Answer) → DecidesOn old m a new b → (b ≡ Answer.GivenBack) ⊎ turns.Reason t u m w starts_here b
     reason b e = reasoned t u m w starts_here (verdict_of from c) (said n d) b r.judged (k.here.undecided c (sym (ap is_decided stood) ∙ e.0)) (sym decides ∙ e.1)
 
     carries : Carries old m a new
     carries = record {
-      ready = λ g e. elim (reason (answer.Ready g) e) as (λ _. Carried g old m new) [ inl b ↦ absurd (cc b) | inr y ↦ y ];
+      ready = λ g e. elim (reason (Answer.Ready g) e) as (λ _. Carried g old m new) [ inl b ↦ absurd (cc b) | inr y ↦ y ];
       led = λ e leads. (let l = r.led e leads in (not_either (is_decided (standing_of old p)) (is_drop m.what) (decided_there ∙ ap is_some l.0), decides ∙ l.1));
     }
 
     waits : Waits m a new
     waits = record {
-      waiting = λ e. pended t u m w starts_here (verdict_of from c) (said n d) r.judged (owns.never_pending from c) (said_then n d answer.Pending refl (sym k.answer ∙ e));
+      waiting = λ e. pended t u m w starts_here (verdict_of from c) (said n d) r.judged (owns.never_pending from c) (said_then n d Answer.Pending refl (sym k.answer ∙ e));
       not_before = λ v e. (owns.well u k.new_laws k.new_fits).never_pending p v e;
     }
 
     -- who is refused for too many starved parties was about to be counted
-    pub counts : DecidesOn old m a new (refused refusal.Starved) → is_counting c ≡ true
-    counts e = elim (reason (refused refusal.Starved) e) as (λ _. is_counting c ≡ true) [ inl b ↦ absurd (cc b) | inr y ↦ y.2 refl ]
+    pub counts : DecidesOn old m a new (refused Refusal.Starved) → is_counting c ≡ true
+    counts e = elim (reason (refused Refusal.Starved) e) as (λ _. is_counting c ≡ true) [ inl b ↦ absurd (cc b) | inr y ↦ y.2 refl ]
 
     refused_for_cause : IsRefusedForCause old m a new
     refused_for_cause = record {
-      cause = λ z e. elim (reason (answer.Refused z) e) as (λ _. (b : Refusal) × (z ≡ number_of b) × IsCause old m new b) [ inl b ↦ absurd (cc b) | inr y ↦ y.0 ];
-      memory = λ e. elim (reason (refused refusal.Memory) e) as (λ _. IsUndecided (standing_of old p)) [ inl b ↦ absurd (cc b) | inr y ↦ undecided_inside (standing_of old p) w (verdict_of from c) (stood ∙ k.here.going y.1 c) e.0 ];
+      cause = λ z e. elim (reason (Answer.Refused z) e) as (λ _. (b : Refusal) × (z ≡ number_of b) × IsCause old m new b) [ inl b ↦ absurd (cc b) | inr y ↦ y.0 ];
+      memory = λ e. elim (reason (refused Refusal.Memory) e) as (λ _. IsUndecided (standing_of old p)) [ inl b ↦ absurd (cc b) | inr y ↦ undecided_inside (standing_of old p) w (verdict_of from c) (stood ∙ k.here.going y.1 c) e.0 ];
       after_ready = (
         (λ e. absurd (r.not_over (sym k.answer ∙ e))),
         (λ e. let never : polls_again s m.what ≡ true = sym (again_seen (verdict x c) s m.what) ∙ (ap (λ z. is_poll_after_ready z m.what) (sym stood) ∙ e) in absurd (cc (k.first, never))),
@@ -386,7 +339,7 @@ module _ (t u : Table Barrier) (m : Move) (a : Answer) (w : Within) where
     may_end_so h = ap (may_end w.kind) k.answer ∙ ends_by w.kind w.was from k.found k.runs (sym (ap is_stepped k.answer) ∙ h)
 
     ends_properly : EndsProperly old m a new
-    ends_properly = acting.ends_so standing_of (λ y q. knows) rest.Finished old m a new w called is_possible_now (rw stands (stands_seen rest.Finished w a (verdict to d) is_possible_now may_end_so))
+    ends_properly = acting.ends_so standing_of (λ y q. knows) Rest.Finished old m a new w called is_possible_now (rw stands (stands_seen Rest.Finished w a (verdict to d) is_possible_now may_end_so))
         (λ v b e. decides ∙ kept_on t u m w starts_here (verdict_of from c) (said n d) b r.judged (k.here.kept c v b (sym stood ∙ e)))
 
     tells_on_release : TellsOnRelease old m a new
@@ -399,7 +352,7 @@ module _ (t u : Table Barrier) (m : Move) (a : Answer) (w : Within) where
 
     pub legal : Legal old m a new
     legal = record {
-      possible = acting.possible_so standing_of (λ y q. knows) rest.Finished old m a new w called is_possible_now;
+      possible = acting.possible_so standing_of (λ y q. knows) Rest.Finished old m a new w called is_possible_now;
       one_change = one_change;
       taken_fairly = fairly old m new r.deed r.allowed r.lock;
       others_keep = record { lock = keep_lock old m new r.deed r.allowed r.lock; starved = keep_starved old m new r.deed r.lock };

@@ -1,36 +1,6 @@
 -- What is so where a move begins or goes on.
-use Rattle.std.proofs.Common.{◌≡◌, ℕ, ◌||◌, Bool, true, false, Option, Some, None, is_some, refl, arith, subst}
-use Rattle.world_base.specs.declared.moves.Answer.{Answer}
-use Rattle.world_base.specs.declared.moves.Answer.TheVariants as answer
-use Rattle.world_base.specs.declared.moves.Call.TheVariants as call
-use Rattle.world_base.specs.declared.moves.Inputs.{Inputs}
-use Rattle.world_base.specs.declared.moves.What.{What}
-use Rattle.world_base.specs.declared.moves.What.TheVariants.{Begin, Go}
-use Rattle.world_base.specs.declared.standing.Kind.{Kind}
-use Rattle.world_base.specs.declared.standing.Kind.TheVariants as kind
-use Rattle.world_base.specs.declared.standing.Rest.{Rest}
-use Rattle.world_base.specs.declared.standing.Rest.TheVariants as rest
-use Rattle.world_base.specs.declared.standing.Stage.{Stage}
-use Rattle.world_base.specs.declared.standing.Stage.TheVariants.{Outside, Inside, Forgotten}
-use Rattle.world_base.specs.declared.standing.Within.{Within}
-use Rattle.world_base.specs.Standings.{inside, is_decided}
-use Rattle.world_base.specs.Frame.{is_drop}
-use Rattle.world_base.proofs.Equations.{some_eq, both, not_one}
-use Rattle.world_base.specs.table.Stages.{stands_as, call_at, polls_again}
-use Rattle.world_mutex.specs.machine.Course.{Course}
-use Rattle.sync_program.specs.declared.barrier.Aim.{Aim}
-use Rattle.sync_program.specs.declared.barrier.Aim.TheVariants as aim
-use Rattle.sync_program.specs.declared.barrier.Place.{Place}
-use Rattle.sync_program.specs.declared.barrier.Place.TheVariants.{EnterLock, WaitLock, Ask, CancelLock, CancelLeave, Abandon}
-use Rattle.sync_program.specs.declared.barrier.Position.{Position}
-use Rattle.sync_program.specs.declared.barrier.Position.TheVariants.{Out, Made, Locking, Waiting, At}
-use Rattle.world_barrier.specs.program.Program.{place_for}
-use Rattle.world_barrier.specs.machine.Roles.{listed}
-use Rattle.world_barrier.specs.machine.Waits.{wait_at, wait_of as place_wait, verdict, verdict_of}
-use Rattle.world_barrier.specs.machine.Machine.{knows, runs, is_begun, goes_with}
+use Rattle.world_barrier.proofs.Prelude.{◌≡◌, ℕ, ◌||◌, Bool, true, false, Option, Some, None, is_some, refl, arith, subst, Answer, Call, Inputs, What, Begin, Go, Kind, Rest, Stage, Outside, Inside, Forgotten, Within, inside, is_decided, is_drop, some_eq, both, not_one, stands_as, call_at, polls_again, Course, Aim, Place, EnterLock, WaitLock, Ask, CancelLock, CancelLeave, Abandon, Position, Out, Made, Locking, Waiting, At, place_for, listed, wait_at, place_wait, verdict, verdict_of, knows, runs, is_begun, goes_with, wait_then, is_first_poll, is_later_poll}
 use Rattle.world_barrier.proofs.of_machine.stages.Starts.{Fits}
-use Rattle.world_barrier.specs.Changes.{wait_then}
-use Rattle.world_barrier.specs.AtOnce.{is_first_poll, is_later_poll}
 
 abbrev pub the : Kind → Rest → Within
 the k r = record { kind = k; was = r }
@@ -46,7 +16,7 @@ may_begin_at Abandon = true
 may_begin_at _ = false
 
 abbrev pub changes_wait : Place → Bool
-changes_wait (EnterLock aim.Arrive) = true
+changes_wait (EnterLock Aim.Arrive) = true
 changes_wait CancelLock = true
 changes_wait CancelLeave = true
 changes_wait Abandon = true
@@ -71,11 +41,11 @@ HasEntries x n = Unit {0}
 
 pub record Here (s : Stage) (what : What) (w : Within) (x : Position) (from : Place) : Type 0 where
   pub fits : Fits w x from
-  pub wait : (n : ℕ) → wait_then what answer.Stepped (wait_at x n) ≡ place_wait from n
+  pub wait : (n : ℕ) → wait_then what Answer.Stepped (wait_at x n) ≡ place_wait from n
   pub before : (n : ℕ) → changes_wait from ≡ false → wait_at x n ≡ place_wait from n
   pub decides : (c : Course) → is_decided (stands_as (verdict x c) s) || is_drop what ≡ is_some (verdict_of from c)
   pub kept : (c : Course) (u : Within) (b : Answer) → stands_as (verdict x c) s ≡ inside u (Some b) → verdict_of from c ≡ Some b
-  pub undecided : (c : Course) → is_decided (stands_as (verdict x c) s) ≡ false → (b : Answer) → verdict_of from c ≡ Some b → b ≡ answer.GivenBack
+  pub undecided : (c : Course) → is_decided (stands_as (verdict x c) s) ≡ false → (b : Answer) → verdict_of from c ≡ Some b → b ≡ Answer.GivenBack
   pub going : may_begin_at from ≡ false → (c : Course) → stands_as (verdict x c) s ≡ inside w (verdict_of from c)
   pub drops : only_drops from ≡ true → is_drop what ≡ true
   pub first : (c : Course) (n : ℕ) → is_first_poll (stands_as (verdict x c) s) what n ≡ true → HasEntries x n → enters_lock from ≡ true
@@ -94,7 +64,7 @@ decides_so : (w : Within) (o : Option Answer) → is_decided (inside w o) || fal
 decides_so w None = refl
 decides_so w (Some b) = refl
 
-undecided_so : (w : Within) (o : Option Answer) (b : Answer) → is_decided (inside w o) ≡ false → o ≡ Some b → b ≡ answer.GivenBack
+undecided_so : (w : Within) (o : Option Answer) (b : Answer) → is_decided (inside w o) ≡ false → o ≡ Some b → b ≡ Answer.GivenBack
 undecided_so w None b h e = absurd (cc)
 undecided_so w (Some c) b h e = absurd (cc)
 
@@ -104,7 +74,7 @@ never_begun CancelLeave b h = cc b
 never_begun Abandon b h = cc b
 never_begun _ b h = cc h
 
-begins_wait : (r : Rest) (i : Inputs) → runs kind.FirstPoll r (EnterLock aim.Arrive) ≡ true → Here (Outside r) (Begin call.Wait i) (the kind.FirstPoll r) Out (EnterLock aim.Arrive)
+begins_wait : (r : Rest) (i : Inputs) → runs Kind.FirstPoll r (EnterLock Aim.Arrive) ≡ true → Here (Outside r) (Begin Call.Wait i) (the Kind.FirstPoll r) Out (EnterLock Aim.Arrive)
 begins_wait r i g = record {
   fits = record { stands = refl; lock = refl; counted = λ h. h; sure = λ a v h. tt; outcome = λ a v h. tt; late = refl; tells = refl; runs = g };
   wait = λ n. refl;
@@ -118,7 +88,7 @@ begins_wait r i g = record {
   later = λ c h l. absurd (cc);
 }
 
-polls_made : (m : Aim) (i : Inputs) → Here (Outside rest.Pending) (Begin call.Poll i) (the kind.LaterPoll rest.Pending) (Made m) (EnterLock m)
+polls_made : (m : Aim) (i : Inputs) → Here (Outside Rest.Pending) (Begin Call.Poll i) (the Kind.LaterPoll Rest.Pending) (Made m) (EnterLock m)
 polls_made m i = record {
   fits = record { stands = refl; lock = refl; counted = λ h. h; sure = λ a v h. tt; outcome = λ a v h. tt; late = refl; tells = refl; runs = refl };
   wait = λ n. refl;
@@ -132,7 +102,7 @@ polls_made m i = record {
   later = λ c h l. absurd (omega arith);
 }
 
-polls_locking : (m : Aim) (i : Inputs) → Here (Outside rest.Pending) (Begin call.Poll i) (the kind.LaterPoll rest.Pending) (Locking m) (WaitLock m)
+polls_locking : (m : Aim) (i : Inputs) → Here (Outside Rest.Pending) (Begin Call.Poll i) (the Kind.LaterPoll Rest.Pending) (Locking m) (WaitLock m)
 polls_locking m i = record {
   fits = record { stands = refl; lock = refl; counted = λ h. h; sure = λ a v h. tt; outcome = λ a v h. tt; late = refl; tells = refl; runs = refl };
   wait = λ n. refl;
@@ -146,7 +116,7 @@ polls_locking m i = record {
   later = λ c h l. absurd (omega arith);
 }
 
-polls_waiting : (i : Inputs) → Here (Outside rest.Pending) (Begin call.Poll i) (the kind.LaterPoll rest.Pending) Waiting Ask
+polls_waiting : (i : Inputs) → Here (Outside Rest.Pending) (Begin Call.Poll i) (the Kind.LaterPoll Rest.Pending) Waiting Ask
 polls_waiting i = record {
   fits = record { stands = refl; lock = refl; counted = λ h. h; sure = λ a v h. tt; outcome = λ a v h. tt; late = refl; tells = refl; runs = refl };
   wait = λ n. refl;
@@ -160,7 +130,7 @@ polls_waiting i = record {
   later = λ c h l. refl;
 }
 
-drops_made : (m : Aim) (i : Inputs) → Here (Outside rest.Pending) (Begin call.Drop i) (the kind.Drop rest.Pending) (Made m) Abandon
+drops_made : (m : Aim) (i : Inputs) → Here (Outside Rest.Pending) (Begin Call.Drop i) (the Kind.Drop Rest.Pending) (Made m) Abandon
 drops_made m i = record {
   fits = record { stands = refl; lock = refl; counted = λ h. absurd (cc h); sure = λ a v h. tt; outcome = λ a v h. tt; late = refl; tells = refl; runs = refl };
   wait = λ n. refl;
@@ -174,7 +144,7 @@ drops_made m i = record {
   later = λ c h l. absurd (cc);
 }
 
-drops_locking : (m : Aim) (i : Inputs) → Here (Outside rest.Pending) (Begin call.Drop i) (the kind.Drop rest.Pending) (Locking m) CancelLock
+drops_locking : (m : Aim) (i : Inputs) → Here (Outside Rest.Pending) (Begin Call.Drop i) (the Kind.Drop Rest.Pending) (Locking m) CancelLock
 drops_locking m i = record {
   fits = record { stands = refl; lock = refl; counted = λ h. absurd (cc h); sure = λ a v h. tt; outcome = λ a v h. tt; late = refl; tells = refl; runs = refl };
   wait = λ n. refl;
@@ -188,7 +158,7 @@ drops_locking m i = record {
   later = λ c h l. absurd (cc);
 }
 
-drops_waiting : (i : Inputs) → Here (Outside rest.Pending) (Begin call.Drop i) (the kind.Drop rest.Pending) Waiting CancelLeave
+drops_waiting : (i : Inputs) → Here (Outside Rest.Pending) (Begin Call.Drop i) (the Kind.Drop Rest.Pending) Waiting CancelLeave
 drops_waiting i = record {
   fits = record { stands = refl; lock = refl; counted = λ h. h; sure = λ a v h. tt; outcome = λ a v h. tt; late = refl; tells = refl; runs = refl };
   wait = λ n. refl;
@@ -202,7 +172,7 @@ drops_waiting i = record {
   later = λ c h l. absurd (cc);
 }
 
-drops_finished : (i : Inputs) → Here (Outside rest.Finished) (Begin call.Drop i) (the kind.Drop rest.Finished) Out Abandon
+drops_finished : (i : Inputs) → Here (Outside Rest.Finished) (Begin Call.Drop i) (the Kind.Drop Rest.Finished) Out Abandon
 drops_finished i = record {
   fits = record { stands = refl; lock = refl; counted = λ h. h; sure = λ a v h. tt; outcome = λ a v h. tt; late = refl; tells = refl; runs = refl };
   wait = λ n. refl;
@@ -231,18 +201,18 @@ goes_on v x i b g = record {
 }
 
 pub turn : (s : Stage) (what : What) (w : Within) (x : Position) → goes_with s x ≡ true → call_at knows s what ≡ Some w → polls_again s what ≡ false → Turn s what w x
-turn (Outside rest.Idle) (Begin call.Wait i) w Out g e n = turned _ _ _ w Out (EnterLock aim.Arrive) refl e (begins_wait rest.Idle i refl)
-turn (Outside rest.Idle) (Begin _ i) w Out g e n = absurd (cc)
-turn (Outside rest.Finished) (Begin call.Wait i) w Out g e n = turned _ _ _ w Out (EnterLock aim.Arrive) refl e (begins_wait rest.Finished i refl)
-turn (Outside rest.Finished) (Begin call.Drop i) w Out g e n = turned _ _ _ w Out Abandon refl e (drops_finished i)
-turn (Outside rest.Finished) (Begin _ i) w Out g e n = absurd (cc)
-turn (Outside rest.Pending) (Begin call.Poll i) w (Made m) g e n = turned _ _ _ w (Made m) (EnterLock m) refl e (polls_made m i)
-turn (Outside rest.Pending) (Begin call.Poll i) w (Locking m) g e n = turned _ _ _ w (Locking m) (WaitLock m) refl e (polls_locking m i)
-turn (Outside rest.Pending) (Begin call.Poll i) w Waiting g e n = turned _ _ _ w Waiting Ask refl e (polls_waiting i)
-turn (Outside rest.Pending) (Begin call.Drop i) w (Made m) g e n = turned _ _ _ w (Made m) Abandon refl e (drops_made m i)
-turn (Outside rest.Pending) (Begin call.Drop i) w (Locking m) g e n = turned _ _ _ w (Locking m) CancelLock refl e (drops_locking m i)
-turn (Outside rest.Pending) (Begin call.Drop i) w Waiting g e n = turned _ _ _ w Waiting CancelLeave refl e (drops_waiting i)
-turn (Outside rest.Pending) (Begin _ i) w _ g e n = absurd (cc)
+turn (Outside Rest.Idle) (Begin Call.Wait i) w Out g e n = turned _ _ _ w Out (EnterLock Aim.Arrive) refl e (begins_wait Rest.Idle i refl)
+turn (Outside Rest.Idle) (Begin _ i) w Out g e n = absurd (cc)
+turn (Outside Rest.Finished) (Begin Call.Wait i) w Out g e n = turned _ _ _ w Out (EnterLock Aim.Arrive) refl e (begins_wait Rest.Finished i refl)
+turn (Outside Rest.Finished) (Begin Call.Drop i) w Out g e n = turned _ _ _ w Out Abandon refl e (drops_finished i)
+turn (Outside Rest.Finished) (Begin _ i) w Out g e n = absurd (cc)
+turn (Outside Rest.Pending) (Begin Call.Poll i) w (Made m) g e n = turned _ _ _ w (Made m) (EnterLock m) refl e (polls_made m i)
+turn (Outside Rest.Pending) (Begin Call.Poll i) w (Locking m) g e n = turned _ _ _ w (Locking m) (WaitLock m) refl e (polls_locking m i)
+turn (Outside Rest.Pending) (Begin Call.Poll i) w Waiting g e n = turned _ _ _ w Waiting Ask refl e (polls_waiting i)
+turn (Outside Rest.Pending) (Begin Call.Drop i) w (Made m) g e n = turned _ _ _ w (Made m) Abandon refl e (drops_made m i)
+turn (Outside Rest.Pending) (Begin Call.Drop i) w (Locking m) g e n = turned _ _ _ w (Locking m) CancelLock refl e (drops_locking m i)
+turn (Outside Rest.Pending) (Begin Call.Drop i) w Waiting g e n = turned _ _ _ w Waiting CancelLeave refl e (drops_waiting i)
+turn (Outside Rest.Pending) (Begin _ i) w _ g e n = absurd (cc)
 turn (Outside _) (Begin _ i) w _ g e n = absurd (cc)
 turn (Outside _) (Go i) w x g e n = absurd (cc)
 turn (Inside v) (Go i) w (At x) g e n = let h = both (is_begun x) (runs v.kind v.was x) g in turned _ _ _ w (At x) x refl e (goes_on v x i h.0 h.1)

@@ -1,78 +1,38 @@
 -- What each place's step in the inner lock does, by what it comes to there.
-use Rattle.std.proofs.Common.{◌≡◌, ◌≢◌, ℕ, ◌+◌, ◌||◌, ◌⊎◌, inl, inr, Bool, true, false, List, Option, Some, None, is_some, refl, arith, ap, sym, ◌∙◌, subst}
-use Rattle.world_base.specs.queue.Parties.{entries_of}
-use Rattle.world_base.specs.declared.moves.Answer.{Answer}
-use Rattle.world_base.specs.declared.moves.Answer.TheVariants as answer
-use Rattle.world_base.specs.declared.moves.Move.{Move}
-use Rattle.lock_program.specs.declared.refusal.Refusal.{Refusal}
-use Rattle.lock_program.specs.declared.refusal.Refusal.TheVariants as refusal
-use Rattle.world_base.specs.declared.standing.Within.{Within}
-use Rattle.world_base.specs.Frame.{is_refusal}
-use Rattle.world_base.specs.Standings.{refused}
-use Rattle.world_base.specs.Steps.{Deed, nothing, changes, does, joins, asks, leaves, notifies, notifies_additionally}
-use Rattle.world_base.proofs.Equations.{some_eq, none_some}
-use Rattle.world_base.specs.table.Tables.{Table}
-use Rattle.world_mutex.specs.machine.Course.{Course, holds, counted as starved_there, decision, is_holding, is_releasing, Takes, Releases}
-use Rattle.lock_program.specs.declared.end.End.{End}
-use Rattle.lock_program.specs.declared.end.End.TheVariants as lock_end
-use Rattle.lock_program.specs.declared.mutex.Step.{Step}
-use Rattle.lock_program.specs.declared.mutex.Step.TheVariants as lock_step
+use Rattle.world_barrier.proofs.Prelude.{◌≡◌, ◌≢◌, ℕ, ◌+◌, ◌||◌, ◌⊎◌, inl, inr, Bool, true, false, List, Option, Some, None, is_some, refl, arith, ap, sym, ◌∙◌, subst, entries_of, Answer, Move, Refusal, Within, is_refusal, refused, Deed, nothing, changes, does, joins, asks, leaves, notifies, notifies_additionally, some_eq, none_some, Table, Course, holds, starved_there, decision, is_holding, is_releasing, Takes, Releases, End, LockStep as Step, holders, starved, holder_of, starved_of, IsLegal, IsReason, decided_then, MayDo, IsPolls, holding_holds, releasing_free, Aim, Ending, Found, Next, Made, Words, arrivals_at, position_after, after_lock, after_cancel, after_release, released, with_lock, Wait, no_wait, wait_for, wait_until, wait_at, refused_by, verdict_until, Barrier, IsBarrier, answer_by, ListName, Lock, Generation, LockState, World, list_in, wait_of, is_held_by, is_starved, Change, takes, releases, lock_after, lock_list_after, gives_back, gives_up, IsAllowed, ◌<◌, IsUndecided, listed_there, may_tell, taking as polling, releasing, undecided, called, counting, has_lock, giving_up, standing_of}
 use Rattle.world_mutex.specs.machine.Deeds as mutex
-use Rattle.world_mutex.specs.machine.Mutex.{is_counted, holders, starved, holder_of, starved_of}
-use Rattle.world_mutex.specs.machine.Conduct.{IsLegal, IsReason, decided_then, IsAllowed as MayDo}
-use Rattle.world_mutex.proofs.of_machine.callers.Callers.{IsPolls, holding_holds, releasing_free}
+use Rattle.world_mutex.specs.machine.Mutex.{is_counted}
 use Rattle.world_mutex.proofs.of_machine.callers.Holders as sees
 use Rattle.world_mutex.proofs.of_machine.callers.Rosters.{is_zero}
-use Rattle.sync_program.specs.declared.barrier.Aim.{Aim}
-use Rattle.sync_program.specs.declared.barrier.Aim.TheVariants as aim
-use Rattle.sync_program.specs.declared.barrier.Ending.{Ending}
-use Rattle.sync_program.specs.declared.barrier.Ending.TheVariants as ending
-use Rattle.sync_program.specs.declared.barrier.Found.TheVariants as found
-use Rattle.world_barrier.specs.program.Program.{Next}
 use Rattle.lock_program.specs.declared.end.Next.TheVariants as next
-use Rattle.sync_program.specs.declared.barrier.Position.TheVariants.{Made}
-use Rattle.world_barrier.specs.declared.program.words.Words.{Words}
-use Rattle.world_barrier.specs.program.Words.{arrivals_at}
-use Rattle.world_barrier.specs.program.Program.{position_after, after_lock, after_cancel, after_release, released, with_lock}
-use Rattle.world_barrier.specs.machine.Waits.{Wait, no_wait, wait_for, wait_until, wait_at, refused_by, verdict_until}
-use Rattle.world_barrier.specs.machine.Machine.{Barrier, IsBarrier, answer_by}
-use Rattle.world_barrier.specs.declared.world.ListName.{ListName}
-use Rattle.world_barrier.specs.declared.world.ListName.TheVariants.{Lock, Generation}
-use Rattle.world_barrier.specs.State.{LockState, World, list_in, wait_of, is_held_by, is_starved}
-use Rattle.world_barrier.specs.Changes.{Change, takes, releases, lock_after, lock_list_after, gives_back, gives_up}
-use Rattle.world_barrier.specs.Legal.{IsAllowed}
 use Rattle.world_barrier.proofs.table.Seen.{its_holder}
 use Rattle.world_barrier.proofs.step.Turns as turns
 use Rattle.world_barrier.proofs.step.Turns.{said}
 use Rattle.world_barrier.proofs.step.Locks.{ends, deed_of, lock_then, entries_then, IsOfLock, is_of_lock, gives_back_so, gives_up_so, joins_so, leaves_none, releasing_unstarved, releasing_unlisted}
-use Rattle.std.proofs.Common.{◌<◌}
-use Rattle.world_base.specs.Standings.{IsUndecided}
-use Rattle.world_mutex.specs.machine.Course.{listed as listed_there, may_tell, taking as polling, releasing, undecided, called, counting, has_lock, gives_up as giving_up}
-use Rattle.world_barrier.specs.State.{standing_of}
 
 -- ---- what is told by where a step leads
 
-taken_wait : (a : Aim) (s : Step) (n : ℕ) → wait_at (position_after (after_lock a (found.Lock s))) n ≡ ends (answer_by (after_lock a (found.Lock s))) (wait_for a n)
-taken_wait a lock_step.More n = refl
-taken_wait aim.Arrive (lock_step.End lock_end.Got) n = refl
-taken_wait aim.Check (lock_step.End lock_end.Got) n = refl
-taken_wait a (lock_step.End (lock_end.Refused r)) n = refl
-taken_wait a (lock_step.End _) n = refl
+taken_wait : (a : Aim) (s : Step) (n : ℕ) → wait_at (position_after (after_lock a (Found.Lock s))) n ≡ ends (answer_by (after_lock a (Found.Lock s))) (wait_for a n)
+taken_wait a Step.More n = refl
+taken_wait Aim.Arrive (Step.End End.Got) n = refl
+taken_wait Aim.Check (Step.End End.Got) n = refl
+taken_wait a (Step.End (End.Refused r)) n = refl
+taken_wait a (Step.End _) n = refl
 
 released_wait : (e : Ending) (n : ℕ) → wait_at (position_after (released e)) n ≡ ends (answer_by (released e)) (wait_until e n)
-released_wait ending.Wait n = refl
-released_wait ending.Follow n = refl
-released_wait ending.Lead n = refl
-released_wait ending.RefuseGenerations n = refl
-released_wait (ending.RefuseMemory a) n = refl
+released_wait Ending.Wait n = refl
+released_wait Ending.Follow n = refl
+released_wait Ending.Lead n = refl
+released_wait Ending.RefuseGenerations n = refl
+released_wait (Ending.RefuseMemory a) n = refl
 
-release_wait : (e : Ending) (s : Step) (n : ℕ) → wait_at (position_after (after_release e (found.Lock s))) n ≡ ends (answer_by (after_release e (found.Lock s))) (wait_until e n)
-release_wait e lock_step.More n = refl
-release_wait e (lock_step.End x) n = released_wait e n
+release_wait : (e : Ending) (s : Step) (n : ℕ) → wait_at (position_after (after_release e (Found.Lock s))) n ≡ ends (answer_by (after_release e (Found.Lock s))) (wait_until e n)
+release_wait e Step.More n = refl
+release_wait e (Step.End x) n = released_wait e n
 
-cancel_wait : (s : Step) (n : ℕ) → wait_at (position_after (after_cancel (found.Lock s))) n ≡ ends (answer_by (after_cancel (found.Lock s))) no_wait
-cancel_wait lock_step.More n = refl
-cancel_wait (lock_step.End x) n = refl
+cancel_wait : (s : Step) (n : ℕ) → wait_at (position_after (after_cancel (Found.Lock s))) n ≡ ends (answer_by (after_cancel (Found.Lock s))) no_wait
+cancel_wait Step.More n = refl
+cancel_wait (Step.End x) n = refl
 
 -- who may notify in the inner lock's list hasn't the lock, and stands there only while it is starved
 tells_free : (c : Course) → may_tell c ≡ true → holds c ≡ 0
@@ -97,72 +57,72 @@ tells_starved _ h some = absurd (cc h)
 abbrev Clear : Next → Type 0
 Clear n = is_refusal (answer_by n) ≡ true → (for : Aim) × (position_after n ≡ Made for)
 
-taken_clear : (a : Aim) (s : Step) → Clear (after_lock a (found.Lock s))
-taken_clear a lock_step.More h = absurd (cc h)
-taken_clear aim.Arrive (lock_step.End lock_end.Got) h = absurd (cc h)
-taken_clear aim.Check (lock_step.End lock_end.Got) h = absurd (cc h)
-taken_clear a (lock_step.End (lock_end.Refused r)) h = (a, refl)
-taken_clear a (lock_step.End _) h = absurd (cc h)
+taken_clear : (a : Aim) (s : Step) → Clear (after_lock a (Found.Lock s))
+taken_clear a Step.More h = absurd (cc h)
+taken_clear Aim.Arrive (Step.End End.Got) h = absurd (cc h)
+taken_clear Aim.Check (Step.End End.Got) h = absurd (cc h)
+taken_clear a (Step.End (End.Refused r)) h = (a, refl)
+taken_clear a (Step.End _) h = absurd (cc h)
 
 released_clear : (e : Ending) → Clear (released e)
-released_clear ending.Wait h = absurd (cc h)
-released_clear ending.Follow h = absurd (cc h)
-released_clear ending.Lead h = absurd (cc h)
-released_clear ending.RefuseGenerations h = (aim.Arrive, refl)
-released_clear (ending.RefuseMemory a) h = (a, refl)
+released_clear Ending.Wait h = absurd (cc h)
+released_clear Ending.Follow h = absurd (cc h)
+released_clear Ending.Lead h = absurd (cc h)
+released_clear Ending.RefuseGenerations h = (Aim.Arrive, refl)
+released_clear (Ending.RefuseMemory a) h = (a, refl)
 
-release_clear : (e : Ending) (s : Step) → Clear (after_release e (found.Lock s))
-release_clear e lock_step.More h = absurd (cc h)
-release_clear e (lock_step.End x) h = released_clear e h
+release_clear : (e : Ending) (s : Step) → Clear (after_release e (Found.Lock s))
+release_clear e Step.More h = absurd (cc h)
+release_clear e (Step.End x) h = released_clear e h
 
-cancel_clear : (s : Step) → Clear (after_cancel (found.Lock s))
-cancel_clear lock_step.More h = absurd (cc h)
-cancel_clear (lock_step.End x) h = absurd (cc h)
+cancel_clear : (s : Step) → Clear (after_cancel (Found.Lock s))
+cancel_clear Step.More h = absurd (cc h)
+cancel_clear (Step.End x) h = absurd (cc h)
 
 abbrev NotOver : Next → Type 0
-NotOver n = answer_by n ≢ refused refusal.Finished
+NotOver n = answer_by n ≢ refused Refusal.Finished
 
-six : (n : ℕ) → answer.Refused n ≡ refused refusal.Finished → n ≡ 6
+six : (n : ℕ) → Answer.Refused n ≡ refused Refusal.Finished → n ≡ 6
 six n e = cc
 
-taken_over : (a : Aim) (s : Step) (to : Course) → Takes s to → NotOver (after_lock a (found.Lock s))
-taken_over a lock_step.More to t e = cc e
-taken_over aim.Arrive (lock_step.End lock_end.Got) to t e = cc e
-taken_over aim.Check (lock_step.End lock_end.Got) to t e = cc e
-taken_over a (lock_step.End (lock_end.Refused refusal.Memory)) to t e = let f : Path ℕ 1 6 = six 1 e in omega (arith, f)
-taken_over a (lock_step.End (lock_end.Refused refusal.Starved)) to t e = let f : Path ℕ 2 6 = six 2 e in omega (arith, f)
-taken_over a (lock_step.End lock_end.Pending) to t e = cc e
-taken_over a (lock_step.End _) to t e = absurd t
+taken_over : (a : Aim) (s : Step) (to : Course) → Takes s to → NotOver (after_lock a (Found.Lock s))
+taken_over a Step.More to t e = cc e
+taken_over Aim.Arrive (Step.End End.Got) to t e = cc e
+taken_over Aim.Check (Step.End End.Got) to t e = cc e
+taken_over a (Step.End (End.Refused Refusal.Memory)) to t e = let f : Path ℕ 1 6 = six 1 e in omega (arith, f)
+taken_over a (Step.End (End.Refused Refusal.Starved)) to t e = let f : Path ℕ 2 6 = six 2 e in omega (arith, f)
+taken_over a (Step.End End.Pending) to t e = cc e
+taken_over a (Step.End _) to t e = absurd t
 
 released_over : (e : Ending) → NotOver (released e)
-released_over ending.Wait h = cc h
-released_over ending.Follow h = cc h
-released_over ending.Lead h = cc h
-released_over ending.RefuseGenerations h = let f : Path ℕ 5 6 = six 5 h in omega (arith, f)
-released_over (ending.RefuseMemory a) h = let f : Path ℕ 1 6 = six 1 h in omega (arith, f)
+released_over Ending.Wait h = cc h
+released_over Ending.Follow h = cc h
+released_over Ending.Lead h = cc h
+released_over Ending.RefuseGenerations h = let f : Path ℕ 5 6 = six 5 h in omega (arith, f)
+released_over (Ending.RefuseMemory a) h = let f : Path ℕ 1 6 = six 1 h in omega (arith, f)
 
-release_over : (e : Ending) (s : Step) → NotOver (after_release e (found.Lock s))
-release_over e lock_step.More h = cc h
-release_over e (lock_step.End x) h = released_over e h
+release_over : (e : Ending) (s : Step) → NotOver (after_release e (Found.Lock s))
+release_over e Step.More h = cc h
+release_over e (Step.End x) h = released_over e h
 
-cancel_over : (s : Step) → NotOver (after_cancel (found.Lock s))
-cancel_over lock_step.More h = cc h
-cancel_over (lock_step.End x) h = cc h
+cancel_over : (s : Step) → NotOver (after_cancel (Found.Lock s))
+cancel_over Step.More h = cc h
+cancel_over (Step.End x) h = cc h
 
 released_said : (e : Ending) (c : Course) → said (released e) c ≡ verdict_until e
-released_said ending.Wait c = refl
-released_said ending.Follow c = refl
-released_said ending.Lead c = refl
-released_said ending.RefuseGenerations c = refl
-released_said (ending.RefuseMemory a) c = refl
+released_said Ending.Wait c = refl
+released_said Ending.Follow c = refl
+released_said Ending.Lead c = refl
+released_said Ending.RefuseGenerations c = refl
+released_said (Ending.RefuseMemory a) c = refl
 
-release_said : (e : Ending) (s : Step) (c : Course) → said (after_release e (found.Lock s)) c ≡ verdict_until e
-release_said e lock_step.More c = refl
-release_said e (lock_step.End x) c = released_said e c
+release_said : (e : Ending) (s : Step) (c : Course) → said (after_release e (Found.Lock s)) c ≡ verdict_until e
+release_said e Step.More c = refl
+release_said e (Step.End x) c = released_said e c
 
-cancel_said : (s : Step) (c : Course) → said (after_cancel (found.Lock s)) c ≡ Some answer.GivenBack
-cancel_said lock_step.More c = refl
-cancel_said (lock_step.End x) c = refl
+cancel_said : (s : Step) (c : Course) → said (after_cancel (Found.Lock s)) c ≡ Some Answer.GivenBack
+cancel_said Step.More c = refl
+cancel_said (Step.End x) c = refl
 
 or_true : (b : Bool) → b || true ≡ true
 or_true true = refl
@@ -284,9 +244,9 @@ module _ (t u : Table Barrier) (m : Move) (w : Within) (laws : IsBarrier t.machi
     -- ---- a poll on the inner lock
 
     module _ (a : Aim) (starts : Bool) where
-      why : (r : Refusal) → IsReason memory p t.machine.lock u.machine.lock (lock_end.Refused r) → (old.lock.holder ≡ Some p → ⊥) → entries_of p t.machine.entries ≡ 0 → starts ≡ false → wait_of new p ≡ wait_of old p → IsUndecided (standing_of old p) → turns.Reason t u m w starts (refused r)
-      why refusal.Memory y free none at wait midway = (
-        (refusal.Memory, refl, record { input = y.0; needed = λ h. absurd (free h); unlisted = lists; unchanged = record { arrivals = same_arrivals; lock = same_state _ _ _ _ y.3 y.4; lists = kept; wait = wait } }),
+      why : (r : Refusal) → IsReason memory p t.machine.lock u.machine.lock (End.Refused r) → (old.lock.holder ≡ Some p → ⊥) → entries_of p t.machine.entries ≡ 0 → starts ≡ false → wait_of new p ≡ wait_of old p → IsUndecided (standing_of old p) → turns.Reason t u m w starts (refused r)
+      why Refusal.Memory y free none at wait midway = (
+        (Refusal.Memory, refl, record { input = y.0; needed = λ h. absurd (free h); unlisted = lists; unchanged = record { arrivals = same_arrivals; lock = same_state _ _ _ _ y.3 y.4; lists = kept; wait = wait } }),
         at,
         λ e. absurd (omega (arith, e)),
       ) where
@@ -297,9 +257,9 @@ module _ (t u : Table Barrier) (m : Move) (w : Within) (laws : IsBarrier t.machi
         kept : (list : ListName) → list_in list new ≡ list_in list old
         kept Lock = y.2
         kept Generation = unlisted
-      why refusal.Starved y free none at wait midway = (
+      why Refusal.Starved y free none at wait midway = (
         (
-          refusal.Starved,
+          Refusal.Starved,
           refl,
           record {
             limit = sees.how_many_counted t.machine.lock.courses ∙ y.0;
@@ -319,62 +279,62 @@ module _ (t u : Table Barrier) (m : Move) (w : Within) (laws : IsBarrier t.machi
 
       -- what a decision of the poll on the inner lock says of the wait
       abbrev Because : End → Type 0
-      Because lock_end.Pending = turns.Reason t u m w starts answer.Pending
-      Because (lock_end.Refused r) = turns.Reason t u m w starts (refused r)
+      Because End.Pending = turns.Reason t u m w starts Answer.Pending
+      Because (End.Refused r) = turns.Reason t u m w starts (refused r)
       Because _ = Unit {0}
 
       more : (o : Option End) → ((e : End) → o ≡ Some e → Because e) → Judged starts None (refused_by o)
       more None f = tt
-      more (Some (lock_end.Refused r)) f = f (lock_end.Refused r) refl
+      more (Some (End.Refused r)) f = f (End.Refused r) refl
       more (Some _) f = tt
 
       got_so : (b : Aim) → Judged starts None (said (next.Do (with_lock b)) d)
-      got_so aim.Arrive = tt
-      got_so aim.Check = tt
+      got_so Aim.Arrive = tt
+      got_so Aim.Check = tt
 
-      unpolled : {A : Type 0} (e : End) → IsPolls (Some e) → (e ≡ lock_end.Got → ⊥) → ((r : Refusal) → e ≡ lock_end.Refused r → ⊥) → A
+      unpolled : {A : Type 0} (e : End) → IsPolls (Some e) → (e ≡ End.Got → ⊥) → ((r : Refusal) → e ≡ End.Refused r → ⊥) → A
       unpolled e (inl h) f g = absurd (none_some (sym h))
       unpolled e (inr (inl h)) f g = absurd (f (some_eq h))
       unpolled e (inr (inr h)) f g = absurd (g h.0 (some_eq h.1))
 
-      judge : (o : Option End) (s : Step) → Takes s d → ((e : End) → o ≡ Some e → decided_then s d ≡ Some e) → IsPolls o → ((e : End) → o ≡ None → decided_then s d ≡ Some e → Because e) → Judged starts (refused_by o) (said (after_lock a (found.Lock s)) d)
-      judge None lock_step.More h k q r = more (decision d) (λ e. r e refl)
-      judge None (lock_step.End lock_end.Got) h k q r = got_so a
-      judge None (lock_step.End lock_end.Pending) h k q r = r lock_end.Pending refl refl
-      judge None (lock_step.End (lock_end.Refused x)) h k q r = r (lock_end.Refused x) refl refl
-      judge None (lock_step.End _) h k q r = absurd h
-      judge (Some (lock_end.Refused x)) lock_step.More h k q r = ap refused_by (k (lock_end.Refused x) refl)
-      judge (Some (lock_end.Refused x)) (lock_step.End e) h k q r = ap (λ e. said (after_lock a (found.Lock (lock_step.End e))) d) (some_eq (k (lock_end.Refused x) refl))
-      judge (Some lock_end.Got) lock_step.More h k q r = let P : Option End → Type 0 = λ o. Judged starts None (refused_by o) in subst P (sym (k lock_end.Got refl)) tt
-      judge (Some lock_end.Got) (lock_step.End e) h k q r = let P : End → Type 0 = λ e. Judged starts None (said (after_lock a (found.Lock (lock_step.End e))) d) in subst P (sym (some_eq (k lock_end.Got refl))) (got_so a)
+      judge : (o : Option End) (s : Step) → Takes s d → ((e : End) → o ≡ Some e → decided_then s d ≡ Some e) → IsPolls o → ((e : End) → o ≡ None → decided_then s d ≡ Some e → Because e) → Judged starts (refused_by o) (said (after_lock a (Found.Lock s)) d)
+      judge None Step.More h k q r = more (decision d) (λ e. r e refl)
+      judge None (Step.End End.Got) h k q r = got_so a
+      judge None (Step.End End.Pending) h k q r = r End.Pending refl refl
+      judge None (Step.End (End.Refused x)) h k q r = r (End.Refused x) refl refl
+      judge None (Step.End _) h k q r = absurd h
+      judge (Some (End.Refused x)) Step.More h k q r = ap refused_by (k (End.Refused x) refl)
+      judge (Some (End.Refused x)) (Step.End e) h k q r = ap (λ e. said (after_lock a (Found.Lock (Step.End e))) d) (some_eq (k (End.Refused x) refl))
+      judge (Some End.Got) Step.More h k q r = let P : Option End → Type 0 = λ o. Judged starts None (refused_by o) in subst P (sym (k End.Got refl)) tt
+      judge (Some End.Got) (Step.End e) h k q r = let P : End → Type 0 = λ e. Judged starts None (said (after_lock a (Found.Lock (Step.End e))) d) in subst P (sym (some_eq (k End.Got refl))) (got_so a)
       judge (Some e) s h k q r = unpolled e q (λ x. cc x) (λ x y. cc y)
 
     module _ (a : Aim) (starts : Bool) (decided : Option End) (s : Step) (l : IsLegal memory p decided s t.machine.lock u.machine.lock) (polls : IsPolls decided) (leads : Takes s d)
-        (got : decided ≡ Some lock_end.Got → holds c ≡ 1) (free : (r : Refusal) → decided ≡ Some (lock_end.Refused r) → holds c ≡ 0) (unheld : decided ≡ None → holds c ≡ 0) where
+        (got : decided ≡ Some End.Got → holds c ≡ 1) (free : (r : Refusal) → decided ≡ Some (End.Refused r) → holds c ≡ 0) (unheld : decided ≡ None → holds c ≡ 0) where
       up : (o : Option End) → decided ≡ o → IsPolls o → gives_up (deed_of l.deed) ≡ true → is_some (refused_by o) || is_held_by old.lock.holder p ≡ true
       up None e q h = let never = l.holds_on e in let is = gives_up_so l.deed in absurd (cc (h, never, is))
-      up (Some lock_end.Got) e q h = ap (λ o. is_held_by o p) (sees.holds_it t.machine.lock.courses p laws.lock.one_holder (got e)) ∙ its_holder p
-      up (Some (lock_end.Refused r)) e q h = refl
+      up (Some End.Got) e q h = ap (λ o. is_held_by o p) (sees.holds_it t.machine.lock.courses p laws.lock.one_holder (got e)) ∙ its_holder p
+      up (Some (End.Refused r)) e q h = refl
       up (Some x) e q h = unpolled a starts x q (λ y. cc y) (λ r y. cc y)
 
       back : (o : Option End) → decided ≡ o → is_some (refused_by o) ≡ true → gives_back (deed_of l.deed) ≡ true
-      back (Some (lock_end.Refused r)) e h = gives_back_so l.deed ∙ (l.kept (lock_end.Refused r) e).1
+      back (Some (End.Refused r)) e h = gives_back_so l.deed ∙ (l.kept (End.Refused r) e).1
       back None e h = absurd (cc h)
       back (Some _) e h = absurd (cc h)
 
       keeps_it : (o : Option End) → decided ≡ o → IsPolls o → l.deed ≡ changes mutex.releases → ⊥
       keeps_it None e q h = let never : mutex.gives_up (changes mutex.releases) ≡ false = ap mutex.gives_up (sym h) ∙ l.holds_on e in cc never
-      keeps_it (Some lock_end.Got) e q h = let never : mutex.is_release (changes mutex.releases) ≡ false = ap mutex.is_release (sym h) ∙ l.keeps_lock e in cc never
-      keeps_it (Some (lock_end.Refused r)) e q h = let one : holds c ≡ 1 = (let P : Deed mutex.Change mutex.ListName → Type 0 = λ x. MayDo p x t.machine.lock in subst P h l.allowed) in let none = free r e in omega arith
+      keeps_it (Some End.Got) e q h = let never : mutex.is_release (changes mutex.releases) ≡ false = ap mutex.is_release (sym h) ∙ l.keeps_lock e in cc never
+      keeps_it (Some (End.Refused r)) e q h = let one : holds c ≡ 1 = (let P : Deed mutex.Change mutex.ListName → Type 0 = λ x. MayDo p x t.machine.lock in subst P h l.allowed) in let none = free r e in omega arith
       keeps_it (Some x) e q h = unpolled a starts x q (λ y. cc y) (λ r y. cc y)
 
-      waits_still : (z : Step) → z ≡ s → (r : Refusal) → decided_then z d ≡ Some (lock_end.Refused r) → wait_of new p ≡ wait_at (position_after (after_lock a (found.Lock z))) num → wait_of new p ≡ wait_for a num
-      waits_still lock_step.More e r h f = f
-      waits_still (lock_step.End x) e r h f = let P : End → Type 0 = λ x. wait_of new p ≡ wait_at (position_after (after_lock a (found.Lock (lock_step.End x)))) num in subst P (some_eq h) f
+      waits_still : (z : Step) → z ≡ s → (r : Refusal) → decided_then z d ≡ Some (End.Refused r) → wait_of new p ≡ wait_at (position_after (after_lock a (Found.Lock z))) num → wait_of new p ≡ wait_for a num
+      waits_still Step.More e r h f = f
+      waits_still (Step.End x) e r h f = let P : End → Type 0 = λ x. wait_of new p ≡ wait_at (position_after (after_lock a (Found.Lock (Step.End x)))) num in subst P (some_eq h) f
 
-      pub taking : entries_of p t.machine.entries ≡ 0 → ((r : Refusal) → decided_then s d ≡ Some (lock_end.Refused r) → (starts ≡ false) × (wait_of old p ≡ wait_for a num) × (decided ≡ None → IsUndecided (standing_of old p)))
-          → wait_of new p ≡ wait_at (position_after (after_lock a (found.Lock s))) num → Row (wait_for a num) (refused_by decided) (after_lock a (found.Lock s)) starts
-      taking none refusable after = row_of (deed_of l.deed) (wait_for a num) (refused_by decided) (after_lock a (found.Lock s)) starts (lock_deed decided s l (λ e. absurd (keeps_it decided refl polls e))) (record {
+      pub taking : entries_of p t.machine.entries ≡ 0 → ((r : Refusal) → decided_then s d ≡ Some (End.Refused r) → (starts ≡ false) × (wait_of old p ≡ wait_for a num) × (decided ≡ None → IsUndecided (standing_of old p)))
+          → wait_of new p ≡ wait_at (position_after (after_lock a (Found.Lock s))) num → Row (wait_for a num) (refused_by decided) (after_lock a (Found.Lock s)) starts
+      taking none refusable after = row_of (deed_of l.deed) (wait_for a num) (refused_by decided) (after_lock a (Found.Lock s)) starts (lock_deed decided s l (λ e. absurd (keeps_it decided refl polls e))) (record {
         wait = after ∙ taken_wait a s num;
         parting = back decided refl;
         giving_up = up decided refl polls;
@@ -383,17 +343,17 @@ module _ (t u : Table Barrier) (m : Move) (w : Within) (laws : IsBarrier t.machi
         not_over = taken_over a s d leads;
       }) where
         because : (e : End) → decided ≡ None → decided_then s d ≡ Some e → Because a starts e
-        because lock_end.Pending n h = inl (l.reason lock_end.Pending n h)
-        because (lock_end.Refused r) n h = let x = refusable r h in why a starts r (l.reason (lock_end.Refused r) n h) (λ e. (let one = sees.is_held_by t.machine.lock.courses p e in let zero_held = unheld n in omega arith)) none x.0 (waits_still s refl r h after ∙ sym x.1) (x.2 n)
+        because End.Pending n h = inl (l.reason End.Pending n h)
+        because (End.Refused r) n h = let x = refusable r h in why a starts r (l.reason (End.Refused r) n h) (λ e. (let one = sees.is_held_by t.machine.lock.courses p e in let zero_held = unheld n in omega arith)) none x.0 (waits_still s refl r h after ∙ sym x.1) (x.2 n)
         because _ n h = tt
 
     -- ---- the drop of a wait in the inner lock's list
 
-    pub cancelling : (starts : Bool) (s : Step) (l : IsLegal memory p (Some lock_end.GivenBack) s t.machine.lock u.machine.lock) → holds c ≡ 0
-        → wait_of new p ≡ wait_at (position_after (after_cancel (found.Lock s))) num → Row no_wait (Some answer.GivenBack) (after_cancel (found.Lock s)) starts
-    cancelling starts s l none after = row_of (deed_of l.deed) no_wait (Some answer.GivenBack) (after_cancel (found.Lock s)) starts (lock_deed (Some lock_end.GivenBack) s l unheld) (record {
+    pub cancelling : (starts : Bool) (s : Step) (l : IsLegal memory p (Some End.GivenBack) s t.machine.lock u.machine.lock) → holds c ≡ 0
+        → wait_of new p ≡ wait_at (position_after (after_cancel (Found.Lock s))) num → Row no_wait (Some Answer.GivenBack) (after_cancel (Found.Lock s)) starts
+    cancelling starts s l none after = row_of (deed_of l.deed) no_wait (Some Answer.GivenBack) (after_cancel (Found.Lock s)) starts (lock_deed (Some End.GivenBack) s l unheld) (record {
       wait = after ∙ cancel_wait s num;
-      parting = λ h. gives_back_so l.deed ∙ (l.kept lock_end.GivenBack refl).1;
+      parting = λ h. gives_back_so l.deed ∙ (l.kept End.GivenBack refl).1;
       giving_up = λ h. refl;
       judged = cancel_said s d;
       clear = cancel_clear s;
@@ -405,8 +365,8 @@ module _ (t u : Table Barrier) (m : Move) (w : Within) (laws : IsBarrier t.machi
     -- ---- the release of the inner lock
 
     pub releasing_on : (e : Ending) (starts : Bool) (s : Step) (deed : Deed Change ListName) → LockDeed deed → gives_back deed ≡ true → (gives_up deed ≡ true → is_held_by old.lock.holder p ≡ true)
-        → wait_of new p ≡ wait_at (position_after (after_release e (found.Lock s))) num → Row (wait_until e num) (verdict_until e) (after_release e (found.Lock s)) starts
-    releasing_on e starts s deed g backs ups after = row_of deed (wait_until e num) (verdict_until e) (after_release e (found.Lock s)) starts g (record {
+        → wait_of new p ≡ wait_at (position_after (after_release e (Found.Lock s))) num → Row (wait_until e num) (verdict_until e) (after_release e (Found.Lock s)) starts
+    releasing_on e starts s deed g backs ups after = row_of deed (wait_until e num) (verdict_until e) (after_release e (Found.Lock s)) starts g (record {
       wait = after ∙ release_wait e s num;
       parting = λ h. backs;
       giving_up = λ h. ap (λ b. is_some (verdict_until e) || b) (ups h) ∙ or_true (is_some (verdict_until e));
@@ -415,11 +375,11 @@ module _ (t u : Table Barrier) (m : Move) (w : Within) (laws : IsBarrier t.machi
       not_over = release_over e s;
     }) where
       kept : (e : Ending) → Judged starts (verdict_until e) (verdict_until e)
-      kept ending.Wait = tt
-      kept ending.Follow = refl
-      kept ending.Lead = refl
-      kept ending.RefuseGenerations = refl
-      kept (ending.RefuseMemory b) = refl
+      kept Ending.Wait = tt
+      kept Ending.Follow = refl
+      kept Ending.Lead = refl
+      kept Ending.RefuseGenerations = refl
+      kept (Ending.RefuseMemory b) = refl
 
   -- it begins with the release itself
   must_release : (x : Deed mutex.Change mutex.ListName) → new.lock.holder ≡ mutex.holder_after p x (Some p) → (new.lock.holder ≡ Some p → ⊥) → x ≡ changes mutex.releases
@@ -431,12 +391,12 @@ module _ (t u : Table Barrier) (m : Move) (w : Within) (laws : IsBarrier t.machi
   must_release (does mutex.for_the_lock x) e f = absurd (f e)
 
   left_free : (s : Step) → Releases s d → holds d ≡ 0
-  left_free lock_step.More h = releasing_free d h
-  left_free (lock_step.End lock_end.GivenBack) h = ap holds h
-  left_free (lock_step.End _) h = absurd h
+  left_free Step.More h = releasing_free d h
+  left_free (Step.End End.GivenBack) h = ap holds h
+  left_free (Step.End _) h = absurd h
 
   -- and once it is released, what is left is to notify
-  module _ (s : Step) (l : IsLegal memory p (Some lock_end.GivenBack) s t.machine.lock u.machine.lock) (out_of : is_releasing c ≡ true) where
+  module _ (s : Step) (l : IsLegal memory p (Some End.GivenBack) s t.machine.lock u.machine.lock) (out_of : is_releasing c ≡ true) where
     pub record Parting : Type 0 where
       pub deed : Deed Change ListName
       pub of : LockDeed deed
@@ -450,10 +410,10 @@ module _ (t u : Table Barrier) (m : Move) (w : Within) (laws : IsBarrier t.machi
     unheld e = let one : holds c ≡ 1 = may_do (changes mutex.releases) e in let none = releasing_free c out_of in absurd (omega arith)
 
     lifted : (x : Deed mutex.Change mutex.ListName) → l.deed ≡ x → LockDeed (deed_of x)
-    lifted x e = let P : Deed mutex.Change mutex.ListName → Type 0 = λ y. LockDeed (deed_of y) in subst P e (lock_deed (Some lock_end.GivenBack) s l unheld)
+    lifted x e = let P : Deed mutex.Change mutex.ListName → Type 0 = λ y. LockDeed (deed_of y) in subst P e (lock_deed (Some End.GivenBack) s l unheld)
 
     backs_so : (x : Deed mutex.Change mutex.ListName) → l.deed ≡ x → mutex.gives_back x ≡ true
-    backs_so x e = ap mutex.gives_back (sym e) ∙ (l.kept lock_end.GivenBack refl).1
+    backs_so x e = ap mutex.gives_back (sym e) ∙ (l.kept End.GivenBack refl).1
 
     leaves_nothing : l.deed ≡ does mutex.for_the_lock leaves → LockDeed nothing
     leaves_nothing e = record {
@@ -479,15 +439,15 @@ module _ (t u : Table Barrier) (m : Move) (w : Within) (laws : IsBarrier t.machi
     pub parting : Parting
     parting = parted l.deed refl
 
-  module _ (still : u.machine.words ≡ t.machine.words) (unlisted : u.machine.entries ≡ t.machine.entries) (e : Ending) (starts : Bool) (s : Step) (l : IsLegal memory p (Some lock_end.GivenBack) s t.machine.lock u.machine.lock)
-      (after : wait_of new p ≡ wait_at (position_after (after_release e (found.Lock s))) num) where
-    pub releasing_row : is_releasing c ≡ true → Row (wait_until e num) (verdict_until e) (after_release e (found.Lock s)) starts
+  module _ (still : u.machine.words ≡ t.machine.words) (unlisted : u.machine.entries ≡ t.machine.entries) (e : Ending) (starts : Bool) (s : Step) (l : IsLegal memory p (Some End.GivenBack) s t.machine.lock u.machine.lock)
+      (after : wait_of new p ≡ wait_at (position_after (after_release e (Found.Lock s))) num) where
+    pub releasing_row : is_releasing c ≡ true → Row (wait_until e num) (verdict_until e) (after_release e (Found.Lock s)) starts
     releasing_row r = let x = parting s l r in releasing_on still unlisted e starts s x.deed x.of x.backs (λ h. absurd (cc (h, x.keeps))) after
 
-    pub release_row : is_holding c ≡ true → Releases s d → ((old.lock.holder ≡ Some p) → IsAllowed old m (changes releases)) → Row (wait_until e num) (verdict_until e) (after_release e (found.Lock s)) starts
+    pub release_row : is_holding c ≡ true → Releases s d → ((old.lock.holder ≡ Some p) → IsAllowed old m (changes releases)) → Row (wait_until e num) (verdict_until e) (after_release e (Found.Lock s)) starts
     release_row held leads may =
         let has : old.lock.holder ≡ Some p = sees.holds_it t.machine.lock.courses p laws.lock.one_holder (holding_holds c held) in
         let free : new.lock.holder ≡ Some p → ⊥ = (λ h. (let one = sees.is_held_by u.machine.lock.courses p h in let none = left_free s leads in omega arith)) in
         let is : l.deed ≡ changes mutex.releases = must_release l.deed (l.holder ∙ ap (mutex.holder_after p l.deed) has) free in
         let P : Deed mutex.Change mutex.ListName → Type 0 = λ y. LockDeed (deed_of y) in
-        releasing_on still unlisted e starts s (changes releases) (subst P is (lock_deed (Some lock_end.GivenBack) s l (λ h. may has))) refl (λ h. ap (λ o. is_held_by o p) has ∙ its_holder p) after
+        releasing_on still unlisted e starts s (changes releases) (subst P is (lock_deed (Some End.GivenBack) s l (λ h. may has))) refl (λ h. ap (λ o. is_held_by o p) has ∙ its_holder p) after

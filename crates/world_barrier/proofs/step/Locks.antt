@@ -1,22 +1,7 @@
 -- A step in the inner lock, as a deed on the barrier.
-use Rattle.std.proofs.Common.{◌≡◌, ℕ, ◌+◌, Bool, true, List, [], ◌∷◌, Option, Some, None, refl, arith, sym}
-use Rattle.lock_event.specs.declared.event.Entry.{Entry}
-use Rattle.lock_event.specs.Lists.{mark_at, without}
-use Rattle.std.proofs.lemmas.Bool.Decides.{nat_tests}
-use Rattle.world_base.specs.queue.Parties.{is_party, entries_of}
-use Rattle.world_base.specs.declared.moves.Answer.{Answer}
-use Rattle.world_base.specs.declared.moves.Answer.TheVariants as answer
-use Rattle.lock_program.specs.declared.refusal.Refusal.{Refusal}
-use Rattle.world_base.specs.Steps.{Deed, nothing, changes, does, joins, asks, leaves, notifies, notifies_additionally, list_after}
-use Rattle.world_base.proofs.Equations.{some_eq, none_some}
-use Rattle.world_mutex.specs.machine.Course.{Course, out, holding, waiting, taking, releasing, cancelling, undecided, called, counting, has_lock, gives_up as giving_up, holds, counted as starved_there, listed as listed_there, decision, is_out, is_holding, is_waiting, is_taking, is_releasing, is_cancelling}
+use Rattle.world_barrier.proofs.Prelude.{◌≡◌, ℕ, ◌+◌, Bool, true, List, [], ◌∷◌, Option, Some, None, refl, arith, sym, Entry, mark_at, without, nat_tests, is_party, entries_of, Answer, Refusal, Deed, nothing, changes, does, joins, asks, leaves, notifies, notifies_additionally, list_after, some_eq, none_some, Course, out, holding, waiting, taking, releasing, cancelling, undecided, called, counting, has_lock, giving_up, holds, starved_there, listed_there, decision, is_out, is_holding, is_waiting, is_taking, is_releasing, is_cancelling, ListName, Lock, Wait, no_wait, counted, LockState, Change, takes, releases, starves, recovers, arrives, lock_after, arrivals_after, lock_list_after, generation_list_after, gives_back, gives_up}
 use Rattle.lock_program.specs.declared.end.End.TheVariants.{Got, Pending, Refused}
 use Rattle.world_mutex.specs.machine.Deeds as mutex
-use Rattle.world_barrier.specs.declared.world.ListName.{ListName}
-use Rattle.world_barrier.specs.declared.world.ListName.TheVariants.{Lock}
-use Rattle.world_barrier.specs.machine.Waits.{Wait, no_wait, counted}
-use Rattle.world_barrier.specs.State.{LockState}
-use Rattle.world_barrier.specs.Changes.{Change, takes, releases, starves, recovers, arrives, lock_after, arrivals_after, lock_list_after, generation_list_after, gives_back, gives_up}
 
 -- the deed on the inner lock is one on the barrier
 abbrev pub deed_of : Deed mutex.Change mutex.ListName → Deed Change ListName
@@ -45,7 +30,7 @@ entries_then p (does mutex.for_the_lock f) l = refl
 
 -- what becomes of a wait by its answer, and where its arrival is counted
 abbrev pub ends : Answer → Wait → Wait
-ends (answer.Ready g) b = no_wait
+ends (Answer.Ready g) b = no_wait
 ends a b = b
 
 abbrev pub wait_by : Deed Change ListName → ℕ → Answer → Wait → Wait

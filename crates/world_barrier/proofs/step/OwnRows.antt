@@ -1,37 +1,8 @@
 -- What each place's action does that is no step in the inner lock, finding by finding.
-use Rattle.std.proofs.Common.{◌≡◌, ℕ, ◌+◌, ◌≤◌, inl, inr, true, false, List, Some, None, refl, arith, ap, sym, ◌∙◌, subst}
-use Rattle.lock_event.specs.declared.event.Entry.{Entry}
+use Rattle.world_barrier.proofs.Prelude.{◌≡◌, ℕ, ◌+◌, ◌≤◌, inl, inr, true, false, List, Some, None, refl, arith, ap, sym, ◌∙◌, subst, Entry, is_marked_at, mark_at, is_party, entries_of, Answer, Got, Move, Refusal, Within, nothing, changes, does, joins, asks, leaves, notifies, list_after, Table, is_holding, Mutex, holder_of, starved_of, holding_holds, holding_unlisted, Found, Place, Look, Join, Arrive, Complete, NotifyAll, Check, JoinAgain, Ask, CancelLeave, Abandon, Progress, Words, arrivals_at, everyone, Wait, uncounted, counted, Barrier, IsBarrier, ListName, Lock, Generation, Leads, generations_of, LockState, World, list_in, wait_of, told_in, arrives, HasToWait, IsAnswered, IsAsBefore}
 use Rattle.lock_event.specs.declared.event.Mark.TheVariants.{Waiting as Waits_unmarked}
-use Rattle.lock_event.specs.Lists.{is_marked_at, mark_at}
-use Rattle.world_base.specs.queue.Parties.{is_party, entries_of}
 use Rattle.world_base.proofs.of_queue.Told.{waits_at}
-use Rattle.world_base.specs.declared.moves.Answer.TheVariants as answer
-use Rattle.world_base.specs.declared.moves.Got.TheVariants as got
-use Rattle.world_base.specs.declared.moves.Move.{Move}
-use Rattle.lock_program.specs.declared.refusal.Refusal.TheVariants as refusal
-use Rattle.world_base.specs.declared.standing.Within.{Within}
-use Rattle.world_base.specs.Steps.{nothing, changes, does, joins, asks, leaves, notifies, list_after}
-use Rattle.world_base.specs.table.Tables.{Table}
-use Rattle.world_mutex.specs.machine.Course.{is_holding}
-use Rattle.world_mutex.specs.machine.Mutex.{Mutex, holder_of, starved_of}
-use Rattle.world_mutex.proofs.of_machine.callers.Callers.{holding_holds, holding_unlisted}
 use Rattle.world_mutex.proofs.of_machine.callers.Holders as sees
-use Rattle.sync_program.specs.declared.barrier.Found.{Found}
-use Rattle.sync_program.specs.declared.barrier.Found.TheVariants as found
-use Rattle.sync_program.specs.declared.barrier.Place.{Place}
-use Rattle.sync_program.specs.declared.barrier.Place.TheVariants.{Look, Join, Arrive, Complete, NotifyAll, Check, JoinAgain, Ask, CancelLeave, Abandon}
-use Rattle.world_barrier.specs.declared.program.words.Progress.{Progress}
-use Rattle.world_barrier.specs.declared.program.words.Words.{Words}
-use Rattle.world_barrier.specs.program.Words.{arrivals_at}
-use Rattle.world_barrier.specs.program.Deeds.{everyone}
-use Rattle.world_barrier.specs.machine.Waits.{Wait, uncounted, counted}
-use Rattle.world_barrier.specs.machine.Machine.{Barrier, IsBarrier}
-use Rattle.world_barrier.specs.declared.world.ListName.{ListName}
-use Rattle.world_barrier.specs.declared.world.ListName.TheVariants.{Lock, Generation}
-use Rattle.world_barrier.specs.Numbers.{Leads, generations_of}
-use Rattle.world_barrier.specs.State.{LockState, World, list_in, wait_of, told_in}
-use Rattle.world_barrier.specs.Changes.{arrives}
-use Rattle.world_barrier.specs.Legal.{HasToWait, IsAnswered, IsAsBefore}
 use Rattle.world_barrier.proofs.step.Turns as turns
 use Rattle.world_barrier.proofs.step.Turns.{said}
 use Rattle.world_barrier.proofs.Numbers as numbers
@@ -113,14 +84,14 @@ module _ (t u : Table Barrier) (m : Move) (w : Within) (laws : IsBarrier t.machi
   size_kept : (v : Words) → v.size ≡ words.size → u.machine.words ≡ v → new.size ≡ words.size
   size_kept v e is = ap (λ (v : Words). v.size) is ∙ e
 
-  next_leads : Known Arrive found.Done → new.arrivals ≡ k + 1 → Leads new.size new.arrivals → Leads words.size (k + 1)
+  next_leads : Known Arrive Found.Done → new.arrivals ≡ k + 1 → Leads new.size new.arrivals → Leads words.size (k + 1)
   next_leads x e l =
       let size : new.size ≡ words.size = size_kept (turns.words_of Arrive words) refl x.words_then in
       let P : ℕ → Type 0 = Leads words.size in
       let Q : ℕ → Type 0 = λ n. Leads n new.arrivals in
       subst P e (subst Q size l)
 
-  just_led : Known Complete found.Done → turns.Judged t u m w false None (Some (answer.Ready (got.Leader true)))
+  just_led : Known Complete Found.Done → turns.Judged t u m w false None (Some (Answer.Ready (Got.Leader true)))
   just_led x =
       let more : new.arrivals ≡ k + 1 = ap (λ (v : Words). arrivals_at v.size v.progress) x.words_then ∙ numbers.completed words.size words.progress laws.sound.unfinished x.sure.0 in
       let size : new.size ≡ words.size = size_kept (turns.words_of Complete words) refl x.words_then in
@@ -132,13 +103,13 @@ module _ (t u : Table Barrier) (m : Move) (w : Within) (laws : IsBarrier t.machi
   not_asked : is_marked_at (is_party p) t.machine.entries ≡ false → list_after p asks t.machine.entries ≡ t.machine.entries
   not_asked e = rw e refl
 
-  told_so : Known Ask found.No → told_in Generation new p ≡ Some Waits_unmarked
+  told_so : Known Ask Found.No → told_in Generation new p ≡ Some Waits_unmarked
   told_so x =
       let kept : new.list ≡ old.list = x.entries_then ∙ not_asked x.finds in
       let P : List (Entry ℕ) → Type 0 = λ es. mark_at (is_party p) es ≡ Some Waits_unmarked in
       subst P (sym kept) (waits_at p t.machine.entries x.owner x.finds)
 
-  pub look_waits : Known Look found.MustWait → RowAt Look found.MustWait
+  pub look_waits : Known Look Found.MustWait → RowAt Look Found.MustWait
   look_waits x = record {
     deed = nothing;
     allowed = tt;
@@ -156,7 +127,7 @@ module _ (t u : Table Barrier) (m : Move) (w : Within) (laws : IsBarrier t.machi
     not_over = λ e. cc;
   }
 
-  pub look_leads : Known Look found.Leads → RowAt Look found.Leads
+  pub look_leads : Known Look Found.Leads → RowAt Look Found.Leads
   look_leads x = record {
     deed = nothing;
     allowed = tt;
@@ -174,7 +145,7 @@ module _ (t u : Table Barrier) (m : Move) (w : Within) (laws : IsBarrier t.machi
     not_over = λ e. cc;
   }
 
-  pub look_past : Known Look found.Past → RowAt Look found.Past
+  pub look_past : Known Look Found.Past → RowAt Look Found.Past
   look_past x = record {
     deed = nothing;
     allowed = tt;
@@ -188,7 +159,7 @@ module _ (t u : Table Barrier) (m : Move) (w : Within) (laws : IsBarrier t.machi
     giving_up = λ h. absurd (cc);
     judged = (
       (
-        refusal.Generations,
+        Refusal.Generations,
         refl,
         record {
           uncounted = x.before refl;
@@ -205,7 +176,7 @@ module _ (t u : Table Barrier) (m : Move) (w : Within) (laws : IsBarrier t.machi
     not_over = λ e. cc;
   }
 
-  pub join_done : Known Join found.Done → RowAt Join found.Done
+  pub join_done : Known Join Found.Done → RowAt Join Found.Done
   join_done x = record {
     deed = does Generation joins;
     allowed = (its_lock x.link, (let P : Wait → Type 0 = HasToWait old in subst P (sym (x.before refl)) (numbers.next_follows words.size words.progress x.sure)));
@@ -223,7 +194,7 @@ module _ (t u : Table Barrier) (m : Move) (w : Within) (laws : IsBarrier t.machi
     not_over = λ e. cc;
   }
 
-  pub join_refused : Known Join found.NoMemory → RowAt Join found.NoMemory
+  pub join_refused : Known Join Found.NoMemory → RowAt Join Found.NoMemory
   join_refused x = record {
     deed = nothing;
     allowed = tt;
@@ -236,7 +207,7 @@ module _ (t u : Table Barrier) (m : Move) (w : Within) (laws : IsBarrier t.machi
     parting = λ h. absurd (cc);
     giving_up = λ h. absurd (cc);
     judged = (
-      (refusal.Memory, refl, record { input = x.finds; needed = λ h. (let P : Wait → Type 0 = HasToWait old in subst P (sym (x.before refl)) (numbers.next_follows words.size words.progress x.sure)); unlisted = both_lists x.link x.owner; unchanged = as_before x.lock x.words_then x.entries_then (uncounted) (x.before refl) x.after }),
+      (Refusal.Memory, refl, record { input = x.finds; needed = λ h. (let P : Wait → Type 0 = HasToWait old in subst P (sym (x.before refl)) (numbers.next_follows words.size words.progress x.sure)); unlisted = both_lists x.link x.owner; unchanged = as_before x.lock x.words_then x.entries_then (uncounted) (x.before refl) x.after }),
       refl,
       λ e. absurd (omega (arith, e)),
     );
@@ -245,7 +216,7 @@ module _ (t u : Table Barrier) (m : Move) (w : Within) (laws : IsBarrier t.machi
     not_over = λ e. cc;
   }
 
-  pub arrive : Known Arrive found.Done → RowAt Arrive found.Done
+  pub arrive : Known Arrive Found.Done → RowAt Arrive Found.Done
   arrive x = record {
     deed = changes arrives;
     allowed = record {
@@ -268,7 +239,7 @@ module _ (t u : Table Barrier) (m : Move) (w : Within) (laws : IsBarrier t.machi
     not_over = λ e. cc;
   }
 
-  pub complete : Known Complete found.Done → RowAt Complete found.Done
+  pub complete : Known Complete Found.Done → RowAt Complete Found.Done
   complete x = record {
     deed = changes arrives;
     allowed = record {
@@ -291,7 +262,7 @@ module _ (t u : Table Barrier) (m : Move) (w : Within) (laws : IsBarrier t.machi
     not_over = λ e. cc;
   }
 
-  pub notify : Known NotifyAll found.Done → RowAt NotifyAll found.Done
+  pub notify : Known NotifyAll Found.Done → RowAt NotifyAll Found.Done
   notify x = record {
     deed = does Generation (notifies everyone);
     allowed = (refl, its_lock x.link, (num, x.before refl, numbers.leads words.size mine x.outcome.0));
@@ -309,7 +280,7 @@ module _ (t u : Table Barrier) (m : Move) (w : Within) (laws : IsBarrier t.machi
     not_over = λ e. cc;
   }
 
-  pub check_finished : Known Check found.Finished → RowAt Check found.Finished
+  pub check_finished : Known Check Found.Finished → RowAt Check Found.Finished
   check_finished x = record {
     deed = nothing;
     allowed = tt;
@@ -327,7 +298,7 @@ module _ (t u : Table Barrier) (m : Move) (w : Within) (laws : IsBarrier t.machi
     not_over = λ e. cc;
   }
 
-  pub check_unfinished : Known Check found.Unfinished → RowAt Check found.Unfinished
+  pub check_unfinished : Known Check Found.Unfinished → RowAt Check Found.Unfinished
   check_unfinished x = record {
     deed = nothing;
     allowed = tt;
@@ -345,7 +316,7 @@ module _ (t u : Table Barrier) (m : Move) (w : Within) (laws : IsBarrier t.machi
     not_over = λ e. cc;
   }
 
-  pub rejoin_done : Known JoinAgain found.Done → RowAt JoinAgain found.Done
+  pub rejoin_done : Known JoinAgain Found.Done → RowAt JoinAgain Found.Done
   rejoin_done x = record {
     deed = does Generation joins;
     allowed = (its_lock x.link, (let P : Wait → Type 0 = HasToWait old in subst P (sym (x.before refl)) (numbers.is_unfinished words.size mine words.progress (x.follower refl) laws.sound.unfinished x.sure)));
@@ -363,7 +334,7 @@ module _ (t u : Table Barrier) (m : Move) (w : Within) (laws : IsBarrier t.machi
     not_over = λ e. cc;
   }
 
-  pub rejoin_refused : Known JoinAgain found.NoMemory → RowAt JoinAgain found.NoMemory
+  pub rejoin_refused : Known JoinAgain Found.NoMemory → RowAt JoinAgain Found.NoMemory
   rejoin_refused x = record {
     deed = nothing;
     allowed = tt;
@@ -376,7 +347,7 @@ module _ (t u : Table Barrier) (m : Move) (w : Within) (laws : IsBarrier t.machi
     parting = λ h. absurd (cc);
     giving_up = λ h. absurd (cc);
     judged = (
-      (refusal.Memory, refl, record { input = x.finds; needed = λ h. (let P : Wait → Type 0 = HasToWait old in subst P (sym (x.before refl)) (numbers.is_unfinished words.size mine words.progress (x.follower refl) laws.sound.unfinished x.sure)); unlisted = both_lists x.link x.owner; unchanged = as_before x.lock x.words_then x.entries_then (counted num) (x.before refl) x.after }),
+      (Refusal.Memory, refl, record { input = x.finds; needed = λ h. (let P : Wait → Type 0 = HasToWait old in subst P (sym (x.before refl)) (numbers.is_unfinished words.size mine words.progress (x.follower refl) laws.sound.unfinished x.sure)); unlisted = both_lists x.link x.owner; unchanged = as_before x.lock x.words_then x.entries_then (counted num) (x.before refl) x.after }),
       refl,
       λ e. absurd (omega (arith, e)),
     );
@@ -385,7 +356,7 @@ module _ (t u : Table Barrier) (m : Move) (w : Within) (laws : IsBarrier t.machi
     not_over = λ e. cc;
   }
 
-  pub ask_yes : Known Ask found.Yes → RowAt Ask found.Yes
+  pub ask_yes : Known Ask Found.Yes → RowAt Ask Found.Yes
   ask_yes x = record {
     deed = does Generation asks;
     allowed = (num, x.before refl);
@@ -403,7 +374,7 @@ module _ (t u : Table Barrier) (m : Move) (w : Within) (laws : IsBarrier t.machi
     not_over = λ e. cc;
   }
 
-  pub ask_no : Known Ask found.No → RowAt Ask found.No
+  pub ask_no : Known Ask Found.No → RowAt Ask Found.No
   ask_no x = record {
     deed = does Generation asks;
     allowed = (num, x.before refl);
@@ -421,7 +392,7 @@ module _ (t u : Table Barrier) (m : Move) (w : Within) (laws : IsBarrier t.machi
     not_over = λ e. cc;
   }
 
-  pub leave : Known CancelLeave found.Done → RowAt CancelLeave found.Done
+  pub leave : Known CancelLeave Found.Done → RowAt CancelLeave Found.Done
   leave x = record {
     deed = does Generation leaves;
     allowed = x.drops refl;
@@ -439,7 +410,7 @@ module _ (t u : Table Barrier) (m : Move) (w : Within) (laws : IsBarrier t.machi
     not_over = λ e. cc;
   }
 
-  pub abandon : Known Abandon found.Done → RowAt Abandon found.Done
+  pub abandon : Known Abandon Found.Done → RowAt Abandon Found.Done
   abandon x = record {
     deed = nothing;
     allowed = tt;

@@ -1,65 +1,30 @@
 -- What parties have, by where they stand.
-use Rattle.std.proofs.Common.{◌≡◌, ◌≢◌, ℕ, ◌≤◌, true, false, Option, Some, None, refl, arith, ap, sym, ◌∙◌, subst}
-use Rattle.world_base.specs.queue.Parties.{entries_of}
-use Rattle.world_base.specs.declared.moves.Answer.TheVariants as answer
-use Rattle.world_base.specs.declared.standing.Rest.TheVariants as rest
-use Rattle.world_base.specs.declared.standing.Stage.{Stage}
-use Rattle.world_base.specs.declared.standing.Stage.TheVariants.{Outside, Inside, Forgotten}
-use Rattle.world_base.specs.declared.standing.Within.{Within}
-use Rattle.world_base.specs.Standings.{inside, is_outside}
-use Rattle.world_base.proofs.Equations.{some_eq, none_some, both}
-use Rattle.world_base.specs.table.Stages.{stage_at, stands_as}
-use Rattle.world_base.specs.table.Tables.{Table}
+use Rattle.world_barrier.proofs.Prelude.{◌≡◌, ◌≢◌, ℕ, ◌≤◌, true, false, Option, Some, None, refl, arith, ap, sym, ◌∙◌, subst, entries_of, Answer, Rest, Stage, Outside, Inside, Forgotten, Within, inside, is_outside, some_eq, none_some, both, stage_at, stands_as, Table, by_stage_or_past_at, by_stage_or_past, Course, holds, is_out, is_releasing, decision, End, course_at, out_unlisted, out_free, out_unstarved, waiting_free, releasing_free, holding_holds, Aim, Ending, Place, EnterLock, WaitLock, TakeLock, Look, Join, Arrive, Complete, NotifyAll, Check, JoinAgain, ReleaseLock, ReleasingLock, Ask, CancelLock, CancellingLock, CancelLeave, Abandon, Position, Out, Made, Locking, Waiting, At, Progress, arrivals_at, fits_lock, in_lock, InLock, listed, HasOutcome, Outcome, holds_there, Wait, no_wait, uncounted, counted, wait_for, wait_until, wait_at, refused_by, verdict_until, verdict_of, verdict, Barrier, IsBarrier, goes_with, is_begun, runs, position_at, arrival_at, ListName, Lock, Generation, World, list_in, standing_of, wait_of, has_to_tell, IsClear, view_of, HasItsOwn, IsBarrierTable}
 use Rattle.world_base.proofs.of_table.Mapped.{past_last}
-use Rattle.world_base.proofs.of_table.Past.{by_stage_or_past_at, by_stage_or_past}
-use Rattle.world_mutex.specs.machine.Course.{Course, holds, is_out, is_releasing, decision}
-use Rattle.lock_program.specs.declared.end.End.{End}
-use Rattle.lock_program.specs.declared.end.End.TheVariants as lock_end
-use Rattle.world_mutex.specs.machine.Mutex.{course_at}
-use Rattle.world_mutex.proofs.of_machine.callers.Callers.{out_unlisted, out_free, out_unstarved, waiting_free, releasing_free, holding_holds}
 use Rattle.world_mutex.proofs.of_machine.callers.Holders as sees
-use Rattle.sync_program.specs.declared.barrier.Aim.{Aim}
-use Rattle.sync_program.specs.declared.barrier.Aim.TheVariants as aim
-use Rattle.sync_program.specs.declared.barrier.Ending.{Ending}
-use Rattle.sync_program.specs.declared.barrier.Ending.TheVariants as ending
-use Rattle.sync_program.specs.declared.barrier.Place.{Place}
-use Rattle.sync_program.specs.declared.barrier.Place.TheVariants.{EnterLock, WaitLock, TakeLock, Look, Join, Arrive, Complete, NotifyAll, Check, JoinAgain, ReleaseLock, ReleasingLock, Ask, CancelLock, CancellingLock, CancelLeave, Abandon}
-use Rattle.sync_program.specs.declared.barrier.Position.{Position}
-use Rattle.sync_program.specs.declared.barrier.Position.TheVariants.{Out, Made, Locking, Waiting, At}
-use Rattle.world_barrier.specs.declared.program.words.Progress.{Progress}
-use Rattle.world_barrier.specs.program.Words.{arrivals_at}
-use Rattle.world_barrier.specs.machine.Roles.{fits_lock, in_lock, InLock, listed, HasOutcome, Outcome, holds as holds_there}
-use Rattle.world_barrier.specs.machine.Waits.{Wait, no_wait, uncounted, counted, wait_for, wait_until, wait_at, refused_by, verdict_until, verdict_of, verdict}
-use Rattle.world_barrier.specs.machine.Machine.{Barrier, IsBarrier, goes_with, is_begun, runs, position_at, arrival_at}
-use Rattle.world_barrier.specs.declared.world.ListName.{ListName}
-use Rattle.world_barrier.specs.declared.world.ListName.TheVariants.{Lock, Generation}
-use Rattle.world_barrier.specs.State.{World, list_in, standing_of, wait_of, has_to_tell, IsClear}
-use Rattle.world_barrier.specs.View.{view_of}
-use Rattle.world_barrier.specs.Legal.{HasItsOwn}
-use Rattle.world_barrier.specs.Steps.{IsBarrierTable}
 use Rattle.world_barrier.proofs.table.Seen as seen
 use Rattle.world_barrier.proofs.step.Locks.{cancelling_free, out_quiet, waiting_quiet}
 use Rattle.world_barrier.proofs.Numbers as numbers
 
 -- whoever has a wait has one
 waits_for : (a : Aim) (n : ℕ) → wait_for a n ≢ no_wait
-waits_for aim.Arrive n e = cc e
-waits_for aim.Check n e = cc e
+waits_for Aim.Arrive n e = cc e
+waits_for Aim.Check n e = cc e
 
 waits_until : (e : Ending) (n : ℕ) → wait_until e n ≢ no_wait
-waits_until ending.Wait n h = cc h
-waits_until ending.Follow n h = cc h
-waits_until ending.Lead n h = cc h
-waits_until ending.RefuseGenerations n h = cc h
-waits_until (ending.RefuseMemory a) n h = waits_for a n h
+waits_until Ending.Wait n h = cc h
+waits_until Ending.Follow n h = cc h
+waits_until Ending.Lead n h = cc h
+waits_until Ending.RefuseGenerations n h = cc h
+waits_until (Ending.RefuseMemory a) n h = waits_for a n h
 
 -- a wait that isn't counted stands in the list only to be counted
 listed_until : (e : Ending) (n : ℕ) → wait_until e n ≡ uncounted → listed (At (ReleaseLock e)) ≡ 0
-listed_until ending.Wait n h = absurd (cc h)
-listed_until ending.Follow n h = refl
-listed_until ending.Lead n h = refl
-listed_until ending.RefuseGenerations n h = refl
-listed_until (ending.RefuseMemory a) n h = refl
+listed_until Ending.Wait n h = absurd (cc h)
+listed_until Ending.Follow n h = refl
+listed_until Ending.Lead n h = refl
+listed_until Ending.RefuseGenerations n h = refl
+listed_until (Ending.RefuseMemory a) n h = refl
 
 pub unlisted_by : (x : Position) (n : ℕ) → wait_at x n ≡ uncounted → (in_lock x ≡ holds_there → ⊥) → listed x ≡ 0
 unlisted_by Out n e free = refl
@@ -75,33 +40,33 @@ unlisted_by (At _) n e free = refl
 
 -- no party is listed twice
 pub at_most_once : (x : Position) → listed x ≤ 1
-at_most_once (At (ReleaseLock ending.Wait)) = omega arith
-at_most_once (At (ReleaseLock ending.Follow)) = omega arith
-at_most_once (At (ReleaseLock ending.Lead)) = omega arith
-at_most_once (At (ReleaseLock ending.RefuseGenerations)) = omega arith
-at_most_once (At (ReleaseLock (ending.RefuseMemory a))) = omega arith
-at_most_once (At (ReleasingLock ending.Wait)) = omega arith
-at_most_once (At (ReleasingLock ending.Follow)) = omega arith
-at_most_once (At (ReleasingLock ending.Lead)) = omega arith
-at_most_once (At (ReleasingLock ending.RefuseGenerations)) = omega arith
-at_most_once (At (ReleasingLock (ending.RefuseMemory a))) = omega arith
+at_most_once (At (ReleaseLock Ending.Wait)) = omega arith
+at_most_once (At (ReleaseLock Ending.Follow)) = omega arith
+at_most_once (At (ReleaseLock Ending.Lead)) = omega arith
+at_most_once (At (ReleaseLock Ending.RefuseGenerations)) = omega arith
+at_most_once (At (ReleaseLock (Ending.RefuseMemory a))) = omega arith
+at_most_once (At (ReleasingLock Ending.Wait)) = omega arith
+at_most_once (At (ReleasingLock Ending.Follow)) = omega arith
+at_most_once (At (ReleasingLock Ending.Lead)) = omega arith
+at_most_once (At (ReleasingLock Ending.RefuseGenerations)) = omega arith
+at_most_once (At (ReleasingLock (Ending.RefuseMemory a))) = omega arith
 at_most_once (At _) = omega arith
 at_most_once _ = omega arith
 
 -- no call is decided on Pending
-refused_never : (o : Option End) → refused_by o ≡ Some answer.Pending → ⊥
+refused_never : (o : Option End) → refused_by o ≡ Some Answer.Pending → ⊥
 refused_never None e = none_some e
-refused_never (Some (lock_end.Refused r)) e = cc (some_eq e)
+refused_never (Some (End.Refused r)) e = cc (some_eq e)
 refused_never (Some _) e = none_some e
 
-until_never : (e : Ending) → verdict_until e ≡ Some answer.Pending → ⊥
-until_never ending.Wait h = none_some h
-until_never ending.Follow h = cc (some_eq h)
-until_never ending.Lead h = cc (some_eq h)
-until_never ending.RefuseGenerations h = cc (some_eq h)
-until_never (ending.RefuseMemory a) h = cc (some_eq h)
+until_never : (e : Ending) → verdict_until e ≡ Some Answer.Pending → ⊥
+until_never Ending.Wait h = none_some h
+until_never Ending.Follow h = cc (some_eq h)
+until_never Ending.Lead h = cc (some_eq h)
+until_never Ending.RefuseGenerations h = cc (some_eq h)
+until_never (Ending.RefuseMemory a) h = cc (some_eq h)
 
-pub never_pending : (y : Place) (c : Course) → verdict_of y c ≡ Some answer.Pending → ⊥
+pub never_pending : (y : Place) (c : Course) → verdict_of y c ≡ Some Answer.Pending → ⊥
 never_pending (TakeLock a) c e = refused_never (decision c) e
 never_pending (ReleaseLock k) c e = until_never k e
 never_pending (ReleasingLock k) c e = until_never k e
@@ -112,7 +77,7 @@ never_pending CancelLeave c e = cc (some_eq e)
 never_pending Abandon c e = cc (some_eq e)
 never_pending _ c e = none_some e
 
-pends_by : (s : Stage) (x : Position) (c : Course) (u : Within) → stands_as (verdict x c) s ≡ inside u (Some answer.Pending) → ⊥
+pends_by : (s : Stage) (x : Position) (c : Course) (u : Within) → stands_as (verdict x c) s ≡ inside u (Some Answer.Pending) → ⊥
 pends_by (Outside r) x c u e = cc
 pends_by (Inside w) (At y) c u e = never_pending y c (cc)
 pends_by (Inside w) _ c u e = cc
@@ -122,7 +87,7 @@ pends_by Forgotten x c u e = cc
 pub record Standing_well (w : World) : Type 0 where
   pub each : (p : ℕ) → HasItsOwn w p (standing_of w p)
   pub uncounted : (p : ℕ) → wait_of w p ≡ uncounted → w.lock.holder ≢ Some p → entries_of p w.list ≡ 0
-  pub never_pending : (p : ℕ) (u : Within) → standing_of w p ≢ inside u (Some answer.Pending)
+  pub never_pending : (p : ℕ) (u : Within) → standing_of w p ≢ inside u (Some Answer.Pending)
   pub told_before : (p : ℕ) → has_to_tell w p ≡ true → is_outside (standing_of w p) ≡ false
 
 module _ (t : Table Barrier) (laws : IsBarrier t.machine) (fits : IsBarrierTable t) where
@@ -180,23 +145,23 @@ module _ (t : Table Barrier) (laws : IsBarrier t.machine) (fits : IsBarrierTable
   waits_there : (q : ℕ) (v : Wait) → wait_of w q ≡ v → v ≢ no_wait → wait_of w q ≢ no_wait
   waits_there q v e some none = some (sym e ∙ none)
 
-  led : (q : ℕ) (u : Within) → wait_of w q ≡ counted (num q) → Outcome ending.Lead (a_of q) t.machine.words → HasItsOwn w q (inside u (verdict_until ending.Lead))
+  led : (q : ℕ) (u : Within) → wait_of w q ≡ counted (num q) → Outcome Ending.Lead (a_of q) t.machine.words → HasItsOwn w q (inside u (verdict_until Ending.Lead))
   led q u e o = (num q, e, numbers.leads t.machine.words.size (a_of q) o.0)
 
-  followed : (q : ℕ) (u : Within) → wait_of w q ≡ counted (num q) → Outcome ending.Follow (a_of q) t.machine.words → HasItsOwn w q (inside u (verdict_until ending.Follow))
+  followed : (q : ℕ) (u : Within) → wait_of w q ≡ counted (num q) → Outcome Ending.Follow (a_of q) t.machine.words → HasItsOwn w q (inside u (verdict_until Ending.Follow))
   followed q u e o = (num q, e, (numbers.follower_follows t.machine.words.size (a_of q) o.0, numbers.is_finished t.machine.words.size (a_of q) t.machine.words.progress o.0 o.1))
 
   refused_owns : (q : ℕ) (u : Within) (o : Option End) → wait_of w q ≢ no_wait → HasItsOwn w q (inside u (refused_by o))
   refused_owns q u None h = h
-  refused_owns q u (Some (lock_end.Refused r)) h = h
+  refused_owns q u (Some (End.Refused r)) h = h
   refused_owns q u (Some _) h = h
 
   ending_owns : (q : ℕ) (u : Within) (e : Ending) → wait_of w q ≡ wait_until e (num q) → Outcome e (a_of q) t.machine.words → HasItsOwn w q (inside u (verdict_until e))
-  ending_owns q u ending.Wait e o = waits_there q _ e (waits_until ending.Wait (num q))
-  ending_owns q u ending.Follow e o = followed q u e o
-  ending_owns q u ending.Lead e o = led q u e o
-  ending_owns q u ending.RefuseGenerations e o = waits_there q _ e (waits_until ending.RefuseGenerations (num q))
-  ending_owns q u (ending.RefuseMemory a) e o = waits_there q _ e (waits_for a (num q))
+  ending_owns q u Ending.Wait e o = waits_there q _ e (waits_until Ending.Wait (num q))
+  ending_owns q u Ending.Follow e o = followed q u e o
+  ending_owns q u Ending.Lead e o = led q u e o
+  ending_owns q u Ending.RefuseGenerations e o = waits_there q _ e (waits_until Ending.RefuseGenerations (num q))
+  ending_owns q u (Ending.RefuseMemory a) e o = waits_there q _ e (waits_for a (num q))
 
   place_owns : (q : ℕ) (u : Within) (y : Place) → is_begun y ≡ true → Facts q (At y) → HasItsOwn w q (inside u (verdict_of y (c_of q)))
   place_owns q u (EnterLock a) b k = waits_there q _ k.wait (waits_for a (num q))
@@ -225,15 +190,15 @@ module _ (t : Table Barrier) (laws : IsBarrier t.machine) (fits : IsBarrierTable
   rests_free q (At y) g k = absurd (cc g)
 
   owns_by : (q : ℕ) (s : Stage) (x : Position) → goes_with s x ≡ true → Facts q x → HasItsOwn w q (stands_as (verdict x (c_of q)) s)
-  owns_by q (Outside rest.Idle) Out g k = record { clear = k.clear refl refl; wait = k.wait }
-  owns_by q (Outside rest.Idle) _ g k = absurd (cc g)
-  owns_by q (Outside rest.Finished) Out g k = record { clear = k.clear refl refl; wait = k.wait }
-  owns_by q (Outside rest.Finished) _ g k = absurd (cc g)
-  owns_by q (Outside rest.Pending) (Made a) g k = (not_holder q (rests_free q (Made a) refl k), waits_there q _ k.wait (waits_for a (num q)))
-  owns_by q (Outside rest.Pending) (Locking a) g k = (not_holder q (rests_free q (Locking a) refl k), waits_there q _ k.wait (waits_for a (num q)))
-  owns_by q (Outside rest.Pending) Waiting g k = (not_holder q (rests_free q Waiting refl k), waits_there q _ k.wait (λ e. cc e))
-  owns_by q (Outside rest.Pending) _ g k = absurd (cc g)
-  owns_by q (Outside rest.Holding) x g k = absurd (cc g)
+  owns_by q (Outside Rest.Idle) Out g k = record { clear = k.clear refl refl; wait = k.wait }
+  owns_by q (Outside Rest.Idle) _ g k = absurd (cc g)
+  owns_by q (Outside Rest.Finished) Out g k = record { clear = k.clear refl refl; wait = k.wait }
+  owns_by q (Outside Rest.Finished) _ g k = absurd (cc g)
+  owns_by q (Outside Rest.Pending) (Made a) g k = (not_holder q (rests_free q (Made a) refl k), waits_there q _ k.wait (waits_for a (num q)))
+  owns_by q (Outside Rest.Pending) (Locking a) g k = (not_holder q (rests_free q (Locking a) refl k), waits_there q _ k.wait (waits_for a (num q)))
+  owns_by q (Outside Rest.Pending) Waiting g k = (not_holder q (rests_free q Waiting refl k), waits_there q _ k.wait (λ e. cc e))
+  owns_by q (Outside Rest.Pending) _ g k = absurd (cc g)
+  owns_by q (Outside Rest.Holding) x g k = absurd (cc g)
   owns_by q (Inside u) (At y) g k = place_owns q u y (both (is_begun y) (runs u.kind u.was y) g).0 k
   owns_by q (Inside u) _ g k = absurd (cc g)
   owns_by q Forgotten x g k = not_holder q (rests_free q x g k)
@@ -254,10 +219,10 @@ module _ (t : Table Barrier) (laws : IsBarrier t.machine) (fits : IsBarrierTable
   tells_inside q _ (Made a) g link h = absurd (out_quiet (c_of q) link h)
   tells_inside q _ (Locking a) g link h = absurd (waiting_quiet (c_of q) link h)
   tells_inside q _ Waiting g link h = absurd (out_quiet (c_of q) link h)
-  tells_inside q (Outside rest.Idle) (At y) g link h = absurd (cc g)
-  tells_inside q (Outside rest.Pending) (At y) g link h = absurd (cc g)
-  tells_inside q (Outside rest.Holding) (At y) g link h = absurd (cc g)
-  tells_inside q (Outside rest.Finished) (At y) g link h = absurd (cc g)
+  tells_inside q (Outside Rest.Idle) (At y) g link h = absurd (cc g)
+  tells_inside q (Outside Rest.Pending) (At y) g link h = absurd (cc g)
+  tells_inside q (Outside Rest.Holding) (At y) g link h = absurd (cc g)
+  tells_inside q (Outside Rest.Finished) (At y) g link h = absurd (cc g)
   tells_inside q Forgotten (At y) g link h = absurd (cc g)
 
   pub told_inside : (q : ℕ) → has_to_tell w q ≡ true → is_outside (standing_of w q) ≡ false

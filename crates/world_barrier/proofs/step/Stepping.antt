@@ -1,26 +1,5 @@
 -- A table's step as callers see it.
-use Rattle.std.proofs.Common.{◌≡◌, ℕ, Bool, true, false, Some, None, refl, ap, sym, ◌∙◌, subst}
-use Rattle.world_base.specs.declared.moves.Answer.{Answer}
-use Rattle.world_base.specs.declared.moves.Answer.TheVariants as answer
-use Rattle.world_base.specs.declared.moves.Call.{Call}
-use Rattle.world_base.specs.declared.moves.Move.{Move}
-use Rattle.lock_program.specs.declared.refusal.Refusal.TheVariants as refusal
-use Rattle.world_base.specs.declared.standing.Rest.TheVariants as rest
-use Rattle.world_base.specs.declared.standing.Within.{Within}
-use Rattle.world_base.specs.Standings.{call_in, refused}
-use Rattle.world_base.specs.Frame.{is_poll_after_ready}
-use Rattle.world_base.proofs.Equations.{some_eq}
-use Rattle.world_base.specs.table.Stages.{stage_at, call_at, polls_again}
-use Rattle.world_base.specs.table.Tables.{Table, Acted}
-use Rattle.world_base.proofs.of_table.Calls.{call_seen, again_seen}
-use Rattle.world_base.proofs.of_table.Ways.{way, by_way}
-use Rattle.sync_program.specs.declared.barrier.Place.{Place}
-use Rattle.world_barrier.specs.machine.Machine.{Barrier, IsBarrier, Moves, knows, position_at}
-use Rattle.world_barrier.specs.State.{standing_of}
-use Rattle.world_barrier.specs.View.{verdict_in, view_of}
-use Rattle.world_barrier.specs.Legal.{call_of, Legal}
-use Rattle.world_barrier.specs.AtOnce.{AnswersAtOnce}
-use Rattle.world_barrier.specs.Steps.{IsBarrierTable, TableSteps, Stands, Steps}
+use Rattle.world_barrier.proofs.Prelude.{◌≡◌, ℕ, Bool, true, false, Some, None, refl, ap, sym, ◌∙◌, subst, Answer, Call, Move, Refusal, Rest, Within, call_in, refused, is_poll_after_ready, some_eq, stage_at, call_at, polls_again, Table, Acted, call_seen, again_seen, way, by_way, Place, Barrier, IsBarrier, Moves, knows, position_at, standing_of, verdict_in, view_of, call_of, Legal, AnswersAtOnce, IsBarrierTable, TableSteps, Stands, Steps}
 use Rattle.world_barrier.proofs.table.Seen as seen
 use Rattle.world_barrier.proofs.step.Idle as idle
 use Rattle.world_barrier.proofs.step.Owns.{well}
@@ -32,7 +11,7 @@ abbrev pub known_calls : Barrier → ℕ → Call → Bool
 known_calls s p = knows
 
 module _ (t u : Table Barrier) (m : Move) (a : Answer) (tl : IsBarrier t.machine) (tf : IsBarrierTable t) (ul : IsBarrier u.machine) (uf : IsBarrierTable u) where
-  carried : (w : Within) → call_at knows (stage_at t.stages m.party) m.what ≡ Some w → polls_again (stage_at t.stages m.party) m.what ≡ false → Acted known_calls rest.Finished Moves w t m a u → Acting t u m a w
+  carried : (w : Within) → call_at knows (stage_at t.stages m.party) m.what ≡ Some w → polls_again (stage_at t.stages m.party) m.what ≡ false → Acted known_calls Rest.Finished Moves w t m a u → Acting t u m a w
   carried w e f d =
       let turned = turn (stage_at t.stages m.party) m.what w (position_at t.machine.positions m.party) (tf.stands m.party d.inside) e f in
       let same : turned.from ≡ d.acts.from = some_eq (sym turned.starts ∙ d.acts.starts) in
@@ -57,10 +36,10 @@ module _ (t u : Table Barrier) (m : Move) (a : Answer) (tl : IsBarrier t.machine
       }
 
   -- what holds where nothing is done, and where the machine acted, holds of each step
-  pub by_step : (P : Answer → Table Barrier → Type 0) → (call_at knows (stage_at t.stages m.party) m.what ≡ None → P answer.NotPossible t)
-      → ((w : Within) → call_at knows (stage_at t.stages m.party) m.what ≡ Some w → polls_again (stage_at t.stages m.party) m.what ≡ true → P (refused refusal.Finished) t)
+  pub by_step : (P : Answer → Table Barrier → Type 0) → (call_at knows (stage_at t.stages m.party) m.what ≡ None → P Answer.NotPossible t)
+      → ((w : Within) → call_at knows (stage_at t.stages m.party) m.what ≡ Some w → polls_again (stage_at t.stages m.party) m.what ≡ true → P (refused Refusal.Finished) t)
       → ((w : Within) → Acting t u m a w → P a u) → TableSteps t m a u → P a u
-  by_step P none again act step = by_way known_calls rest.Finished Moves t u m a P none again (λ w e f d. act w (carried w e f d)) (way known_calls rest.Finished Moves t u m a step)
+  by_step P none again act step = by_way known_calls Rest.Finished Moves t u m a P none again (λ w e f d. act w (carried w e f d)) (way known_calls Rest.Finished Moves t u m a step)
 
   stands : (x : Table Barrier) → IsBarrier x.machine → IsBarrierTable x → Stands (view_of x)
   stands x laws fits = record { seen = refl; barrier = laws; fits = fits }

@@ -1,31 +1,10 @@
 -- Whoever releases the inner lock goes on, and tells one by its next step.
-use Rattle.std.proofs.Common.{◌≡◌, ℕ, ◌≤◌, true, false, Some, refl, arith, ap, ◌∙◌, subst}
-use Rattle.lock_event.specs.Lists.{notified}
-use Rattle.world_base.specs.declared.moves.Answer.TheVariants as answer
-use Rattle.world_base.specs.declared.moves.Inputs.{Inputs}
-use Rattle.world_base.specs.Steps.{Deed, nothing, changes, does}
-use Rattle.lock_program.specs.declared.end.End.TheVariants as lock_end
-use Rattle.lock_program.specs.declared.mutex.Step.{Step}
-use Rattle.lock_program.specs.declared.mutex.Step.TheVariants as lock_step
-use Rattle.lock_program.specs.declared.refusal.Refusal.TheVariants as refusal
-use Rattle.world_mutex.specs.machine.Conduct.{IsLegal}
-use Rattle.world_mutex.specs.machine.Course.{Course, waiting, taking, has_lock, holds, decision, is_taking, is_releasing, Takes, Releases, Cancels}
+use Rattle.world_barrier.proofs.Prelude.{◌≡◌, ℕ, ◌≤◌, true, false, Some, refl, arith, ap, ◌∙◌, subst, notified, Answer, Inputs, Deed, nothing, changes, does, End, LockStep as Step, Refusal, IsLegal, Course, waiting, taking, has_lock, holds, decision, is_taking, is_releasing, Takes, Releases, Cancels, Mutex, course_at, holders, holder_of, out_free, waiting_free, releasing_free, holding_holds, Found, Place, EnterLock, WaitLock, TakeLock, ReleaseLock, ReleasingLock, Ask, CancelLock, CancellingLock, CancelLeave, Abandon, At, action_of, next_of, after_release, OnLock, answer_by, fits_lock, in_lock}
 use Rattle.world_mutex.specs.machine.Deeds as mutex
-use Rattle.world_mutex.specs.machine.Mutex.{Mutex, course_at, holders, holder_of}
-use Rattle.world_mutex.proofs.of_machine.callers.Callers.{out_free, waiting_free, releasing_free, holding_holds}
 use Rattle.world_mutex.proofs.of_machine.callers.Holders as sees
-use Rattle.sync_program.specs.declared.barrier.Found.{Found}
-use Rattle.sync_program.specs.declared.barrier.Found.TheVariants as found
-use Rattle.sync_program.specs.declared.barrier.Place.{Place}
-use Rattle.sync_program.specs.declared.barrier.Place.TheVariants.{EnterLock, WaitLock, TakeLock, ReleaseLock, ReleasingLock, Ask, CancelLock, CancellingLock, CancelLeave, Abandon}
-use Rattle.sync_program.specs.declared.barrier.Position.TheVariants.{At}
-use Rattle.world_barrier.specs.program.Program.{action_of, next_of, after_release}
-use Rattle.world_barrier.specs.program.Locks.{OnLock}
-use Rattle.world_barrier.specs.machine.Machine.{answer_by}
-use Rattle.world_barrier.specs.machine.Roles.{fits_lock, in_lock}
 use Rattle.world_barrier.proofs.step.Locks.{cancelling_free, out_quiet, waiting_quiet, holding_quiet, taking_quiet, cancelling_quiet}
 
-has_lock_decided : (c : Course) → is_taking c ≡ true → holds c ≡ 1 → decision c ≡ Some lock_end.Got
+has_lock_decided : (c : Course) → is_taking c ≡ true → holds c ≡ 1 → decision c ≡ Some End.Got
 has_lock_decided (taking has_lock a b d) h one = refl
 has_lock_decided (waiting b) h one = absurd (omega (arith, one))
 has_lock_decided (taking _ a b d) h one = absurd (omega (arith, one))
@@ -33,17 +12,17 @@ has_lock_decided _ h one = absurd (cc h)
 
 -- where a step of a poll, or of one that is cancelled, leads, the lock isn't released
 takes_quiet : (s : Step) (d : Course) → Takes s d → is_releasing d ≡ true → ⊥
-takes_quiet lock_step.More d h r = taking_quiet d h r
-takes_quiet (lock_step.End lock_end.Got) d h r = holding_quiet d (rw h refl) r
-takes_quiet (lock_step.End lock_end.Pending) d h r = waiting_quiet d h r
-takes_quiet (lock_step.End (lock_end.Refused refusal.Memory)) d h r = out_quiet d (rw h refl) r
-takes_quiet (lock_step.End (lock_end.Refused refusal.Starved)) d h r = out_quiet d (rw h refl) r
-takes_quiet (lock_step.End _) d h r = h
+takes_quiet Step.More d h r = taking_quiet d h r
+takes_quiet (Step.End End.Got) d h r = holding_quiet d (rw h refl) r
+takes_quiet (Step.End End.Pending) d h r = waiting_quiet d h r
+takes_quiet (Step.End (End.Refused Refusal.Memory)) d h r = out_quiet d (rw h refl) r
+takes_quiet (Step.End (End.Refused Refusal.Starved)) d h r = out_quiet d (rw h refl) r
+takes_quiet (Step.End _) d h r = h
 
 cancels_quiet : (s : Step) (d : Course) → Cancels s d → is_releasing d ≡ true → ⊥
-cancels_quiet lock_step.More d h r = cancelling_quiet d h r
-cancels_quiet (lock_step.End lock_end.GivenBack) d h r = out_quiet d (rw h refl) r
-cancels_quiet (lock_step.End _) d h r = h
+cancels_quiet Step.More d h r = cancelling_quiet d h r
+cancels_quiet (Step.End End.GivenBack) d h r = out_quiet d (rw h refl) r
+cancels_quiet (Step.End _) d h r = h
 
 module _ (i : Inputs) (p : ℕ) (l k : Mutex) (one : holders l ≤ 1) where
   abbrev c : Course
@@ -77,13 +56,13 @@ module _ (i : Inputs) (p : ℕ) (l k : Mutex) (one : holders l ≤ 1) where
   keeps s g polls has = g.holder ∙ (ap (mutex.holder_after p g.deed) has ∙ kept_by g.deed (g.keeps_lock (has_lock_decided c polls (sees.is_held_by l.courses p has))))
 
   -- a step that releases the lock goes on
-  pub released_by : (y : Place) (f : Found) → Fits y → On y f → Held l → (Held k → ⊥) → (answer_by (next_of y f) ≡ answer.Stepped) × (is_releasing d ≡ true)
-  released_by (ReleaseLock e) (found.Lock s) link o has lost =
-      let goes : s ≡ lock_step.More = o.releases refl in
+  pub released_by : (y : Place) (f : Found) → Fits y → On y f → Held l → (Held k → ⊥) → (answer_by (next_of y f) ≡ Answer.Stepped) × (is_releasing d ≡ true)
+  released_by (ReleaseLock e) (Found.Lock s) link o has lost =
+      let goes : s ≡ Step.More = o.releases refl in
       let R : Step → Type 0 = λ z. Releases z d in
-      (ap (λ z. answer_by (after_release e (found.Lock z))) goes, subst R goes o.leads)
+      (ap (λ z. answer_by (after_release e (Found.Lock z))) goes, subst R goes o.leads)
   released_by (ReleaseLock e) _ link o has lost = absurd o
-  released_by (TakeLock b) (found.Lock s) link o has lost = absurd (lost (keeps s o.legal link has))
+  released_by (TakeLock b) (Found.Lock s) link o has lost = absurd (lost (keeps s o.legal link has))
   released_by (TakeLock b) _ link o has lost = absurd o
   released_by (EnterLock b) f link o has lost = absurd (holds_not (out_free c link) has)
   released_by (WaitLock b) f link o has lost = absurd (holds_not (waiting_free c link) has)
@@ -94,7 +73,7 @@ module _ (i : Inputs) (p : ℕ) (l k : Mutex) (one : holders l ≤ 1) where
 
   -- whoever has released it tells one, and has no more to tell
   pub tells_by : (y : Place) (f : Found) → Fits y → On y f → is_releasing c ≡ true → (k.entries ≡ notified l.entries 1) × (is_releasing d ≡ false)
-  tells_by (ReleasingLock e) (found.Lock s) link o h = (o.legal.entries ∙ ap (λ z. mutex.entries_after p z l.entries) (o.legal.releases h), ap is_releasing (o.leads.releases h).1)
+  tells_by (ReleasingLock e) (Found.Lock s) link o h = (o.legal.entries ∙ ap (λ z. mutex.entries_after p z l.entries) (o.legal.releases h), ap is_releasing (o.leads.releases h).1)
   tells_by (ReleasingLock e) _ link o h = absurd o
   tells_by (EnterLock b) f link o h = absurd (out_quiet c link h)
   tells_by (WaitLock b) f link o h = absurd (waiting_quiet c link h)
@@ -109,15 +88,15 @@ module _ (i : Inputs) (p : ℕ) (l k : Mutex) (one : holders l ≤ 1) where
   -- and nobody else comes to have to tell
   pub only_by : (y : Place) (f : Found) → Fits y → On y f → is_releasing c ≡ false → is_releasing d ≡ true → Held l
   only_by (ReleaseLock e) f link o n h = sees.holds_it l.courses p one (holding_holds c link)
-  only_by (EnterLock b) (found.Lock s) link o n h = absurd (takes_quiet s d o.leads h)
+  only_by (EnterLock b) (Found.Lock s) link o n h = absurd (takes_quiet s d o.leads h)
   only_by (EnterLock b) _ link o n h = absurd o
-  only_by (WaitLock b) (found.Lock s) link o n h = absurd (takes_quiet s d o.leads h)
+  only_by (WaitLock b) (Found.Lock s) link o n h = absurd (takes_quiet s d o.leads h)
   only_by (WaitLock b) _ link o n h = absurd o
-  only_by (TakeLock b) (found.Lock s) link o n h = absurd (takes_quiet s d (o.leads.takes link) h)
+  only_by (TakeLock b) (Found.Lock s) link o n h = absurd (takes_quiet s d (o.leads.takes link) h)
   only_by (TakeLock b) _ link o n h = absurd o
-  only_by CancelLock (found.Lock s) link o n h = absurd (cancels_quiet s d o.leads h)
+  only_by CancelLock (Found.Lock s) link o n h = absurd (cancels_quiet s d o.leads h)
   only_by CancelLock _ link o n h = absurd o
-  only_by CancellingLock (found.Lock s) link o n h = absurd (cancels_quiet s d (o.leads.cancels link) h)
+  only_by CancellingLock (Found.Lock s) link o n h = absurd (cancels_quiet s d (o.leads.cancels link) h)
   only_by CancellingLock _ link o n h = absurd o
   only_by (ReleasingLock e) f link o n h = absurd (cc (link, n))
   only_by _ f link o n h = let same : is_releasing d ≡ is_releasing c = ap (λ (m : Mutex). is_releasing (course_at m.courses p)) o in absurd (cc (same, n, h))

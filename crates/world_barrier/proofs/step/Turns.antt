@@ -1,48 +1,9 @@
 -- What a step is to show at its place, and what is known of it.
-use Rattle.std.proofs.Common.{◌≡◌, ◌≢◌, ℕ, ◌+◌, ◌||◌, ◌⊎◌, Bool, true, false, Option, Some, None, is_some}
+use Rattle.world_barrier.proofs.Prelude.{◌≡◌, ◌≢◌, ℕ, ◌+◌, ◌||◌, ◌⊎◌, Bool, true, false, Option, Some, None, is_some, entries_of, Answer, Got, Inputs, Move, Refusal, Within, is_drop, is_refusal, number_of, inside, inputs_of, refused, Deed, does, joins, answer_of, Table, Course, course_at, Aim, Found, Next, Place, Made, At, Progress, Words, arrivals_at, IsFollower, action_of, next_of, position_after, got_left, Finds, words_after, arrival_after, entries_after, OnLock, fits_lock, in_lock, listed, follows, Sure, HasOutcome, Wait, wait_at, place_wait, verdict_of, Barrier, arrival_at, answer_by, ListName, Lock, Generation, Leads, World, standing_of, wait_of, is_held_by, told_in, view_of, Change, lock_after, arrivals_after, lock_list_after, generation_list_after, gives_back, gives_up, IsAllowed, IsCounted, IsCause, Carried, is_counting}
 use Rattle.lock_event.specs.declared.event.Mark.TheVariants.{Waiting}
-use Rattle.world_base.specs.queue.Parties.{entries_of}
-use Rattle.world_base.specs.declared.moves.Answer.{Answer}
-use Rattle.world_base.specs.declared.moves.Answer.TheVariants as answer
-use Rattle.world_base.specs.declared.moves.Got.TheVariants as got
-use Rattle.world_base.specs.declared.moves.Inputs.{Inputs}
-use Rattle.world_base.specs.declared.moves.Move.{Move}
-use Rattle.lock_program.specs.declared.refusal.Refusal.{Refusal}
-use Rattle.lock_program.specs.declared.refusal.Refusal.TheVariants as refusal
-use Rattle.world_base.specs.declared.standing.Within.{Within}
-use Rattle.world_base.specs.Frame.{is_drop, is_refusal}
-use Rattle.lock_program.specs.Refusals.{number_of}
-use Rattle.world_base.specs.Standings.{inside, inputs_of, refused}
-use Rattle.world_base.specs.Steps.{Deed, does, joins}
-use Rattle.world_base.specs.table.Ends.{answer_of}
-use Rattle.world_base.specs.table.Tables.{Table}
-use Rattle.world_mutex.specs.machine.Course.{Course}
-use Rattle.world_mutex.specs.machine.Mutex.{course_at}
-use Rattle.sync_program.specs.declared.barrier.Aim.{Aim}
-use Rattle.sync_program.specs.declared.barrier.Found.{Found}
-use Rattle.world_barrier.specs.program.Program.{Next}
 use Rattle.lock_program.specs.declared.end.Next.TheVariants as next
-use Rattle.sync_program.specs.declared.barrier.Place.{Place}
-use Rattle.sync_program.specs.declared.barrier.Position.TheVariants.{Made, At}
-use Rattle.world_barrier.specs.declared.program.words.Progress.{Progress}
-use Rattle.world_barrier.specs.declared.program.words.Words.{Words}
-use Rattle.world_barrier.specs.program.Words.{arrivals_at, IsFollower}
-use Rattle.world_barrier.specs.program.Program.{action_of, next_of, position_after, got_left}
-use Rattle.world_barrier.specs.program.Deeds.{Finds, words_after, arrival_after, entries_after}
-use Rattle.world_barrier.specs.program.Locks.{OnLock}
-use Rattle.world_barrier.specs.machine.Roles.{fits_lock, in_lock, listed, follows, Sure, HasOutcome}
-use Rattle.world_barrier.specs.machine.Waits.{Wait, wait_at, wait_of as place_wait, verdict_of}
-use Rattle.world_barrier.specs.machine.Machine.{Barrier, arrival_at, answer_by}
-use Rattle.world_barrier.specs.declared.world.ListName.{ListName}
-use Rattle.world_barrier.specs.declared.world.ListName.TheVariants.{Lock, Generation}
-use Rattle.world_barrier.specs.Numbers.{Leads}
-use Rattle.world_barrier.specs.State.{World, standing_of, wait_of, is_held_by, told_in}
-use Rattle.world_barrier.specs.View.{view_of}
-use Rattle.world_barrier.specs.Changes.{Change, lock_after, arrivals_after, lock_list_after, generation_list_after, gives_back, gives_up}
-use Rattle.world_barrier.specs.Legal.{IsAllowed, IsCounted, IsCause, Carried}
 use Rattle.world_barrier.proofs.step.Here.{may_begin_at, changes_wait, only_drops}
 use Rattle.world_barrier.proofs.step.Locks.{wait_by}
-use Rattle.world_mutex.specs.machine.Course.{is_counting}
 
 -- what a call is decided on after this
 abbrev pub said : Next → Course → Option Answer
@@ -102,9 +63,9 @@ module _ (t u : Table Barrier) (m : Move) (w : Within) where
 
   -- why a call is decided on this, at a place where a call may begin or only goes on
   abbrev pub Reason : Bool → Answer → Type 0
-  Reason starts answer.Pending = (told_in Lock new p ≡ Some Waiting) ⊎ (IsCounted new p × (told_in Generation new p ≡ Some Waiting))
-  Reason starts (answer.Ready g) = Carried g old m new
-  Reason starts (answer.Refused n) = ((r : Refusal) × (n ≡ number_of r) × IsCause old m new r) × (starts ≡ false) × (n ≡ number_of refusal.Starved → is_counting c ≡ true)
+  Reason starts Answer.Pending = (told_in Lock new p ≡ Some Waiting) ⊎ (IsCounted new p × (told_in Generation new p ≡ Some Waiting))
+  Reason starts (Answer.Ready g) = Carried g old m new
+  Reason starts (Answer.Refused n) = ((r : Refusal) × (n ≡ number_of r) × IsCause old m new r) × (starts ≡ false) × (n ≡ number_of Refusal.Starved → is_counting c ≡ true)
   Reason starts _ = ⊥
 
   -- what was decided is kept, and what is decided now has its reason
@@ -126,9 +87,9 @@ module _ (t u : Table Barrier) (m : Move) (w : Within) where
     pub parting : is_some v ≡ true → gives_back deed ≡ true
     pub giving_up : gives_up deed ≡ true → is_some v || is_held_by old.lock.holder p ≡ true
     pub judged : Judged starts v (said n d)
-    pub led : new.arrivals ≡ k + 1 → Leads new.size new.arrivals → (v ≡ None) × (said n d ≡ Some (answer.Ready (got.Leader true)))
+    pub led : new.arrivals ≡ k + 1 → Leads new.size new.arrivals → (v ≡ None) × (said n d ≡ Some (Answer.Ready (Got.Leader true)))
     pub clear : is_refusal (answer_by n) ≡ true → (for : Aim) × (position_after n ≡ Made for)
-    pub not_over : answer_by n ≢ refused refusal.Finished
+    pub not_over : answer_by n ≢ refused Refusal.Finished
 
   abbrev pub RowAt : Place → Found → Type 0
   RowAt y f = Row (place_wait y num) (verdict_of y c) (next_of y f) (may_begin_at y)

@@ -1,15 +1,5 @@
 -- A new table is seen as a new World.
-use Rattle.std.proofs.Common.{◌≡◌, ℕ, zero, suc, ◌∷◌, map, replicate, false, refl, ap, arith}
-use Rattle.world_base.specs.table.Tables.{new_table}
-use Rattle.world_base.proofs.of_table.Views.{all_idle}
-use Rattle.world_mutex.specs.machine.Course.{out, is_releasing}
-use Rattle.world_mutex.proofs.of_machine.callers.Callers.{new_has_no_holder, new_has_none_starved}
-use Rattle.sync_program.specs.declared.barrier.Position.TheVariants.{Out}
-use Rattle.world_barrier.specs.machine.Waits.{no_wait}
-use Rattle.world_barrier.specs.program.Words.{progress, arrivals_at}
-use Rattle.world_barrier.specs.machine.Machine.{new_barrier}
-use Rattle.world_barrier.specs.State.{new_world}
-use Rattle.world_barrier.specs.View.{waits_of, verdict_in, view_of}
+use Rattle.world_barrier.proofs.Prelude.{◌≡◌, ℕ, zero, suc, ◌∷◌, map, replicate, false, refl, ap, arith, new_table, all_idle, out, is_releasing, new_has_no_holder, new_has_none_starved, Out, no_wait, progress, arrivals_at, new_barrier, new_world, waits_of, verdict_in, view_of}
 
 none_arrived : (size : ℕ) → arrivals_at size (progress 0 0) ≡ 0
 none_arrived zero = refl

@@ -1,18 +1,5 @@
 -- What callers see of a machine, party by party.
-use Rattle.std.proofs.Common.{◌≡◌, ℕ, zero, suc, true, false, List, [], ◌∷◌, map, get_or, Some, refl}
-use Rattle.world_base.proofs.Equations.{same_test}
-use Rattle.world_base.specs.table.Stages.{stage_at, stands_as}
-use Rattle.world_base.specs.table.Tables.{Table}
-use Rattle.world_base.proofs.of_table.Views.{standings_at}
-use Rattle.world_mutex.specs.machine.Course.{Course, is_releasing}
-use Rattle.world_mutex.specs.machine.Mutex.{course_at}
-use Rattle.sync_program.specs.declared.barrier.Position.{Position}
-use Rattle.world_barrier.specs.declared.program.words.Progress.{Progress}
-use Rattle.world_barrier.specs.machine.Waits.{no_wait, wait_at, verdict}
-use Rattle.world_barrier.specs.program.Words.{arrivals_at}
-use Rattle.world_barrier.specs.machine.Machine.{Barrier, position_at, arrival_at}
-use Rattle.world_barrier.specs.State.{standing_of, wait_of, is_held_by, has_to_tell}
-use Rattle.world_barrier.specs.View.{waits_of, verdict_in, view_of}
+use Rattle.world_barrier.proofs.Prelude.{◌≡◌, ℕ, zero, suc, true, false, List, [], ◌∷◌, map, get_or, Some, refl, same_test, stage_at, stands_as, Table, standings_at, Course, is_releasing, course_at, Position, Progress, no_wait, wait_at, verdict, arrivals_at, Barrier, position_at, arrival_at, standing_of, wait_of, is_held_by, has_to_tell, waits_of, verdict_in, view_of}
 
 wait_in : (size : ℕ) (xs : List Position) (rs : List Progress) (q : ℕ) → get_or (waits_of size xs rs) q no_wait ≡ wait_at (position_at xs q) (arrivals_at size (arrival_at rs q))
 wait_in size [] rs q = refl

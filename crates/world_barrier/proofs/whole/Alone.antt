@@ -1,44 +1,6 @@
 -- A party's whole call, step by step, as its barrier's machine carries it out.
-use Rattle.std.proofs.Common.{◌≡◌, ◌≢◌, ℕ, zero, suc, ◌<◌, ◌≤◌, inl, inr, Bool, true, false, List, [], ◌∷◌, length, Some, refl, sym, ap, ◌∙◌, subst, arith, get_or-set_same, get_or-set_other}
-use Rattle.std.proofs.Math.ListN.{set}
-use Rattle.world_base.specs.declared.moves.Answer.{Answer}
-use Rattle.world_base.specs.declared.moves.Answer.TheVariants as answer
-use Rattle.world_base.specs.declared.moves.Call.{Call}
-use Rattle.world_base.specs.declared.moves.Got.{Got}
-use Rattle.world_base.specs.declared.moves.Inputs.{Inputs}
-use Rattle.world_base.specs.declared.moves.Move.{Move}
-use Rattle.world_base.specs.declared.moves.What.{What}
-use Rattle.world_base.specs.declared.moves.What.TheVariants.{Begin, Go}
-use Rattle.world_base.specs.declared.standing.Rest.TheVariants as rest
-use Rattle.world_base.specs.declared.standing.Stage.{Stage}
-use Rattle.world_base.specs.declared.standing.Stage.TheVariants.{Outside, Inside, Forgotten}
-use Rattle.world_base.specs.declared.standing.Within.{Within}
-use Rattle.world_base.specs.Accounts.{Account, accounts_after}
-use Rattle.world_base.specs.Standings.{inputs_of, is_outside_stage}
-use Rattle.world_base.specs.Whole.{going_on, moves_of, answers_of}
-use Rattle.world_base.proofs.Equations.{some_eq}
-use Rattle.world_base.specs.any_world.Steps.{beginning}
-use Rattle.world_base.proofs.of_any_world.Runs.{Onward, along}
-use Rattle.lock_program.specs.declared.end.End.{End}
-use Rattle.lock_program.specs.declared.end.End.TheVariants as «end»
-use Rattle.world_base.specs.table.Ends.{answer_of}
-use Rattle.world_base.specs.table.Stages.{stage_at, call_at, polls_again, stage_after}
-use Rattle.world_base.specs.table.Tables.{Table, Acted}
-use Rattle.world_base.proofs.of_table.Past.{inside_or_past}
-use Rattle.world_base.proofs.of_table.Ways.{acted}
-use Rattle.sync_program.specs.declared.barrier.Found.{Found}
-use Rattle.world_barrier.specs.program.Program.{Next}
+use Rattle.world_barrier.proofs.Prelude.{◌≡◌, ◌≢◌, ℕ, zero, suc, ◌<◌, ◌≤◌, inl, inr, Bool, true, false, List, [], ◌∷◌, length, Some, refl, sym, ap, ◌∙◌, subst, arith, get_or-set_same, get_or-set_other, set, Answer, Call, Got, Inputs, Move, What, Begin, Go, Rest, Stage, Outside, Inside, Forgotten, Within, Account, accounts_after, inputs_of, is_outside_stage, going_on, moves_of, answers_of, some_eq, beginning, Onward, along, End, answer_of, stage_at, call_at, polls_again, stage_after, Table, Acted, inside_or_past, acted, Found, Next, Place, Position, Out, At, progress, place_for, action_of, next_of, position_after, position_left, got_left, arrival_after, Barrier, IsBarrier, Acts, Moves, knows, goes_with, position_at, arrival_at, answer_by, World, IsBarrierTable, TableSteps, Steps, Runs, HoldsWell}
 use Rattle.lock_program.specs.declared.end.Next.TheVariants as next
-use Rattle.sync_program.specs.declared.barrier.Place.{Place}
-use Rattle.sync_program.specs.declared.barrier.Position.{Position}
-use Rattle.sync_program.specs.declared.barrier.Position.TheVariants.{Out, At}
-use Rattle.world_barrier.specs.program.Words.{progress}
-use Rattle.world_barrier.specs.program.Program.{place_for, action_of, next_of, position_after, position_left, got_left}
-use Rattle.world_barrier.specs.program.Deeds.{arrival_after}
-use Rattle.world_barrier.specs.machine.Machine.{Barrier, IsBarrier, Acts, Moves, knows, goes_with, position_at, arrival_at, answer_by}
-use Rattle.world_barrier.specs.State.{World}
-use Rattle.world_barrier.specs.Steps.{IsBarrierTable, TableSteps, Steps}
-use Rattle.world_barrier.specs.Runs.{Runs, HoldsWell}
 use Rattle.world_barrier.proofs.whole.Served.{Step, Then}
 
 abbrev pub known_calls : Barrier → ℕ → Call → Bool
@@ -53,10 +15,10 @@ past_out (x ∷ xs) (suc p) h = past_out xs p (omega (arith, h))
 
 inside_stage : (s : Stage) (x : Place) → goes_with s (At x) ≡ true → (w : Within) × (s ≡ Inside w)
 inside_stage (Inside w) x h = (w, refl)
-inside_stage (Outside rest.Idle) x h = absurd (cc h)
-inside_stage (Outside rest.Finished) x h = absurd (cc h)
-inside_stage (Outside rest.Pending) x h = absurd (cc h)
-inside_stage (Outside rest.Holding) x h = absurd (cc h)
+inside_stage (Outside Rest.Idle) x h = absurd (cc h)
+inside_stage (Outside Rest.Finished) x h = absurd (cc h)
+inside_stage (Outside Rest.Pending) x h = absurd (cc h)
+inside_stage (Outside Rest.Holding) x h = absurd (cc h)
 inside_stage Forgotten x h = absurd (cc h)
 
 -- a party that is at a place is inside a call
@@ -76,7 +38,7 @@ pub record Did (t : Table Barrier) (p : ℕ) (what : What) (from : Place) (a : A
   pub found : Found
   pub step : Step (inputs_of what) p from found t.machine u.machine
   pub answer : a ≡ answer_by (next_of from found)
-  pub stages : u.stages ≡ set t.stages p (stage_after rest.Finished within a)
+  pub stages : u.stages ≡ set t.stages p (stage_after Rest.Finished within a)
 
 pub acts_so : (i : Inputs) (p : ℕ) (from : Place) (f : Found) (x y : Barrier) → Acts i p from f x y → p < length x.positions → length x.arrivals ≡ length x.positions → Step i p from f x y
 acts_so i p from f x y k known many = record {
@@ -93,7 +55,7 @@ module _ (t u : Table Barrier) (p : ℕ) (a : Answer) (tl : IsBarrier t.machine)
       → TableSteps t (record { party = p; what = what }) a u → Did t p what from a u
   did what s w from at called first starts step = (
       let m : Move = record { party = p; what = what } in
-      let d : Acted known_calls rest.Finished Moves w t m a u = acted known_calls rest.Finished Moves t u m a w (ap (λ z. call_at knows z what) at ∙ called) (ap (λ z. polls_again z what) at ∙ first) step in
+      let d : Acted known_calls Rest.Finished Moves w t m a u = acted known_calls Rest.Finished Moves t u m a w (ap (λ z. call_at knows z what) at ∙ called) (ap (λ z. polls_again z what) at ∙ first) step in
       let known : p < length t.machine.positions = omega (arith, d.inside, tf.as_many) in
       let same : d.acts.from ≡ from = some_eq (sym d.acts.starts ∙ starts) in
       let P : Place → Type 0 = λ x. Step (inputs_of what) p x d.acts.found t.machine u.machine in
@@ -113,14 +75,14 @@ module _ (t u : Table Barrier) (p : ℕ) (a : Answer) (tl : IsBarrier t.machine)
 
 -- ---- the whole call
 
-ends_not : (g : Got) (e : End) → answer_of g e ≡ answer.Stepped → ⊥
-ends_not g «end».Got h = cc h
-ends_not g «end».Granted h = cc h
-ends_not g «end».Pending h = cc h
-ends_not g «end».NotFree h = cc h
-ends_not g «end».Waiting h = cc h
-ends_not g «end».GivenBack h = cc h
-ends_not g («end».Refused r) h = cc h
+ends_not : (g : Got) (e : End) → answer_of g e ≡ Answer.Stepped → ⊥
+ends_not g End.Got h = cc h
+ends_not g End.Granted h = cc h
+ends_not g End.Pending h = cc h
+ends_not g End.NotFree h = cc h
+ends_not g End.Waiting h = cc h
+ends_not g End.GivenBack h = cc h
+ends_not g (End.Refused r) h = cc h
 
 -- What goes on so from place to place, and comes to that where the call ends; the others stay where they were at this table.
 module _ (t : Table Barrier) (p : ℕ) (i : Inputs) (Going : Position → Barrier → Type 0) (AtEnd : Answer → Position → Barrier → Type 0) where
@@ -139,20 +101,20 @@ module _ (t : Table Barrier) (p : ℕ) (i : Inputs) (Going : Position → Barrie
   ends_at : (n : Next) (a : Answer) (v : World) (e : Answer) (z : Position) → a ≡ e → position_at v.behind.machine.positions p ≡ z → AtEnd e z v.behind.machine → AtEnd a (position_at v.behind.machine.positions p) v.behind.machine
   ends_at n a v e z is to h = let P : Answer → Type 0 = λ b. AtEnd b (position_at v.behind.machine.positions p) v.behind.machine in let Q : Position → Type 0 = λ y. AtEnd e y v.behind.machine in subst P (sym is) (subst Q (sym to) h)
 
-  outside_then : (w : Within) (g : Got) (e : End) → is_outside_stage (stage_after rest.Finished w (answer_of g e)) ≡ true
-  outside_then w g «end».Got = refl
-  outside_then w g «end».Granted = refl
-  outside_then w g «end».Pending = refl
-  outside_then w g «end».NotFree = refl
-  outside_then w g «end».Waiting = refl
-  outside_then w g «end».GivenBack = refl
-  outside_then w g («end».Refused r) = refl
+  outside_then : (w : Within) (g : Got) (e : End) → is_outside_stage (stage_after Rest.Finished w (answer_of g e)) ≡ true
+  outside_then w g End.Got = refl
+  outside_then w g End.Granted = refl
+  outside_then w g End.Pending = refl
+  outside_then w g End.NotFree = refl
+  outside_then w g End.Waiting = refl
+  outside_then w g End.GivenBack = refl
+  outside_then w g (End.Refused r) = refl
 
-  on_by : (n : Next) (a : Answer) (v : World) (w : Within) → a ≡ answer_by n → position_at v.behind.machine.positions p ≡ position_after n → Elsewhere v → stage_at v.behind.stages p ≡ stage_after rest.Finished w a → Then Going AtEnd n v.behind.machine → Onward GoesAt EndsAt a v
+  on_by : (n : Next) (a : Answer) (v : World) (w : Within) → a ≡ answer_by n → position_at v.behind.machine.positions p ≡ position_after n → Elsewhere v → stage_at v.behind.stages p ≡ stage_after Rest.Finished w a → Then Going AtEnd n v.behind.machine → Onward GoesAt EndsAt a v
   on_by (next.Do place) a v w is to others own h = record { going = λ e. record { going = (let P : Position → Type 0 = λ z. Going z v.behind.machine in subst P (sym to) h); elsewhere = others }; ended = λ n. absurd (n is) }
   on_by (next.End e x) a v w is to others own h = record {
     going = λ s. absurd (ends_not (got_left x) e (sym is ∙ s));
-    ended = λ n. record { ended = ends_at (next.End e x) a v (answer_of (got_left x) e) (position_left x) is to h; elsewhere = others; outside = ap is_outside_stage (own ∙ ap (stage_after rest.Finished w) is) ∙ outside_then w (got_left x) e };
+    ended = λ n. record { ended = ends_at (next.End e x) a v (answer_of (got_left x) e) (position_left x) is to h; elsewhere = others; outside = ap is_outside_stage (own ∙ ap (stage_after Rest.Finished w) is) ∙ outside_then w (got_left x) e };
   }
 
   -- each step from inside leads on
@@ -164,8 +126,8 @@ module _ (t : Table Barrier) (p : ℕ) (i : Inputs) (Going : Position → Barrie
 
   by_step : (x v : World) (what : What) (from : Place) (a : Answer) → Elsewhere x → (d : Did x.behind p what from a v.behind) → Then Going AtEnd (next_of from d.found) v.behind.machine → Onward GoesAt EndsAt a v
   by_step x v what from a before d h =
-      let others : Elsewhere v = λ q apart. ap (λ ss. stage_at ss q) d.stages ∙ (get_or-set_other x.behind.stages p q (stage_after rest.Finished d.within a) Forgotten apart ∙ before q apart) in
-      on_by (next_of from d.found) a v d.within d.answer d.step.to others (ap (λ ss. stage_at ss p) d.stages ∙ get_or-set_same x.behind.stages p (stage_after rest.Finished d.within a) Forgotten d.known) h
+      let others : Elsewhere v = λ q apart. ap (λ ss. stage_at ss q) d.stages ∙ (get_or-set_other x.behind.stages p q (stage_after Rest.Finished d.within a) Forgotten apart ∙ before q apart) in
+      on_by (next_of from d.found) a v d.within d.answer d.step.to others (ap (λ ss. stage_at ss p) d.stages ∙ get_or-set_same x.behind.stages p (stage_after Rest.Finished d.within a) Forgotten d.known) h
 
   module _ (inside : AreInside) (leads : LeadsOn) where
     onward : (x : World) (a : Answer) (v : World) → GoesAt x → Steps x (going_on p i) a v → Onward GoesAt EndsAt a v
@@ -178,7 +140,7 @@ module _ (t : Table Barrier) (p : ℕ) (i : Inputs) (Going : Position → Barrie
     -- from its first step, at this place, to its end
     pub whole : (known : ℕ → Account) (w : World) (c : Call) (n : ℕ) (a : Answer) (v : World) (s : Stage) (within : Within) (from : Place) → w.behind ≡ t → stage_at w.behind.stages p ≡ s → call_at knows s (Begin c i) ≡ Some within → polls_again s (Begin c i) ≡ false
         → place_for (Begin c i) (position_at w.behind.machine.positions p) ≡ Some from → ((f : Found) (y : Barrier) → IsBarrier y → Step i p from f w.behind.machine y → Then Going AtEnd (next_of from f) y)
-        → Runs known w (moves_of p c i n) (answers_of n a) v → a ≢ answer.Stepped → EndsAt a v
+        → Runs known w (moves_of p c i n) (answers_of n a) v → a ≢ Answer.Stepped → EndsAt a v
     whole known w c n a v s within from is at called first starts begins runs ended =
         along Steps accounts_after HoldsWell p i GoesAt EndsAt onward known n w (beginning p c i) a v
         (λ b x step. (let d = did w.behind x.behind p b step.did.stood.barrier step.did.stood.fits (Begin c i) s within from at called first starts step.did.step in

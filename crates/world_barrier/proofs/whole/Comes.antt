@@ -1,43 +1,7 @@
 -- What comes of a poll that is carried out alone, as callers see it.
-use Rattle.std.proofs.Common.{◌≡◌, ◌≢◌, ℕ, zero, suc, ◌+◌, ◌<◌, inl, inr, Bool, true, List, [], ◌∷◌, refl, sym, ap, ◌∙◌, subst, arith}
-use Rattle.std.proofs.Math.Decide.{ℕ_discrete}
-use Rattle.std.specs.List.{list_all}
-use Rattle.world_base.specs.queue.Parties.{entries_of}
+use Rattle.world_barrier.proofs.Prelude.{◌≡◌, ◌≢◌, ℕ, zero, suc, ◌+◌, ◌<◌, inl, inr, Bool, true, List, [], ◌∷◌, refl, sym, ap, ◌∙◌, subst, arith, ℕ_discrete, list_all, entries_of, Answer, Refusal, Stage, is_outside_stage, stage_at, Table, rest_seen, outside_at, LockStep as Step, End as LockEnd, GaveWay, StandsBack, starved, gave_way, none_held, Aim, Ending, Found, Position, Locking, Waiting, Progress, Words, uncounted, counted, wait_for, wait_at, arrivals_at, progress, IsFollower, after_lock, position_after, listed, Barrier, IsBarrier, position_at, arrival_at, answer_by, World, wait_of, view_of, verdict_in, HasToWait, is_at_rest, WaitsOn, ComesTo, GivesWay}
 use Rattle.world_base.proofs.of_queue.Told.{waits_at}
-use Rattle.world_base.specs.declared.moves.Answer.{Answer}
-use Rattle.world_base.specs.declared.moves.Answer.TheVariants as answer
-use Rattle.lock_program.specs.declared.refusal.Refusal.TheVariants as refusal
-use Rattle.world_base.specs.declared.standing.Stage.{Stage}
-use Rattle.world_base.specs.Standings.{is_outside_stage}
-use Rattle.world_base.specs.table.Stages.{stage_at}
-use Rattle.world_base.specs.table.Tables.{Table}
-use Rattle.world_base.proofs.of_table.Views.{rest_seen, outside_at}
-use Rattle.lock_program.specs.declared.mutex.Step.TheVariants as lock_step
-use Rattle.lock_program.specs.declared.end.End.{End as LockEnd}
-use Rattle.lock_program.specs.declared.end.End.TheVariants as lock_end
-use Rattle.world_mutex.specs.machine.Alone.{GaveWay, StandsBack}
-use Rattle.world_mutex.specs.machine.Mutex.{starved}
-use Rattle.world_mutex.proofs.of_machine.callers.Callers.{gave_way}
-use Rattle.world_mutex.proofs.of_machine.callers.Holders.{none_held}
-use Rattle.sync_program.specs.declared.barrier.Aim.{Aim}
-use Rattle.sync_program.specs.declared.barrier.Aim.TheVariants as aim
-use Rattle.sync_program.specs.declared.barrier.Ending.{Ending}
-use Rattle.sync_program.specs.declared.barrier.Ending.TheVariants as ending
-use Rattle.sync_program.specs.declared.barrier.Found.TheVariants as found
-use Rattle.sync_program.specs.declared.barrier.Position.{Position}
-use Rattle.sync_program.specs.declared.barrier.Position.TheVariants.{Locking, Waiting}
-use Rattle.world_barrier.specs.declared.program.words.Progress.{Progress}
-use Rattle.world_barrier.specs.declared.program.words.Words.{Words}
-use Rattle.world_barrier.specs.machine.Waits.{uncounted, counted, wait_for, wait_at}
-use Rattle.world_barrier.specs.program.Words.{arrivals_at, progress, IsFollower}
-use Rattle.world_barrier.specs.program.Program.{after_lock, position_after}
-use Rattle.world_barrier.specs.machine.Roles.{listed}
-use Rattle.world_barrier.specs.machine.Machine.{Barrier, IsBarrier, position_at, arrival_at, answer_by}
-use Rattle.world_barrier.specs.State.{World, wait_of}
-use Rattle.world_barrier.specs.View.{view_of, verdict_in}
-use Rattle.world_barrier.specs.Legal.{HasToWait}
-use Rattle.world_barrier.specs.Laws.{is_at_rest}
-use Rattle.world_barrier.specs.Bound.{WaitsOn, ComesTo, Takes, GivesWay}
+use Rattle.world_barrier.specs.Bound.{Takes}
 use Rattle.world_barrier.proofs.Numbers as numbers
 use Rattle.world_barrier.proofs.table.Seen.{wait_seen}
 use Rattle.world_barrier.proofs.whole.Served as served
@@ -80,25 +44,25 @@ module _ (p : ℕ) (b : Aim) (t u : Table Barrier) (a : Answer) where
   wait_so : (z : Position) (w : Words) (r : Progress) → position_at y.positions p ≡ z → AreNow p b s w r y → wait_of new p ≡ wait_at z (arrivals_at w.size r)
   wait_so z w r at k = wait_seen u p ∙ (ap (λ x. wait_at x (arrivals_at y.words.size (arrival_at y.arrivals p))) at ∙ ap (wait_at z) (ap (λ n. arrivals_at n (arrival_at y.arrivals p)) (ap (λ v. v.size) k.0) ∙ ap (arrivals_at w.size) k.1))
 
-  waits_on : (n : ℕ) → IsBarrier y → a ≡ answer.Pending → position_at y.positions p ≡ Waiting → served.IsUnmarked p b s y → wait_of new p ≡ counted n → WaitsOn p n a new
+  waits_on : (n : ℕ) → IsBarrier y → a ≡ Answer.Pending → position_at y.positions p ≡ Waiting → served.IsUnmarked p b s y → wait_of new p ≡ counted n → WaitsOn p n a new
   waits_on n laws is at unmarked wait = record { pending = is; counted = wait; waits = waits_at p y.entries (laws.owners p ∙ ap listed at) unmarked }
 
-  module _ (old_laws : IsBarrier s) (new_laws : IsBarrier y) (follower : b ≡ aim.Check → IsFollower size own) where
+  module _ (old_laws : IsBarrier s) (new_laws : IsBarrier y) (follower : b ≡ Aim.Check → IsFollower size own) where
     -- whoever has to wait there has to, as callers see it
     pub has_to_wait : served.MustWait p b s b → HasToWait old (wait_for b number)
     has_to_wait must = by_aim b refl must where
       by_aim : (c : Aim) → b ≡ c → served.MustWait p b s c → HasToWait old (wait_for c number)
-      by_aim aim.Arrive is more = numbers.next_follows size s.words.progress more
-      by_aim aim.Check is unfinished = numbers.is_unfinished size own s.words.progress (follower is) old_laws.sound.unfinished unfinished
+      by_aim Aim.Arrive is more = numbers.next_follows size s.words.progress more
+      by_aim Aim.Check is unfinished = numbers.is_unfinished size own s.words.progress (follower is) old_laws.sound.unfinished unfinished
 
-    arrives : ComesTo uncounted old p a new → b ≡ aim.Arrive → ComesTo (wait_for b number) old p a new
+    arrives : ComesTo uncounted old p a new → b ≡ Aim.Arrive → ComesTo (wait_for b number) old p a new
     arrives k is = let P : Aim → Type 0 = λ c. ComesTo (wait_for c number) old p a new in subst P (sym is) k
 
-    checks : ComesTo (counted number) old p a new → b ≡ aim.Check → ComesTo (wait_for b number) old p a new
+    checks : ComesTo (counted number) old p a new → b ≡ Aim.Check → ComesTo (wait_for b number) old p a new
     checks k is = let P : Aim → Type 0 = λ c. ComesTo (wait_for c number) old p a new in subst P (sym is) k
 
     comes : (e : Ending) → a ≡ end_answer e → position_at y.positions p ≡ end_place e → served.ComesTo p b s e y → ComesTo (wait_for b number) old p a new
-    comes ending.Wait is at (inl k, unmarked) = arrives (
+    comes Ending.Wait is at (inl k, unmarked) = arrives (
         let next = numbers.arrived size s.words.progress k.more in
         let n : new.arrivals ≡ so_far + 1 = counted_so (progress s.words.progress.generation (s.words.progress.count + 1)) k.counted ∙ next in
         inr (inr (record {
@@ -107,22 +71,22 @@ module _ (p : ℕ) (b : Aim) (t u : Table Barrier) (a : Answer) where
           arrivals = n;
         }))
         ) k.arrives
-    comes ending.Wait is at (inr k, unmarked) =
+    comes Ending.Wait is at (inr k, unmarked) =
         checks (same_so k.same, inr (numbers.is_unfinished size own s.words.progress (follower k.checks) old_laws.sound.unfinished k.unfinished, waits_on number new_laws is at unmarked (wait_so Waiting _ _ at k.same))) k.checks
-    comes ending.Follow is at k = checks (same_so k.same, inl (numbers.is_finished_apart size own s.words.progress (follower k.checks) (old_laws.past p) k.finished, is)) k.checks
-    comes ending.Lead is at k = arrives (inl (record {
+    comes Ending.Follow is at k = checks (same_so k.same, inl (numbers.is_finished_apart size own s.words.progress (follower k.checks) (old_laws.past p) k.finished, is)) k.checks
+    comes Ending.Lead is at k = arrives (inl (record {
       leads = numbers.next_leads size s.words.progress old_laws.sound.unfinished k.last;
       within = rw (numbers.its_generations size s.words.progress old_laws.sound.unfinished) k.below;
       ready = is;
       arrivals = counted_so (progress (s.words.progress.generation + 1) 0) k.counted ∙ numbers.completed size s.words.progress old_laws.sound.unfinished k.last;
     })) k.arrives
-    comes ending.RefuseGenerations is at k = arrives (inr (inl (record {
+    comes Ending.RefuseGenerations is at k = arrives (inr (inl (record {
       leads = numbers.next_leads size s.words.progress old_laws.sound.unfinished k.last;
       limit = numbers.its_generations size s.words.progress old_laws.sound.unfinished ∙ omega (arith, k.limit, old_laws.sound.within);
       refused = is;
       arrivals = same_so k.same;
     }))) k.arrives
-    comes (ending.RefuseMemory c) is at k = absurd k
+    comes (Ending.RefuseMemory c) is at k = absurd k
 
     pub takes_seen : Came p b s a (position_at y.positions p) y → Takes old p (wait_for b number) a new
     takes_seen k = record { comes_to = comes k.to k.answer k.place k.comes; released = k.free; told = k.woken }
@@ -144,17 +108,17 @@ module _ (p : ℕ) (b : Aim) (t u : Table Barrier) (a : Answer) where
 
   module _ (others : (q : ℕ) → q ≢ p → stage_at u.stages q ≡ stage_at t.stages q) (outside : is_outside_stage (stage_at u.stages p) ≡ true) (here : position_at s.positions p ≡ Locking b) where
     gives_by : (memory : Bool) (e : LockEnd) → (k : GaveUp p b s memory a (position_at y.positions p) y) → k.to ≡ e → 0 < entries_of p s.lock.entries → starved s.lock < s.lock.limit → StandsBack p s.lock e y.lock → GivesWay old p a new
-    gives_by memory lock_end.Pending k is there below back =
-        let at : position_at y.positions p ≡ Locking b = k.place ∙ ap (λ e. position_after (after_lock b (found.Lock (lock_step.End e)))) is in
+    gives_by memory LockEnd.Pending k is there below back =
+        let at : position_at y.positions p ≡ Locking b = k.place ∙ ap (λ e. position_after (after_lock b (Found.Lock (Step.End e)))) is in
         record {
           free = none_held 0 y.lock.courses k.gave.free;
-          pending = k.answer ∙ ap (λ e. answer_by (after_lock b (found.Lock (lock_step.End e)))) is;
+          pending = k.answer ∙ ap (λ e. answer_by (after_lock b (Found.Lock (Step.End e)))) is;
           gave_way = gave_way p s.lock y.lock (let P : LockEnd → Type 0 = λ e. GaveWay p s.lock e y.lock in subst P is k.gave) there;
           arrivals = same_so k.same;
           wait = wait_so (Locking b) _ _ at k.same ∙ sym (wait_seen t p ∙ ap (λ x. wait_at x number) here);
           rests = rests_seen others outside;
         }
-    gives_by memory (lock_end.Refused refusal.Starved) k is there below back = absurd (omega (arith, back.2, below))
+    gives_by memory (LockEnd.Refused Refusal.Starved) k is there below back = absurd (omega (arith, back.2, below))
     gives_by memory _ k is there below back = absurd back
 
     pub gives_seen : (memory : Bool) → GaveUp p b s memory a (position_at y.positions p) y → 0 < entries_of p s.lock.entries → starved s.lock < s.lock.limit → GivesWay old p a new

@@ -1,43 +1,22 @@
 -- How a poll that is carried out alone gets the inner lock, or gives way.
-use Rattle.std.proofs.Common.{ap, ◌≡◌, ℕ, ◌⊎◌, inl, inr, Bool, true, false, refl, sym, ◌∙◌, subst}
-use Rattle.lock_event.specs.Lists.{is_marked_at}
-use Rattle.world_base.specs.queue.Parties.{is_party}
-use Rattle.world_base.specs.declared.moves.Answer.{Answer}
-use Rattle.world_base.specs.declared.moves.Inputs.{Inputs}
+use Rattle.world_barrier.proofs.Prelude.{ap, ◌≡◌, ℕ, ◌⊎◌, inl, inr, Bool, true, false, refl, sym, ◌∙◌, subst, is_marked_at, is_party, Answer, Inputs, LockStep, End as LockEnd, HasBegun, HasGoneOn, GoesOnAlone, last, further, PollsAlone, at_once, begun, GaveWay, StandsBack, Took, Mutex, holders, starved, Aim, Found, Next, Place, EnterLock, WaitLock, TakeLock, Ask, Position, At, with_lock, after_lock, next_of, position_after, Barrier, answer_by}
 use Rattle.lock_program.specs.declared.refusal.Refusal.TheVariants.{Starved}
-use Rattle.lock_program.specs.declared.mutex.Step.{Step as LockStep}
-use Rattle.lock_program.specs.declared.mutex.Step.TheVariants as lock_step
-use Rattle.lock_program.specs.declared.end.End.{End as LockEnd}
-use Rattle.lock_program.specs.declared.end.End.TheVariants as lock_end
-use Rattle.lock_program.specs.declared.mutex.LockCall.TheVariants as lock_call
-use Rattle.world_mutex.specs.machine.Alone.{HasBegun, HasGoneOn, GoesOnAlone, last, further, PollsAlone, at_once, begun, GaveWay, StandsBack, Took}
-use Rattle.world_mutex.specs.machine.Mutex.{Mutex, holders, starved}
-use Rattle.sync_program.specs.declared.barrier.Aim.{Aim}
-use Rattle.sync_program.specs.declared.barrier.Aim.TheVariants as aim
-use Rattle.sync_program.specs.declared.barrier.Found.{Found}
-use Rattle.sync_program.specs.declared.barrier.Found.TheVariants as found
-use Rattle.world_barrier.specs.program.Program.{Next}
+use Rattle.lock_program.specs.declared.mutex.LockCall.{LockCall}
 use Rattle.lock_program.specs.declared.end.Next.TheVariants as next
-use Rattle.sync_program.specs.declared.barrier.Place.{Place}
-use Rattle.sync_program.specs.declared.barrier.Place.TheVariants.{EnterLock, WaitLock, TakeLock, Ask}
-use Rattle.sync_program.specs.declared.barrier.Position.{Position}
-use Rattle.sync_program.specs.declared.barrier.Position.TheVariants.{At}
-use Rattle.world_barrier.specs.program.Program.{with_lock, after_lock, next_of, position_after}
-use Rattle.world_barrier.specs.machine.Machine.{Barrier, answer_by}
 use Rattle.world_barrier.proofs.whole.Served.{Step, Same, Then, Came, Serves, ServesThen}
 
 module _ (p : ℕ) (b : Aim) (s : Barrier) where
   -- whoever has the lock goes on with it
   gets : (a : Aim) (y : Barrier) → a ≡ b → Same p b s y → Serves p b s (At (with_lock a)) y
-  gets aim.Arrive y e same = (sym e, same)
-  gets aim.Check y e same = (sym e, same)
+  gets Aim.Arrive y e same = (sym e, same)
+  gets Aim.Check y e same = (sym e, same)
 
   -- ---- a first poll of a free lock gets it at once
 
   pub gets_at_once : (i : Inputs) (f : Found) (x y : Barrier) → holders x.lock ≡ 0 → starved x.lock ≡ 0 → Same p b s x → Step i p (EnterLock b) f x y → ServesThen p b s (next_of (EnterLock b) f) y
-  gets_at_once i (found.Lock n) x y free unstarved same k =
-      let got : n ≡ lock_step.End lock_end.Got = k.lock.at_once.ends refl free unstarved in
-      let P : LockStep → Type 0 = λ z. ServesThen p b s (after_lock b (found.Lock z)) y in
+  gets_at_once i (Found.Lock n) x y free unstarved same k =
+      let got : n ≡ LockStep.End LockEnd.Got = k.lock.at_once.ends refl free unstarved in
+      let P : LockStep → Type 0 = λ z. ServesThen p b s (after_lock b (Found.Lock z)) y in
       subst P (sym got) (gets b y refl (k.words ∙ same.0, k.arrival ∙ same.1))
   gets_at_once i _ x y free unstarved same k = absurd k.lock
 
@@ -63,9 +42,9 @@ module _ (p : ℕ) (b : Aim) (s : Barrier) where
   then_entered (next.End e x) y h = h
 
   -- a party that was notified enters
-  pub asks : (i : Inputs) (f : Found) (y : Barrier) → is_marked_at (is_party p) s.entries ≡ true → holders s.lock ≡ 0 → starved s.lock ≡ 0 → b ≡ aim.Check → Step i p Ask f s y → EntersThen (next_of Ask f) y
-  asks i found.Yes y marked free unstarved checks k = (sym checks, record { same = (k.words, k.arrival); free = ap holders k.lock ∙ free; unstarved = ap starved k.lock ∙ unstarved })
-  asks i found.No y marked free unstarved checks k = let never : true ≡ false = sym marked ∙ k.finds in absurd (cc never)
+  pub asks : (i : Inputs) (f : Found) (y : Barrier) → is_marked_at (is_party p) s.entries ≡ true → holders s.lock ≡ 0 → starved s.lock ≡ 0 → b ≡ Aim.Check → Step i p Ask f s y → EntersThen (next_of Ask f) y
+  asks i Found.Yes y marked free unstarved checks k = (sym checks, record { same = (k.words, k.arrival); free = ap holders k.lock ∙ free; unstarved = ap starved k.lock ∙ unstarved })
+  asks i Found.No y marked free unstarved checks k = let never : true ≡ false = sym marked ∙ k.finds in absurd (cc never)
   asks i _ y marked free unstarved checks k = absurd k.finds
 
   -- ---- a poll of a party that waits there
@@ -81,8 +60,8 @@ module _ (p : ℕ) (b : Aim) (s : Barrier) where
     pub to : LockEnd
     pub polls : PollsAlone memory p to y.lock s.lock
     pub gave : GaveWay p s.lock to y.lock
-    pub answer : a ≡ answer_by (after_lock b (found.Lock (lock_step.End to)))
-    pub place : at ≡ position_after (after_lock b (found.Lock (lock_step.End to)))
+    pub answer : a ≡ answer_by (after_lock b (Found.Lock (LockStep.End to)))
+    pub place : at ≡ position_after (after_lock b (Found.Lock (LockStep.End to)))
     pub same : Same p b s y
     pub entries : y.entries ≡ s.entries
 
@@ -105,8 +84,8 @@ module _ (p : ℕ) (b : Aim) (s : Barrier) where
   then_served memory (next.End e x) y h = inl h
 
   gets_there : (memory : Bool) (a : Aim) (y : Barrier) → a ≡ b → Same p b s y → SoloThen memory (next.Do (with_lock a)) y
-  gets_there memory aim.Arrive y e same = (sym e, same)
-  gets_there memory aim.Check y e same = (sym e, same)
+  gets_there memory Aim.Arrive y e same = (sym e, same)
+  gets_there memory Aim.Check y e same = (sym e, same)
 
   -- whoever polls there takes the lock or gives way, with this memory
   abbrev pub Settles : Bool → Type 0
@@ -116,30 +95,30 @@ module _ (p : ℕ) (b : Aim) (s : Barrier) where
     abbrev Leads : Next → Barrier → Type 0
     Leads = SoloThen i.memory
 
-    gives_up : (e : LockEnd) → PollsAlone i.memory p e y.lock s.lock → Same p b s y → y.entries ≡ s.entries → GaveWay p s.lock e y.lock → StandsBack p s.lock e y.lock → Leads (after_lock b (found.Lock (lock_step.End e))) y
-    gives_up lock_end.Pending polls same entries g back = inr (record { to = lock_end.Pending; polls = polls; gave = g; answer = refl; place = refl; same = same; entries = entries })
-    gives_up (lock_end.Refused Starved) polls same entries g back = inr (record { to = lock_end.Refused Starved; polls = polls; gave = g; answer = refl; place = refl; same = same; entries = entries })
+    gives_up : (e : LockEnd) → PollsAlone i.memory p e y.lock s.lock → Same p b s y → y.entries ≡ s.entries → GaveWay p s.lock e y.lock → StandsBack p s.lock e y.lock → Leads (after_lock b (Found.Lock (LockStep.End e))) y
+    gives_up LockEnd.Pending polls same entries g back = inr (record { to = LockEnd.Pending; polls = polls; gave = g; answer = refl; place = refl; same = same; entries = entries })
+    gives_up (LockEnd.Refused Starved) polls same entries g back = inr (record { to = LockEnd.Refused Starved; polls = polls; gave = g; answer = refl; place = refl; same = same; entries = entries })
     gives_up _ polls same entries g back = absurd back
 
-    by_end : (e : LockEnd) → PollsAlone i.memory p e y.lock s.lock → Same p b s y → y.entries ≡ s.entries → Took p e y.lock ⊎ GaveWay p s.lock e y.lock → Leads (after_lock b (found.Lock (lock_step.End e))) y
-    by_end e polls same entries (inl took) = let P : LockEnd → Type 0 = λ z. Leads (after_lock b (found.Lock (lock_step.End z))) y in subst P (sym took.0) (gets_there i.memory b y refl same)
+    by_end : (e : LockEnd) → PollsAlone i.memory p e y.lock s.lock → Same p b s y → y.entries ≡ s.entries → Took p e y.lock ⊎ GaveWay p s.lock e y.lock → Leads (after_lock b (Found.Lock (LockStep.End e))) y
+    by_end e polls same entries (inl took) = let P : LockEnd → Type 0 = λ z. Leads (after_lock b (Found.Lock (LockStep.End z))) y in subst P (sym took.0) (gets_there i.memory b y refl same)
     by_end e polls same entries (inr g) = gives_up e polls same entries g g.stands_back
 
-    ends : (e : LockEnd) → PollsAlone i.memory p e y.lock s.lock → Same p b s y → y.entries ≡ s.entries → Leads (after_lock b (found.Lock (lock_step.End e))) y
+    ends : (e : LockEnd) → PollsAlone i.memory p e y.lock s.lock → Same p b s y → y.entries ≡ s.entries → Leads (after_lock b (Found.Lock (LockStep.End e))) y
     ends e polls same entries = by_end e polls same entries (settles e y.lock polls)
 
-    begins_so : (n : LockStep) → HasBegun i.memory p lock_call.Poll n s.lock y.lock → Same p b s y → y.entries ≡ s.entries → Leads (after_lock b (found.Lock n)) y
-    begins_so lock_step.More did same entries = (refl, record { same = same; entries = entries; polled = λ e new g. begun s.lock y.lock did g })
-    begins_so (lock_step.End e) did same entries = ends e (at_once s.lock did) same entries
+    begins_so : (n : LockStep) → HasBegun i.memory p LockCall.Poll n s.lock y.lock → Same p b s y → y.entries ≡ s.entries → Leads (after_lock b (Found.Lock n)) y
+    begins_so LockStep.More did same entries = (refl, record { same = same; entries = entries; polled = λ e new g. begun s.lock y.lock did g })
+    begins_so (LockStep.End e) did same entries = ends e (at_once s.lock did) same entries
 
     pub begins : (f : Found) → Step i p (WaitLock b) f s y → Leads (next_of (WaitLock b) f) y
-    begins (found.Lock n) k = begins_so n k.lock.done (k.words, k.arrival) k.entries
+    begins (Found.Lock n) k = begins_so n k.lock.done (k.words, k.arrival) k.entries
     begins _ k = absurd k.lock
 
-    goes_so : (n : LockStep) (x : Barrier) → IsTaking i.memory x → HasGoneOn i.memory p n x.lock y.lock → Same p b s y → y.entries ≡ s.entries → Leads (after_lock b (found.Lock n)) y
-    goes_so lock_step.More x so did same entries = (refl, record { same = same; entries = entries; polled = λ e new g. so.polled e new (further x.lock y.lock did g) })
-    goes_so (lock_step.End e) x so did same entries = ends e (so.polled e y.lock (last x.lock did)) same entries
+    goes_so : (n : LockStep) (x : Barrier) → IsTaking i.memory x → HasGoneOn i.memory p n x.lock y.lock → Same p b s y → y.entries ≡ s.entries → Leads (after_lock b (Found.Lock n)) y
+    goes_so LockStep.More x so did same entries = (refl, record { same = same; entries = entries; polled = λ e new g. so.polled e new (further x.lock y.lock did g) })
+    goes_so (LockStep.End e) x so did same entries = ends e (so.polled e y.lock (last x.lock did)) same entries
 
     pub goes_on : (f : Found) (x : Barrier) → IsTaking i.memory x → Step i p (TakeLock b) f x y → Leads (next_of (TakeLock b) f) y
-    goes_on (found.Lock n) x so k = goes_so n x so k.lock.done (k.words ∙ so.same.0, k.arrival ∙ so.same.1) (k.entries ∙ so.entries)
+    goes_on (Found.Lock n) x so k = goes_so n x so k.lock.done (k.words ∙ so.same.0, k.arrival ∙ so.same.1) (k.entries ∙ so.entries)
     goes_on _ x so k = absurd k.lock

@@ -1,31 +1,14 @@
 -- Nobody is refused for too many starved parties who isn't about to be counted.
-use Rattle.std.proofs.Common.{◌≡◌, ℕ, Bool, true, false, Some, None, refl, ap, sym, ◌∙◌, subst}
-use Rattle.std.proofs.lemmas.Bool.{true≢false}
-use Rattle.world_base.specs.declared.moves.Answer.{Answer}
-use Rattle.world_base.specs.declared.moves.Answer.TheVariants as answer
-use Rattle.world_base.specs.declared.moves.Move.{Move}
-use Rattle.lock_program.specs.declared.refusal.Refusal.{Refusal}
-use Rattle.lock_program.specs.declared.refusal.Refusal.TheVariants as refusal
-use Rattle.world_base.specs.declared.standing.Within.{Within}
-use Rattle.lock_program.specs.Refusals.{number_of}
-use Rattle.world_base.specs.Standings.{Standing, outside, inside, forgotten, is_possible, is_decided, refused, decision, IsUndecided}
-use Rattle.world_base.proofs.Equations.{some_eq, none_some}
-use Rattle.world_base.specs.table.Tables.{Table}
-use Rattle.world_mutex.specs.machine.Course.{is_counting}
-use Rattle.world_mutex.specs.machine.Mutex.{course_at}
-use Rattle.world_barrier.specs.machine.Machine.{Barrier}
-use Rattle.world_barrier.specs.Legal.{DecidesOn, IsCause}
-use Rattle.world_barrier.specs.State.{World, standing_of}
-use Rattle.world_barrier.specs.Steps.{Steps}
-use Rattle.world_barrier.specs.View.{view_of}
+use Rattle.world_barrier.proofs.Prelude.{◌≡◌, ℕ, Bool, true, false, Some, None, refl, ap, sym, ◌∙◌, subst, true≢false, Answer, Move, Refusal, Within, number_of, Standing, outside, inside, forgotten, is_possible, is_decided, refused, IsUndecided, some_eq, none_some, Table, is_counting, course_at, Barrier, DecidesOn, IsCause, World, standing_of, Steps, view_of}
+use Rattle.world_base.specs.Standings.{decision}
 use Rattle.world_barrier.proofs.step.Acting as acting
 use Rattle.world_barrier.proofs.step.Stepping.{by_step}
 
 abbrev pub starved_refusal : Answer
-starved_refusal = refused refusal.Starved
+starved_refusal = refused Refusal.Starved
 
-undecided_cause : (m : Move) (old new : World) (r : Refusal) → number_of refusal.Starved ≡ number_of r → IsCause old m new r → IsUndecided (standing_of old m.party)
-undecided_cause m old new refusal.Starved e h = h.undecided
+undecided_cause : (m : Move) (old new : World) (r : Refusal) → number_of Refusal.Starved ≡ number_of r → IsCause old m new r → IsUndecided (standing_of old m.party)
+undecided_cause m old new Refusal.Starved e h = h.undecided
 undecided_cause m old new _ e h = absurd (cc e)
 
 -- a step that leaves its party as it stood decides nothing
@@ -33,8 +16,8 @@ decides_nothing : (w : World) (p : ℕ) (a : Answer) → IsUndecided (standing_o
 decides_nothing w p a at d = none_some (sym (ap (decision a) at.1) ∙ d)
 
 module _ (x v : World) (m : Move) (a : Answer) (s : Steps x m a v) (d : DecidesOn x m a v starved_refusal) where
-  why : (r : Refusal) × (number_of refusal.Starved ≡ number_of r) × IsCause x m v r
-  why = s.legal.refused_for_cause.cause (number_of refusal.Starved) d
+  why : (r : Refusal) × (number_of Refusal.Starved ≡ number_of r) × IsCause x m v r
+  why = s.legal.refused_for_cause.cause (number_of Refusal.Starved) d
 
   pub midway : IsUndecided (standing_of x m.party)
   midway = undecided_cause m x v why.0 why.1 why.2
@@ -48,8 +31,8 @@ module _ (x v : World) (m : Move) (a : Answer) (s : Steps x m a v) (d : DecidesO
       let Left : World → Type 0 = λ y. D y v in
       let U : World → Type 0 = λ y. IsUndecided (standing_of y m.party) in
       by_step x.behind v.behind m a s.did.stood.barrier s.did.stood.fits s.did.stands.barrier s.did.stands.fits Counts
-      (λ e at y. absurd (decides_nothing (view_of x.behind) m.party answer.NotPossible at y.1))
-      (λ w e f at y. absurd (decides_nothing (view_of x.behind) m.party (refused refusal.Finished) at y.1))
+      (λ e at y. absurd (decides_nothing (view_of x.behind) m.party Answer.NotPossible at y.1))
+      (λ w e f at y. absurd (decides_nothing (view_of x.behind) m.party (refused Refusal.Finished) at y.1))
       (λ w k at y. acting.counts x.behind v.behind m a w k y)
       s.did.step (subst U s.did.stood.seen midway) (subst (D (view_of x.behind)) s.did.stands.seen (subst Left s.did.stood.seen d))
 
@@ -73,8 +56,8 @@ module _ (x v : World) (m : Move) (a : Answer) (s : Steps x m a v) (not_next : i
     was_decided : (u : Within) (b : Answer) → standing_of x m.party ≡ inside u (Some b) → (c : Bool) → is_possible a ≡ c → ⊥
     was_decided u b at true can = same b u at (some_eq (sym (s.legal.ends_properly.as_decided u b at can) ∙ d))
     was_decided u b at false cannot = same b u at (some_eq (sym (ap (decision a) (ap (λ z. standing_of z m.party) (s.legal.possible.unchanged (impossible_is a cannot)) ∙ at)) ∙ d)) where
-      impossible_is : (b : Answer) → is_possible b ≡ false → b ≡ answer.NotPossible
-      impossible_is answer.NotPossible h = refl
+      impossible_is : (b : Answer) → is_possible b ≡ false → b ≡ Answer.NotPossible
+      impossible_is Answer.NotPossible h = refl
       impossible_is _ h = absurd (cc h)
 
     by_decided : (b : Bool) → is_decided (standing_of x m.party) ≡ b → ⊥

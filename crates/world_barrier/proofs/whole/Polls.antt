@@ -1,58 +1,11 @@
 -- Whole polls on a free inner lock: where they begin, and that they take it or give way.
-use Rattle.std.proofs.Common.{◌≡◌, ◌≢◌, ℕ, ◌+◌, ◌<◌, ◌==◌, ◌⊎◌, inl, inr, Bool, true, false, Option, Some, None, refl, sym, ap, ◌∙◌, subst, arith}
+use Rattle.world_barrier.proofs.Prelude.{◌≡◌, ◌≢◌, ℕ, ◌+◌, ◌<◌, ◌==◌, ◌⊎◌, inl, inr, Bool, true, false, Option, Some, None, refl, sym, ap, ◌∙◌, subst, arith, nat_tests, is_marked_at, is_party, entries_of, Answer, Call, Inputs, Begin, Kind, Rest, Stage, Outside, Inside, Forgotten, Within, Account, how_many, outside, moves_of, answers_of, both, stage_at, stands_as, call_at, polls_again, Table, inside_or_past, outside_stage, bit, is_waiting, IsCalled, PollsAlone, SoloPolls, StandsBack, End as LockEnd, Mutex, course_at, holders, starved, holder_of, starved_of, IsStarved, out_unlisted, waiting_listed, Aim, Place, EnterLock, WaitLock, Ask, Position, Out, Made, Locking, Waiting, At, start_of, fits_lock, in_lock, listed, follows, wait_for, wait_at, arrivals_at, IsFollower, Barrier, IsBarrier, knows, goes_with, position_at, arrival_at, World, standing_of, wait_of, is_free, is_starved, view_of, verdict_in, entries_in, is_first_poll, wait_then, HasToWait, IsSolo, IsNotified, IsToldOfLock, SoloPoll, Runs, IsBarrierTable, Stands}
 use Rattle.std.specs.Prelude.{is_none}
-use Rattle.std.proofs.lemmas.Bool.Decides.{nat_tests}
-use Rattle.lock_event.specs.Lists.{is_marked_at}
-use Rattle.world_base.specs.queue.Parties.{is_party, entries_of}
-use Rattle.world_base.specs.declared.moves.Answer.{Answer}
-use Rattle.world_base.specs.declared.moves.Answer.TheVariants as answer
-use Rattle.world_base.specs.declared.moves.Call.{Call}
-use Rattle.world_base.specs.declared.moves.Call.TheVariants as call
-use Rattle.world_base.specs.declared.moves.Inputs.{Inputs}
-use Rattle.world_base.specs.declared.moves.What.TheVariants.{Begin}
-use Rattle.world_base.specs.declared.standing.Kind.TheVariants as kind
-use Rattle.world_base.specs.declared.standing.Rest.{Rest}
-use Rattle.world_base.specs.declared.standing.Rest.TheVariants as rest
-use Rattle.world_base.specs.declared.standing.Stage.{Stage}
-use Rattle.world_base.specs.declared.standing.Stage.TheVariants.{Outside, Inside, Forgotten}
-use Rattle.world_base.specs.declared.standing.Within.{Within}
-use Rattle.world_base.specs.Accounts.{Account}
-use Rattle.world_base.specs.Rosters.{how_many}
-use Rattle.world_base.specs.Standings.{outside}
-use Rattle.world_base.specs.Whole.{moves_of, answers_of}
 use Rattle.world_base.proofs.Bounds.{marked_listed}
-use Rattle.world_base.proofs.Equations.{both}
-use Rattle.world_base.specs.table.Stages.{stage_at, stands_as, call_at, polls_again}
-use Rattle.world_base.specs.table.Tables.{Table}
-use Rattle.world_base.proofs.of_table.Past.{inside_or_past}
-use Rattle.world_base.proofs.of_table.Views.{outside_stage}
-use Rattle.world_mutex.specs.machine.Course.{bit, is_waiting}
-use Rattle.world_mutex.specs.machine.Alone.{IsCalled, PollsAlone, SoloPolls, StandsBack}
-use Rattle.lock_program.specs.declared.end.End.{End as LockEnd}
-use Rattle.lock_program.specs.declared.end.End.TheVariants as lock_end
-use Rattle.world_mutex.specs.machine.Mutex.{Mutex, course_at, holders, starved, holder_of, starved_of, IsStarved}
 use Rattle.world_mutex.proofs.of_machine.callers.AloneSeen.{solo_polls as lock_law}
-use Rattle.world_mutex.proofs.of_machine.callers.Callers.{out_unlisted, waiting_listed}
 use Rattle.world_mutex.proofs.of_machine.callers.Holders as sees
-use Rattle.sync_program.specs.declared.barrier.Aim.{Aim}
-use Rattle.sync_program.specs.declared.barrier.Aim.TheVariants as aim
-use Rattle.sync_program.specs.declared.barrier.Place.{Place}
-use Rattle.sync_program.specs.declared.barrier.Place.TheVariants.{EnterLock, WaitLock, Ask}
-use Rattle.sync_program.specs.declared.barrier.Position.{Position}
-use Rattle.sync_program.specs.declared.barrier.Position.TheVariants.{Out, Made, Locking, Waiting, At}
-use Rattle.world_barrier.specs.program.Program.{start_of}
-use Rattle.world_barrier.specs.machine.Roles.{fits_lock, in_lock, listed, follows}
-use Rattle.world_barrier.specs.machine.Waits.{wait_for, wait_at}
-use Rattle.world_barrier.specs.program.Words.{arrivals_at, IsFollower}
-use Rattle.world_barrier.specs.machine.Machine.{Barrier, IsBarrier, knows, goes_with, is_out, position_at, arrival_at}
-use Rattle.world_barrier.specs.State.{World, standing_of, wait_of, is_free, is_starved}
-use Rattle.world_barrier.specs.View.{view_of, verdict_in}
-use Rattle.world_barrier.specs.AtOnce.{entries_in, is_first_poll}
-use Rattle.world_barrier.specs.Changes.{wait_then}
-use Rattle.world_barrier.specs.Legal.{HasToWait}
-use Rattle.world_barrier.specs.Bound.{IsSolo, IsNotified, IsToldOfLock, Takes, SoloPoll}
-use Rattle.world_barrier.specs.Runs.{Runs}
-use Rattle.world_barrier.specs.Steps.{IsBarrierTable, Stands}
+use Rattle.world_barrier.specs.machine.Machine.{is_out}
+use Rattle.world_barrier.specs.Bound.{Takes}
 use Rattle.world_barrier.proofs.table.Seen.{wait_seen, standing_seen}
 use Rattle.world_barrier.proofs.whole.Served.{Came, IsSupplied, Serves, serves}
 use Rattle.world_barrier.proofs.whole.Locked.{GaveUp, Enters, Settles, asks, gets_at_once, Goes, Ends, begins}
@@ -70,16 +23,16 @@ none_at_all : (n : ℕ) → (n == 0) ≡ true → n ≡ 0
 none_at_all n h = grind (arith, nat_tests)
 
 -- Which calls a first poll may be, by how its party stands.
-idle_waits : (c : Call) (i : Inputs) (n : ℕ) → is_first_poll (outside rest.Idle) (Begin c i) n ≡ true → c ≡ call.Wait
-idle_waits call.Wait i n h = refl
+idle_waits : (c : Call) (i : Inputs) (n : ℕ) → is_first_poll (outside Rest.Idle) (Begin c i) n ≡ true → c ≡ Call.Wait
+idle_waits Call.Wait i n h = refl
 idle_waits _ i n h = absurd (cc h)
 
-finished_waits : (c : Call) (i : Inputs) (n : ℕ) → is_first_poll (outside rest.Finished) (Begin c i) n ≡ true → c ≡ call.Wait
-finished_waits call.Wait i n h = refl
+finished_waits : (c : Call) (i : Inputs) (n : ℕ) → is_first_poll (outside Rest.Finished) (Begin c i) n ≡ true → c ≡ Call.Wait
+finished_waits Call.Wait i n h = refl
 finished_waits _ i n h = absurd (cc h)
 
-pending_polls : (c : Call) (i : Inputs) (n : ℕ) → is_first_poll (outside rest.Pending) (Begin c i) n ≡ true → (c ≡ call.Poll) × ((n == 0) ≡ true)
-pending_polls call.Poll i n h = (refl, h)
+pending_polls : (c : Call) (i : Inputs) (n : ℕ) → is_first_poll (outside Rest.Pending) (Begin c i) n ≡ true → (c ≡ Call.Poll) × ((n == 0) ≡ true)
+pending_polls Call.Poll i n h = (refl, h)
 pending_polls _ i n h = absurd (cc h)
 
 module _ (t : Table Barrier) where
@@ -106,8 +59,8 @@ pub record Begins (t : Table Barrier) (p : ℕ) (c : Call) (i : Inputs) (from : 
   pub called : call_at knows stage (Begin c i) ≡ Some within
   pub first : polls_again stage (Begin c i) ≡ false
   pub starts : start_of c (position_at t.machine.positions p) ≡ Some (from its_aim)
-  pub follower : its_aim ≡ aim.Check → IsFollower t.machine.words.size (arrival_at t.machine.arrivals p)
-  pub wait : wait_then (Begin c i) answer.Stepped (wait_of (view_of t) p) ≡ wait_for its_aim (arrivals_at t.machine.words.size (arrival_at t.machine.arrivals p))
+  pub follower : its_aim ≡ Aim.Check → IsFollower t.machine.words.size (arrival_at t.machine.arrivals p)
+  pub wait : wait_then (Begin c i) Answer.Stepped (wait_of (view_of t) p) ≡ wait_for its_aim (arrivals_at t.machine.words.size (arrival_at t.machine.arrivals p))
 
 module _ (t : Table Barrier) (p : ℕ) (tl : IsBarrier t.machine) (tf : IsBarrierTable t) where
   abbrev here : Position
@@ -131,51 +84,51 @@ module _ (t : Table Barrier) (p : ℕ) (tl : IsBarrier t.machine) (tf : IsBarrie
   its_follower : (x : Position) → here ≡ x → follows x ≡ true → IsFollower t.machine.words.size (arrival_at t.machine.arrivals p)
   its_follower x e h = tl.followers p (ap follows e ∙ h)
 
-  aim_follows : (a : Aim) → here ≡ Made a → a ≡ aim.Check → IsFollower t.machine.words.size (arrival_at t.machine.arrivals p)
-  aim_follows aim.Check e is = its_follower (Made aim.Check) e refl
-  aim_follows aim.Arrive e is = absurd (cc is)
+  aim_follows : (a : Aim) → here ≡ Made a → a ≡ Aim.Check → IsFollower t.machine.words.size (arrival_at t.machine.arrivals p)
+  aim_follows Aim.Check e is = its_follower (Made Aim.Check) e refl
+  aim_follows Aim.Arrive e is = absurd (cc is)
 
-  waits_follow : (a : Aim) → here ≡ Locking a → a ≡ aim.Check → IsFollower t.machine.words.size (arrival_at t.machine.arrivals p)
-  waits_follow aim.Check e is = its_follower (Locking aim.Check) e refl
-  waits_follow aim.Arrive e is = absurd (cc is)
+  waits_follow : (a : Aim) → here ≡ Locking a → a ≡ Aim.Check → IsFollower t.machine.words.size (arrival_at t.machine.arrivals p)
+  waits_follow Aim.Check e is = its_follower (Locking Aim.Check) e refl
+  waits_follow Aim.Arrive e is = absurd (cc is)
 
   wait_here : (x : Position) → here ≡ x → wait_of (view_of t) p ≡ wait_at x number
   wait_here x e = wait_seen t p ∙ ap (λ z. wait_at z number) e
 
   module _ (i : Inputs) where
-    from_out : (r : Rest) (w : Within) → stage_at t.stages p ≡ Outside r → call_at knows (Outside r) (Begin call.Wait i) ≡ Some w → polls_again (Outside r) (Begin call.Wait i) ≡ false → here ≡ Out → Begins t p call.Wait i EnterLock
-    from_out r w at called first out = record { stage = Outside r; within = w; its_aim = aim.Arrive; at = at; called = called; first = first; starts = ap (start_of call.Wait) out; follower = λ e. absurd (cc e); wait = refl }
+    from_out : (r : Rest) (w : Within) → stage_at t.stages p ≡ Outside r → call_at knows (Outside r) (Begin Call.Wait i) ≡ Some w → polls_again (Outside r) (Begin Call.Wait i) ≡ false → here ≡ Out → Begins t p Call.Wait i EnterLock
+    from_out r w at called first out = record { stage = Outside r; within = w; its_aim = Aim.Arrive; at = at; called = called; first = first; starts = ap (start_of Call.Wait) out; follower = λ e. absurd (cc e); wait = refl }
 
     is_out_here : (x : Position) → is_out x ≡ true → x ≡ Out
     is_out_here Out h = refl
     is_out_here _ h = absurd (cc h)
 
-    from_made : (x : Position) → here ≡ x → stage_at t.stages p ≡ Outside rest.Pending → goes_with (Outside rest.Pending) x ≡ true → entries_of p t.machine.lock.entries + entries_of p t.machine.entries ≡ 0 → Begins t p call.Poll i EnterLock
-    from_made (Made a) e at fits none = record { stage = Outside rest.Pending; within = record { kind = kind.LaterPoll; was = rest.Pending }; its_aim = a; at = at; called = refl; first = refl; starts = ap (start_of call.Poll) e; follower = aim_follows a e; wait = wait_here (Made a) e }
+    from_made : (x : Position) → here ≡ x → stage_at t.stages p ≡ Outside Rest.Pending → goes_with (Outside Rest.Pending) x ≡ true → entries_of p t.machine.lock.entries + entries_of p t.machine.entries ≡ 0 → Begins t p Call.Poll i EnterLock
+    from_made (Made a) e at fits none = record { stage = Outside Rest.Pending; within = record { kind = Kind.LaterPoll; was = Rest.Pending }; its_aim = a; at = at; called = refl; first = refl; starts = ap (start_of Call.Poll) e; follower = aim_follows a e; wait = wait_here (Made a) e }
     from_made (Locking a) e at fits none = let one = waiting_listed (course_at t.machine.lock.courses p) (linked (Locking a) e) in let there = tl.lock.owners p in absurd (omega (arith, one, there, none))
     from_made Waiting e at fits none = let there : entries_of p t.machine.entries ≡ 1 = tl.owners p ∙ ap listed e in absurd (omega (arith, there, none))
     from_made Out e at fits none = absurd (cc fits)
     from_made (At z) e at fits none = absurd (cc fits)
 
     pub first_from : (c : Call) (s : Stage) → stage_at t.stages p ≡ s → is_first_poll (stands_as (verdict_in t.machine p) s) (Begin c i) (entries_in (view_of t) p) ≡ true → Begins t p c i EnterLock
-    first_from c (Outside rest.Idle) at h = subst (λ z. Begins t p z i EnterLock) (sym (idle_waits c i (entries_in (view_of t) p) h)) (from_out rest.Idle _ at refl refl (is_out_here here (stands_at rest.Idle at)))
-    first_from c (Outside rest.Finished) at h = subst (λ z. Begins t p z i EnterLock) (sym (finished_waits c i (entries_in (view_of t) p) h)) (from_out rest.Finished _ at refl refl (is_out_here here (stands_at rest.Finished at)))
-    first_from c (Outside rest.Pending) at h = let polls = pending_polls c i (entries_in (view_of t) p) h in subst (λ z. Begins t p z i EnterLock) (sym polls.0) (from_made here refl at (stands_at rest.Pending at) (none_at_all (entries_in (view_of t) p) polls.1))
-    first_from _ (Outside rest.Holding) at h = absurd (cc h)
+    first_from c (Outside Rest.Idle) at h = subst (λ z. Begins t p z i EnterLock) (sym (idle_waits c i (entries_in (view_of t) p) h)) (from_out Rest.Idle _ at refl refl (is_out_here here (stands_at Rest.Idle at)))
+    first_from c (Outside Rest.Finished) at h = subst (λ z. Begins t p z i EnterLock) (sym (finished_waits c i (entries_in (view_of t) p) h)) (from_out Rest.Finished _ at refl refl (is_out_here here (stands_at Rest.Finished at)))
+    first_from c (Outside Rest.Pending) at h = let polls = pending_polls c i (entries_in (view_of t) p) h in subst (λ z. Begins t p z i EnterLock) (sym polls.0) (from_made here refl at (stands_at Rest.Pending at) (none_at_all (entries_in (view_of t) p) polls.1))
+    first_from _ (Outside Rest.Holding) at h = absurd (cc h)
     first_from _ (Inside w) at h = absurd (cc h)
     first_from _ Forgotten at h = absurd (cc h)
 
     -- of a party that was notified in its generation's list
-    from_listed : (x : Position) → here ≡ x → stage_at t.stages p ≡ Outside rest.Pending → goes_with (Outside rest.Pending) x ≡ true → 0 < entries_of p t.machine.entries → (k : Begins t p call.Poll i (λ _. Ask)) × (k.its_aim ≡ aim.Check)
-    from_listed Waiting e at fits some = (record { stage = Outside rest.Pending; within = record { kind = kind.LaterPoll; was = rest.Pending }; its_aim = aim.Check; at = at; called = refl; first = refl; starts = ap (start_of call.Poll) e; follower = λ _. its_follower Waiting e refl; wait = wait_here Waiting e }, refl)
+    from_listed : (x : Position) → here ≡ x → stage_at t.stages p ≡ Outside Rest.Pending → goes_with (Outside Rest.Pending) x ≡ true → 0 < entries_of p t.machine.entries → (k : Begins t p Call.Poll i (λ _. Ask)) × (k.its_aim ≡ Aim.Check)
+    from_listed Waiting e at fits some = (record { stage = Outside Rest.Pending; within = record { kind = Kind.LaterPoll; was = Rest.Pending }; its_aim = Aim.Check; at = at; called = refl; first = refl; starts = ap (start_of Call.Poll) e; follower = λ _. its_follower Waiting e refl; wait = wait_here Waiting e }, refl)
     from_listed (Made a) e at fits some = let there : entries_of p t.machine.entries ≡ 0 = tl.owners p ∙ ap listed e in absurd (omega (arith, there, some))
     from_listed (Locking a) e at fits some = let there : entries_of p t.machine.entries ≡ 0 = tl.owners p ∙ ap listed e in absurd (omega (arith, there, some))
     from_listed Out e at fits some = absurd (cc fits)
     from_listed (At z) e at fits some = absurd (cc fits)
 
     -- of one that waits for the inner lock
-    pub from_waiting : (x : Position) → here ≡ x → stage_at t.stages p ≡ Outside rest.Pending → goes_with (Outside rest.Pending) x ≡ true → 0 < entries_of p t.machine.lock.entries → (k : Begins t p call.Poll i WaitLock) × (here ≡ Locking k.its_aim) × (is_waiting (course_at t.machine.lock.courses p) ≡ true)
-    from_waiting (Locking a) e at fits some = (record { stage = Outside rest.Pending; within = record { kind = kind.LaterPoll; was = rest.Pending }; its_aim = a; at = at; called = refl; first = refl; starts = ap (start_of call.Poll) e; follower = waits_follow a e; wait = wait_here (Locking a) e }, e, linked (Locking a) e)
+    pub from_waiting : (x : Position) → here ≡ x → stage_at t.stages p ≡ Outside Rest.Pending → goes_with (Outside Rest.Pending) x ≡ true → 0 < entries_of p t.machine.lock.entries → (k : Begins t p Call.Poll i WaitLock) × (here ≡ Locking k.its_aim) × (is_waiting (course_at t.machine.lock.courses p) ≡ true)
+    from_waiting (Locking a) e at fits some = (record { stage = Outside Rest.Pending; within = record { kind = Kind.LaterPoll; was = Rest.Pending }; its_aim = a; at = at; called = refl; first = refl; starts = ap (start_of Call.Poll) e; follower = waits_follow a e; wait = wait_here (Locking a) e }, e, linked (Locking a) e)
     from_waiting (Made a) e at fits some = let there = tl.lock.owners p in let none = out_unlisted (course_at t.machine.lock.courses p) (linked (Made a) e) in absurd (omega (arith, there, none, some))
     from_waiting Waiting e at fits some = let there = tl.lock.owners p in let none = out_unlisted (course_at t.machine.lock.courses p) (linked Waiting e) in absurd (omega (arith, there, none, some))
     from_waiting Out e at fits some = absurd (cc fits)
@@ -183,7 +136,7 @@ module _ (t : Table Barrier) (p : ℕ) (tl : IsBarrier t.machine) (tf : IsBarrie
 
 -- ---- what it comes to
 
-module _ (known : ℕ → Account) (w : World) (p : ℕ) (i : Inputs) (n : ℕ) (a : Answer) (v : World) (stood : Stands w) (stands : Stands v) (ended : a ≢ answer.Stepped) where
+module _ (known : ℕ → Account) (w : World) (p : ℕ) (i : Inputs) (n : ℕ) (a : Answer) (v : World) (stood : Stands w) (stands : Stands v) (ended : a ≢ Answer.Stepped) where
   abbrev t : Table Barrier
   t = w.behind
 
@@ -197,13 +150,13 @@ module _ (known : ℕ → Account) (w : World) (p : ℕ) (i : Inputs) (n : ℕ) 
   first_comes c runs k memory free unstarved = (whole t p i (Serves p k.its_aim s) (Came p k.its_aim s) (serves_inside p k.its_aim s) (λ x y from f laws later here so step. serves p k.its_aim s i memory x y laws from f here so step)
       known w c n a v k.stage k.within (EnterLock k.its_aim) refl k.at k.called k.first k.starts (λ f y laws step. gets_at_once p k.its_aim s i f s y free unstarved (refl, refl) step) runs ended).ended
 
-  notified_comes : IsRun call.Poll → (k : Begins t p call.Poll i (λ _. Ask)) → IsSupplied p k.its_aim s i → k.its_aim ≡ aim.Check → is_marked_at (is_party p) s.entries ≡ true → holders s.lock ≡ 0 → starved s.lock ≡ 0 → Came p k.its_aim s a (position_at v.behind.machine.positions p) v.behind.machine
+  notified_comes : IsRun Call.Poll → (k : Begins t p Call.Poll i (λ _. Ask)) → IsSupplied p k.its_aim s i → k.its_aim ≡ Aim.Check → is_marked_at (is_party p) s.entries ≡ true → holders s.lock ≡ 0 → starved s.lock ≡ 0 → Came p k.its_aim s a (position_at v.behind.machine.positions p) v.behind.machine
   notified_comes runs k memory checks marked free unstarved = (whole t p i (Enters p k.its_aim s) (Came p k.its_aim s) (enters_inside p k.its_aim s) (λ x y from f laws later here so step. enters_on p k.its_aim s i memory x y from f laws later here so step)
-      known w call.Poll n a v k.stage k.within Ask refl k.at k.called k.first k.starts (λ f y laws step. asks p k.its_aim s i f y marked free unstarved checks step) runs ended).ended
+      known w Call.Poll n a v k.stage k.within Ask refl k.at k.called k.first k.starts (λ f y laws step. asks p k.its_aim s i f y marked free unstarved checks step) runs ended).ended
 
-  lock_comes : IsRun call.Poll → (k : Begins t p call.Poll i WaitLock) → IsSupplied p k.its_aim s i → Settles p k.its_aim s i.memory → EndsAt t p i (Goes p k.its_aim s i.memory) (Ends p k.its_aim s i.memory) a v
+  lock_comes : IsRun Call.Poll → (k : Begins t p Call.Poll i WaitLock) → IsSupplied p k.its_aim s i → Settles p k.its_aim s i.memory → EndsAt t p i (Goes p k.its_aim s i.memory) (Ends p k.its_aim s i.memory) a v
   lock_comes runs k memory settles = whole t p i (Goes p k.its_aim s i.memory) (Ends p k.its_aim s i.memory) (goes_inside p k.its_aim s i.memory) (λ x y from f laws later here so step. takes_on p k.its_aim s i memory x y settles from f laws later here so step)
-      known w call.Poll n a v k.stage k.within (WaitLock k.its_aim) refl k.at k.called k.first k.starts (λ f y laws step. begins p k.its_aim s i settles y f step) runs ended
+      known w Call.Poll n a v k.stage k.within (WaitLock k.its_aim) refl k.at k.called k.first k.starts (λ f y laws step. begins p k.its_aim s i settles y f step) runs ended
 
   -- as callers see it
   as_seen : (P : World → World → Type 0) → P (view_of t) (view_of v.behind) → P w v
@@ -213,26 +166,26 @@ module _ (known : ℕ → Account) (w : World) (p : ℕ) (i : Inputs) (n : ℕ) 
   supplied : (c : Call) (from : Aim → Place) (k : Begins t p c i from) → (HasToWait (view_of t) (wait_for k.its_aim (arrivals_at s.words.size (arrival_at s.arrivals p))) → i.memory ≡ true) → IsSupplied p k.its_aim s i
   supplied c from k memory must = memory (has_to_wait p k.its_aim t v.behind a stood.barrier stands.barrier k.follower must)
 
-  pub first : (c : Call) → IsRun c → is_first_poll (standing_of w p) (Begin c i) (entries_in w p) ≡ true → is_free w.lock ≡ true → (HasToWait w (wait_then (Begin c i) answer.Stepped (wait_of w p)) → i.memory ≡ true) → Takes w p (wait_then (Begin c i) answer.Stepped (wait_of w p)) a v
+  pub first : (c : Call) → IsRun c → is_first_poll (standing_of w p) (Begin c i) (entries_in w p) ≡ true → is_free w.lock ≡ true → (HasToWait w (wait_then (Begin c i) Answer.Stepped (wait_of w p)) → i.memory ≡ true) → Takes w p (wait_then (Begin c i) Answer.Stepped (wait_of w p)) a v
   first c runs is free memory =
       let is' = subst (λ x. is_first_poll (standing_of x p) (Begin c i) (entries_in x p) ≡ true) stood.seen is in
       let is'' = subst (λ z. is_first_poll z (Begin c i) (entries_in (view_of t) p) ≡ true) (standing_seen t p) is' in
       let free' = free_there t (subst (λ x. is_free x.lock ≡ true) stood.seen free) in
       let k = first_from t p stood.barrier stood.fits i c (stage_at t.stages p) refl is'' in
-      let memory' = subst (λ x. HasToWait x (wait_then (Begin c i) answer.Stepped (wait_of x p)) → i.memory ≡ true) stood.seen memory in
+      let memory' = subst (λ x. HasToWait x (wait_then (Begin c i) Answer.Stepped (wait_of x p)) → i.memory ≡ true) stood.seen memory in
       let some = supplied c EnterLock k (subst (λ z. HasToWait (view_of t) z → i.memory ≡ true) k.wait memory') in
-      as_seen (λ x y. Takes x p (wait_then (Begin c i) answer.Stepped (wait_of x p)) a y)
+      as_seen (λ x y. Takes x p (wait_then (Begin c i) Answer.Stepped (wait_of x p)) a y)
       (subst (λ z. Takes (view_of t) p z a (view_of v.behind)) (sym k.wait) (takes_seen p k.its_aim t v.behind a stood.barrier stands.barrier k.follower (first_comes c runs k some free'.0 free'.1)))
 
-  module _ (runs : IsRun call.Poll) where
+  module _ (runs : IsRun Call.Poll) where
     pub notified : IsNotified w p i → is_free w.lock ≡ true → Takes w p (wait_of w p) a v
     notified solo free =
         let solo' = subst (λ x. IsNotified x p i) stood.seen solo in
         let free' = free_there t (subst (λ x. is_free x.lock ≡ true) stood.seen free) in
-        let at = at_rest_there t p stood.barrier stood.fits rest.Pending solo'.pending in
-        let found = from_listed t p stood.barrier stood.fits i (position_at s.positions p) refl at (stands_at t p stood.barrier stood.fits rest.Pending at) (marked_listed p s.entries solo'.marked) in
+        let at = at_rest_there t p stood.barrier stood.fits Rest.Pending solo'.pending in
+        let found = from_listed t p stood.barrier stood.fits i (position_at s.positions p) refl at (stands_at t p stood.barrier stood.fits Rest.Pending at) (marked_listed p s.entries solo'.marked) in
         let k = found.0 in
-        let some = supplied call.Poll (λ _. Ask) k (subst (λ z. HasToWait (view_of t) z → i.memory ≡ true) k.wait solo'.memory) in
+        let some = supplied Call.Poll (λ _. Ask) k (subst (λ z. HasToWait (view_of t) z → i.memory ≡ true) k.wait solo'.memory) in
         as_seen (λ x y. Takes x p (wait_of x p) a y)
         (subst (λ z. Takes (view_of t) p z a (view_of v.behind)) (sym k.wait) (takes_seen p k.its_aim t v.behind a stood.barrier stands.barrier k.follower (notified_comes runs k some found.1 solo'.marked free'.0 free'.1)))
 
@@ -240,21 +193,21 @@ module _ (known : ℕ → Account) (w : World) (p : ℕ) (i : Inputs) (n : ℕ) 
     why_seen (inl starving) = inl (sym (sees.counted_bit (course_at s.lock.courses p)) ∙ ap bit (sym (sees.starved_at s.lock.courses p) ∙ starving))
     why_seen (inr none) = inr (nobody_starved t none)
 
-    takes_back : (e : LockEnd) → e ≡ lock_end.Got → StandsBack p s.lock e v.behind.machine.lock → ⊥
-    takes_back lock_end.Got is back = back
+    takes_back : (e : LockEnd) → e ≡ LockEnd.Got → StandsBack p s.lock e v.behind.machine.lock → ⊥
+    takes_back LockEnd.Got is back = back
     takes_back _ is back = absurd (cc is)
 
     -- a poll that has had the inner lock
-    came_seen : (k : Begins t p call.Poll i WaitLock) → Came p k.its_aim s a (position_at v.behind.machine.positions p) v.behind.machine → Takes (view_of t) p (wait_of (view_of t) p) a (view_of v.behind)
+    came_seen : (k : Begins t p Call.Poll i WaitLock) → Came p k.its_aim s a (position_at v.behind.machine.positions p) v.behind.machine → Takes (view_of t) p (wait_of (view_of t) p) a (view_of v.behind)
     came_seen k came = subst (λ z. Takes (view_of t) p z a (view_of v.behind)) (sym k.wait) (takes_seen p k.its_aim t v.behind a stood.barrier stands.barrier k.follower came)
 
     -- it has had it, where it is starved or nobody is
-    must_come : (k : Begins t p call.Poll i WaitLock) → (law : SoloPolls s.lock) → IsCalled s.lock p → (is_starved (view_of t).lock p ≡ true) ⊎ (how_many (view_of t).lock.starved ≡ 0)
+    must_come : (k : Begins t p Call.Poll i WaitLock) → (law : SoloPolls s.lock) → IsCalled s.lock p → (is_starved (view_of t).lock p ≡ true) ⊎ (how_many (view_of t).lock.starved ≡ 0)
         → Came p k.its_aim s a (position_at v.behind.machine.positions p) v.behind.machine ⊎ GaveUp p k.its_aim s i.memory a (position_at v.behind.machine.positions p) v.behind.machine → Takes (view_of t) p (wait_of (view_of t) p) a (view_of v.behind)
     must_come k law called why (inl came) = came_seen k came
     must_come k law called why (inr gave) = absurd (takes_back gave.to (law.takes i.memory p gave.to v.behind.machine.lock called (why_seen why) gave.polls).0 gave.gave.stands_back)
 
-    solo_by : (k : Begins t p call.Poll i WaitLock) → position_at s.positions p ≡ Locking k.its_aim → (law : SoloPolls s.lock) → IsCalled s.lock p → 0 < entries_of p s.lock.entries → EndsAt t p i (Goes p k.its_aim s i.memory) (Ends p k.its_aim s i.memory) a v
+    solo_by : (k : Begins t p Call.Poll i WaitLock) → position_at s.positions p ≡ Locking k.its_aim → (law : SoloPolls s.lock) → IsCalled s.lock p → 0 < entries_of p s.lock.entries → EndsAt t p i (Goes p k.its_aim s i.memory) (Ends p k.its_aim s i.memory) a v
         → Came p k.its_aim s a (position_at v.behind.machine.positions p) v.behind.machine ⊎ GaveUp p k.its_aim s i.memory a (position_at v.behind.machine.positions p) v.behind.machine → SoloPoll (view_of t) p a (view_of v.behind)
     solo_by k here law called there end (inl came) = record { takes_or_gives_way = λ below. inl (came_seen k came); takes = λ why. came_seen k came }
     solo_by k here law called there end (inr gave) = record {
@@ -266,9 +219,9 @@ module _ (known : ℕ → Account) (w : World) (p : ℕ) (i : Inputs) (n : ℕ) 
     solo polls free =
         let solo' = subst (λ x. IsSolo x p i) stood.seen polls in
         let free' = nobody_holds t (subst (λ x. x.lock.holder ≡ None) stood.seen free) in
-        let at = at_rest_there t p stood.barrier stood.fits rest.Pending solo'.pending in
+        let at = at_rest_there t p stood.barrier stood.fits Rest.Pending solo'.pending in
         let there = marked_listed p s.lock.entries solo'.marked in
-        let found = from_waiting t p stood.barrier stood.fits i (position_at s.positions p) refl at (stands_at t p stood.barrier stood.fits rest.Pending at) there in
+        let found = from_waiting t p stood.barrier stood.fits i (position_at s.positions p) refl at (stands_at t p stood.barrier stood.fits Rest.Pending at) there in
         let law = lock_law s.lock stood.barrier.lock free' in
         let called : IsCalled s.lock p = (found.2, solo'.marked) in
         let M : LockEnd → Mutex → Bool → Type 0 = λ e new m. PollsAlone m p e new s.lock in
@@ -281,12 +234,12 @@ module _ (known : ℕ → Account) (w : World) (p : ℕ) (i : Inputs) (n : ℕ) 
         let told' = subst (λ x. IsToldOfLock x p i) stood.seen polls in
         let free' = nobody_holds t (subst (λ x. x.lock.holder ≡ None) stood.seen free) in
         let why' = subst (λ x. (is_starved x.lock p ≡ true) ⊎ (how_many x.lock.starved ≡ 0)) stood.seen why in
-        let at = at_rest_there t p stood.barrier stood.fits rest.Pending told'.pending in
+        let at = at_rest_there t p stood.barrier stood.fits Rest.Pending told'.pending in
         let there = marked_listed p s.lock.entries told'.marked in
-        let found = from_waiting t p stood.barrier stood.fits i (position_at s.positions p) refl at (stands_at t p stood.barrier stood.fits rest.Pending at) there in
+        let found = from_waiting t p stood.barrier stood.fits i (position_at s.positions p) refl at (stands_at t p stood.barrier stood.fits Rest.Pending at) there in
         let k = found.0 in
         let law = lock_law s.lock stood.barrier.lock free' in
         let called : IsCalled s.lock p = (found.2, told'.marked) in
-        let some = supplied call.Poll WaitLock k (subst (λ z. HasToWait (view_of t) z → i.memory ≡ true) k.wait told'.memory) in
+        let some = supplied Call.Poll WaitLock k (subst (λ z. HasToWait (view_of t) z → i.memory ≡ true) k.wait told'.memory) in
         let end = lock_comes runs k some (λ e new polls. inl (law.takes i.memory p e new called (why_seen why') polls)) in
         as_seen (λ x y. Takes x p (wait_of x p) a y) (must_come k law called why' end.ended)

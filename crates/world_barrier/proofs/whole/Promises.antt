@@ -1,41 +1,11 @@
 -- What a whole call of a barrier promises beside its end.
-use Rattle.std.proofs.Common.{◌≡◌, ◌≢◌, ℕ, true, false, Some, sym, ap, ◌∙◌, subst}
-use Rattle.world_base.specs.declared.moves.Answer.{Answer}
-use Rattle.world_base.specs.declared.moves.Answer.TheVariants as answer
-use Rattle.world_base.specs.declared.moves.Call.{Call}
-use Rattle.world_base.specs.declared.moves.Call.TheVariants as call
-use Rattle.world_base.specs.declared.moves.Inputs.{Inputs}
-use Rattle.world_base.specs.declared.moves.What.{What}
-use Rattle.world_base.specs.declared.moves.What.TheVariants.{Begin, Go}
-use Rattle.world_base.specs.declared.standing.Rest.TheVariants as rest
-use Rattle.world_base.specs.declared.standing.Within.{Within}
-use Rattle.world_base.specs.Accounts.{Account, accounts_after}
-use Rattle.world_base.specs.Rosters.{how_many}
-use Rattle.world_base.specs.Standings.{inputs_of}
-use Rattle.world_base.specs.Whole.{going_on, moves_of, answers_of}
-use Rattle.world_base.proofs.Equations.{none_some}
-use Rattle.world_base.specs.any_world.Steps.{beginning}
-use Rattle.world_base.proofs.of_any_world.Runs.{Onward, along}
-use Rattle.world_base.specs.table.Tables.{Table, Acted}
-use Rattle.world_base.proofs.of_table.Ways.{onward}
-use Rattle.world_mutex.specs.machine.Course.{is_counting}
-use Rattle.world_mutex.specs.machine.Mutex.{course_at, starved}
+use Rattle.world_barrier.proofs.Prelude.{◌≡◌, ◌≢◌, ℕ, true, false, Some, sym, ap, ◌∙◌, subst, Answer, Call, Inputs, What, Begin, Go, Rest, Within, Account, accounts_after, how_many, inputs_of, going_on, moves_of, answers_of, none_some, beginning, Onward, along, Table, Acted, onward, is_counting, course_at, starved, action_of, Barrier, Moves, position_at, World, is_starved, Promises, Runs, HoldsWell, Stands, Steps, Bool, Option, None, refl, Move, Standing, outside, inside, forgotten, is_outside, is_decided, is_possible, call_in, knows, standing_of}
 use Rattle.world_mutex.proofs.of_machine.callers.Holders as sees
-use Rattle.world_barrier.specs.program.Program.{action_of}
-use Rattle.world_barrier.specs.machine.Machine.{Barrier, Moves, position_at}
-use Rattle.world_barrier.specs.State.{World, is_starved}
-use Rattle.world_barrier.specs.Bound.{Promises}
-use Rattle.world_barrier.specs.Runs.{Runs, HoldsWell}
-use Rattle.world_barrier.specs.Steps.{Stands, Steps}
 use Rattle.world_barrier.proofs.whole.Alone.{known_calls}
 use Rattle.world_barrier.proofs.whole.Handing.{hands_on}
 use Rattle.world_barrier.proofs.whole.Polls.{nobody_starved, first, notified, told, solo}
-use Rattle.std.proofs.Common.{Bool, Option, None, refl}
-use Rattle.world_base.specs.declared.moves.Move.{Move}
-use Rattle.world_base.specs.Standings.{Standing, outside, inside, forgotten, is_outside, is_decided, is_possible, decision, call_in}
+use Rattle.world_base.specs.Standings.{decision}
 use Rattle.world_base.proofs.of_any_world.Endings.{ends_outside as outside_at_end}
-use Rattle.world_barrier.specs.machine.Machine.{knows}
-use Rattle.world_barrier.specs.State.{standing_of}
 use Rattle.world_barrier.proofs.whole.Ring.{counts_none, begins_uncounted, tells_nobody_at_end}
 use Rattle.world_barrier.proofs.whole.Patient.{starved_refusal, Undone, decided_inside, midway, never, goes_on}
 
@@ -54,15 +24,15 @@ module _ (p : ℕ) (i : Inputs) (patient : i.starving ≡ false) where
   of_world : (a : Answer) (v : World) → Onward Unstarving (λ b y. Unstarved y) a v.behind → Left a v
   of_world a v o = record { going = o.going; ended = o.ended }
 
-  acted_unstarved : (t u : Table Barrier) (what : What) (a : Answer) (w : Within) → (inputs_of what).starving ≡ false → (k : Acted known_calls rest.Finished Moves w t (record { party = p; what = what }) a u) → Unstarved t → is_counting (course_at t.machine.lock.courses p) ≡ false → Onward Unstarving (λ b y. Unstarved y) a u
+  acted_unstarved : (t u : Table Barrier) (what : What) (a : Answer) (w : Within) → (inputs_of what).starving ≡ false → (k : Acted known_calls Rest.Finished Moves w t (record { party = p; what = what }) a u) → Unstarved t → is_counting (course_at t.machine.lock.courses p) ≡ false → Onward Unstarving (λ b y. Unstarved y) a u
   acted_unstarved t u what a w quiet k none not_next =
       let it = counts_none (inputs_of what) p (action_of k.acts.from) k.acts.found t.machine.lock u.machine.lock quiet k.acts.acts.lock none not_next in
       record { going = λ e. it; ended = λ e. it.0 }
 
   steps_unstarved : (x : World) (what : What) (a : Answer) (v : World) → (inputs_of what).starving ≡ false → Unstarved x.behind
-      → ((w : Within) → Acted known_calls rest.Finished Moves w x.behind (record { party = p; what = what }) a v.behind → is_counting (course_at x.behind.machine.lock.courses p) ≡ false) → Steps x (record { party = p; what = what }) a v → Left a v
+      → ((w : Within) → Acted known_calls Rest.Finished Moves w x.behind (record { party = p; what = what }) a v.behind → is_counting (course_at x.behind.machine.lock.courses p) ≡ false) → Steps x (record { party = p; what = what }) a v → Left a v
   steps_unstarved x what a v quiet none not_next s = of_world a v
-      (onward known_calls rest.Finished Moves x.behind v.behind (record { party = p; what = what }) a Unstarving (λ b y. Unstarved y) (λ y. y) none none
+      (onward known_calls Rest.Finished Moves x.behind v.behind (record { party = p; what = what }) a Unstarving (λ b y. Unstarved y) (λ y. y) none none
       (λ w e f k. acted_unstarved x.behind v.behind what a w quiet k none (not_next w k)) s.did.step)
 
   goes_unstarved : (x : World) (a : Answer) (v : World) → Unstarving x.behind → Steps x (going_on p i) a v → Left a v
@@ -81,8 +51,8 @@ outside_says (inside u d) a h = absurd (cc h)
 inside_begins : (knows : Call → Bool) (u : Within) (d : Option Answer) (s : Standing) (c : Call) (i : Inputs) → s ≡ inside u d → call_in knows s (Begin c i) ≡ None
 inside_begins knows u d s c i e = ap (λ z. call_in knows z (Begin c i)) e
 
-ends_outside : (x : World) (m : Move) (a : Answer) (v : World) → Steps x m a v → a ≢ answer.Stepped → is_possible a ≡ true → is_outside (standing_of v m.party) ≡ true
-ends_outside x m a v s = outside_at_end standing_of (λ w p. knows) rest.Finished x m a v s.legal.possible s.legal.ends_properly
+ends_outside : (x : World) (m : Move) (a : Answer) (v : World) → Steps x m a v → a ≢ Answer.Stepped → is_possible a ≡ true → is_outside (standing_of v m.party) ≡ true
+ends_outside x m a v s = outside_at_end standing_of (λ w p. knows) Rest.Finished x m a v s.legal.possible s.legal.ends_properly
 
 module _ (p : ℕ) (i : Inputs) (patient : i.starving ≡ false) where
   abbrev Unrefused : Answer → World → Type 0
@@ -91,7 +61,7 @@ module _ (p : ℕ) (i : Inputs) (patient : i.starving ≡ false) where
   abbrev Goes : World → Type 0
   Goes y = Unstarving p i patient y.behind × Undone p y
 
-  said : (x v : World) (m : Move) (a : Answer) → m.party ≡ p → Steps x m a v → (decision a (standing_of v p) ≡ Some starved_refusal → ⊥) → a ≢ answer.Stepped → Unrefused a v
+  said : (x v : World) (m : Move) (a : Answer) → m.party ≡ p → Steps x m a v → (decision a (standing_of v p) ≡ Some starved_refusal → ⊥) → a ≢ Answer.Stepped → Unrefused a v
   said x v m a is s f ends e =
       let out : is_outside (standing_of v p) ≡ true = subst (λ (q : ℕ). is_outside (standing_of v q) ≡ true) is (ends_outside x m a v s ends (ap is_possible e)) in
       f (outside_says (standing_of v p) a out ∙ ap Some e)
@@ -106,7 +76,7 @@ module _ (p : ℕ) (i : Inputs) (patient : i.starving ≡ false) where
   first_never : (c : Call) (x : World) (a : Answer) (v : World) → Steps x (beginning p c i) a v → is_decided (standing_of x p) ≡ false → decision a (standing_of v p) ≡ Some starved_refusal → ⊥
   first_never c x a v s fresh d =
       let at = midway x v (beginning p c i) a s (fresh, d) in
-      let never_can : a ≡ answer.NotPossible = s.legal.possible.exactly.1 (inside_begins knows at.0 None (standing_of x p) c i at.1) in
+      let never_can : a ≡ Answer.NotPossible = s.legal.possible.exactly.1 (inside_begins knows at.0 None (standing_of x p) c i at.1) in
       let stays : standing_of v p ≡ inside at.0 None = ap (λ z. standing_of z p) (s.legal.possible.unchanged never_can) ∙ at.1 in
       none_some (sym (ap (decision a) stays) ∙ d)
 
@@ -115,7 +85,7 @@ module _ (p : ℕ) (i : Inputs) (patient : i.starving ≡ false) where
     by_decided : (b : Bool) → is_decided (standing_of x p) ≡ b → Onward Goes Unrefused a v
     by_decided true is =
         let at = decided_inside (standing_of x p) is in
-        let never_can : a ≡ answer.NotPossible = s.legal.possible.exactly.1 (inside_begins knows at.0 (Some at.1) (standing_of x p) c i at.2) in
+        let never_can : a ≡ Answer.NotPossible = s.legal.possible.exactly.1 (inside_begins knows at.0 (Some at.1) (standing_of x p) c i at.2) in
         record { going = λ e. (let z = sym never_can ∙ e in absurd (cc z)); ended = λ ends e. (let z = sym never_can ∙ e in cc z) }
     by_decided false is =
         let o = first_unstarved p i patient c x none a v s in
@@ -127,7 +97,7 @@ not_counted w p s none = ap (λ x. is_starved x.lock p) s.seen ∙ sees.none_sta
 
 -- ---- the promises
 
-module _ (known : ℕ → Account) (w : World) (p : ℕ) (c : Call) (i : Inputs) (n : ℕ) (a : Answer) (v : World) (stood : Stands w) (stands : Stands v) (ended : a ≢ answer.Stepped) (runs : Runs known w (moves_of p c i n) (answers_of n a) v) where
+module _ (known : ℕ → Account) (w : World) (p : ℕ) (c : Call) (i : Inputs) (n : ℕ) (a : Answer) (v : World) (stood : Stands w) (stands : Stands v) (ended : a ≢ Answer.Stepped) (runs : Runs known w (moves_of p c i n) (answers_of n a) v) where
   unstarved : i.starving ≡ false → how_many w.lock.starved ≡ 0 → is_starved v.lock p ≡ false
   unstarved patient none =
       let zero : starved w.behind.machine.lock ≡ 0 = nobody_starved w.behind (subst (λ x. how_many x.lock.starved ≡ 0) stood.seen none) in
@@ -138,7 +108,7 @@ module _ (known : ℕ → Account) (w : World) (p : ℕ) (c : Call) (i : Inputs)
       let zero : starved w.behind.machine.lock ≡ 0 = nobody_starved w.behind (subst (λ x. how_many x.lock.starved ≡ 0) stood.seen none) in
       along Steps accounts_after HoldsWell p i (Goes p i patient) (Unrefused p i patient) (on_patient p i patient) known n w (beginning p c i) a v (first_patient p i patient c w zero) ended runs
 
-  as_poll : c ≡ call.Poll → Runs known w (moves_of p call.Poll i n) (answers_of n a) v
+  as_poll : c ≡ Call.Poll → Runs known w (moves_of p Call.Poll i n) (answers_of n a) v
   as_poll is = let R : Call → Type 0 = λ x. Runs known w (moves_of p x i n) (answers_of n a) v in subst R is runs
 
   kept : Promises w p c i a v
@@ -154,9 +124,9 @@ module _ (known : ℕ → Account) (w : World) (p : ℕ) (c : Call) (i : Inputs)
   }
 
 -- both Worlds stand as they are seen
-both_stand : (known : ℕ → Account) (w : World) (p : ℕ) (c : Call) (i : Inputs) (n : ℕ) (a : Answer) (v : World) → a ≢ answer.Stepped → Runs known w (moves_of p c i n) (answers_of n a) v → Stands w × Stands v
+both_stand : (known : ℕ → Account) (w : World) (p : ℕ) (c : Call) (i : Inputs) (n : ℕ) (a : Answer) (v : World) → a ≢ Answer.Stepped → Runs known w (moves_of p c i n) (answers_of n a) v → Stands w × Stands v
 both_stand known w p c i n a v ended runs = along Steps accounts_after HoldsWell p i (λ y. Stands w) (λ b y. Stands w × Stands y) (λ x b y g s. record { going = λ e. g; ended = λ e. (g, s.did.stands) })
     known n w (beginning p c i) a v (λ b y s. record { going = λ e. s.did.stood; ended = λ e. (s.did.stood, s.did.stands) }) ended runs
 
-pub keeps_promise : (known : ℕ → Account) (w : World) (p : ℕ) (c : Call) (i : Inputs) (n : ℕ) (a : Answer) (v : World) → Runs known w (moves_of p c i n) (answers_of n a) v → a ≢ answer.Stepped → Promises w p c i a v
+pub keeps_promise : (known : ℕ → Account) (w : World) (p : ℕ) (c : Call) (i : Inputs) (n : ℕ) (a : Answer) (v : World) → Runs known w (moves_of p c i n) (answers_of n a) v → a ≢ Answer.Stepped → Promises w p c i a v
 keeps_promise known w p c i n a v runs ended = let both = both_stand known w p c i n a v ended runs in kept known w p c i n a v both.0 both.1 ended runs

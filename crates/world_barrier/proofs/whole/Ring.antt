@@ -1,61 +1,8 @@
 -- A call that waits for the inner lock at its end, and hasn't waited for too long, has notified nobody there, where nobody is starved for it.
-use Rattle.std.proofs.Common.{◌≡◌, ◌≢◌, ℕ, ◌<◌, ◌⊎◌, inl, inr, Bool, true, false, List, Option, Some, None, is_some, refl, arith, ap, sym, ◌∙◌, subst}
-use Rattle.std.proofs.lemmas.Bool.{false≢true, true≢false}
-use Rattle.lock_event.specs.declared.event.Entry.{Entry}
-use Rattle.lock_event.specs.Lists.{is_marked_at}
-use Rattle.world_base.specs.queue.Parties.{is_party, entries_of}
-use Rattle.world_base.specs.Accounts.{Account, accounts_after}
-use Rattle.world_base.specs.declared.moves.Answer.{Answer}
-use Rattle.world_base.specs.declared.moves.Answer.TheVariants as answer
-use Rattle.world_base.specs.declared.moves.Call.{Call}
-use Rattle.world_base.specs.declared.moves.Call.TheVariants as call
-use Rattle.world_base.specs.declared.moves.Inputs.{Inputs}
-use Rattle.world_base.specs.declared.moves.Move.{Move}
-use Rattle.world_base.specs.declared.moves.What.{What}
-use Rattle.world_base.specs.declared.moves.What.TheVariants.{Begin, Go}
-use Rattle.world_base.specs.declared.standing.Rest.TheVariants as rest
-use Rattle.world_base.specs.declared.standing.Within.{Within}
+use Rattle.world_barrier.proofs.Prelude.{◌≡◌, ◌≢◌, ℕ, ◌<◌, ◌⊎◌, inl, inr, Bool, true, false, List, Option, Some, None, is_some, refl, arith, ap, sym, ◌∙◌, subst, false≢true, true≢false, Entry, is_marked_at, is_party, entries_of, Account, accounts_after, Answer, Call, Inputs, Move, What, Begin, Go, Rest, Within, how_many, Standing, outside, inputs_of, StandsAfter, going_on, moves_of, answers_of, none_some, some_eq, joined_unmarked, beginning, along, Onward, Table, Acted, onward, End as LockEnd, LockStep, decided_then, Course, Takes, decision, is_counting, is_taking, Mutex, course_at, starved, out_uncounted, waiting_uncounted, Action, OnLock, Aim, Ending, Found, Place, EnterLock, WaitLock, TakeLock, Look, Join, Arrive, Complete, NotifyAll, Check, JoinAgain, ReleaseLock, ReleasingLock, Ask, CancelLock, CancellingLock, CancelLeave, Abandon, Position, Out, Made, Locking, Waiting, At, entries_after, start_of, place_for, action_of, next_of, position_after, released, fits_lock, in_lock, listed, Barrier, IsBarrier, Moves, position_at, is_own_marked, call_of, Runs, HoldsWell, World, standing_of, IsBarrierTable, Stands, Steps}
 use Rattle.world_base.specs.Marks.{MarksNobody}
-use Rattle.world_base.specs.Rosters.{how_many}
-use Rattle.world_base.specs.Standings.{Standing, outside, inputs_of, StandsAfter}
-use Rattle.world_base.specs.Whole.{going_on, moves_of, answers_of}
-use Rattle.world_base.proofs.Equations.{none_some, some_eq}
-use Rattle.world_base.proofs.Lists.{joined_unmarked}
 use Rattle.world_base.proofs.Marks.{marks_more}
-use Rattle.world_base.specs.any_world.Steps.{beginning}
-use Rattle.world_base.proofs.of_any_world.Runs.{along, Onward}
-use Rattle.world_base.specs.table.Tables.{Table, Acted}
-use Rattle.world_base.proofs.of_table.Ways.{onward}
-use Rattle.lock_program.specs.declared.end.End.{End as LockEnd}
-use Rattle.lock_program.specs.declared.end.End.TheVariants as lock_end
-use Rattle.lock_program.specs.declared.mutex.Step.{Step as LockStep}
-use Rattle.lock_program.specs.declared.mutex.Step.TheVariants as lock_step
-use Rattle.world_mutex.specs.machine.Conduct.{decided_then}
-use Rattle.world_mutex.specs.machine.Course.{Course, Takes, decision, is_counting, is_taking}
-use Rattle.world_mutex.specs.machine.Mutex.{Mutex, course_at, starved}
-use Rattle.world_mutex.proofs.of_machine.callers.Callers.{out_uncounted, waiting_uncounted}
 use Rattle.world_mutex.proofs.of_machine.callers.Silent.{out_silent, waiting_silent, undecided_silent, never_pending, step_marks}
-use Rattle.sync_program.specs.declared.barrier.Action.{Action}
-use Rattle.sync_program.specs.declared.barrier.Action.TheVariants as act
-use Rattle.world_barrier.specs.program.Locks.{OnLock}
-use Rattle.sync_program.specs.declared.barrier.Aim.{Aim}
-use Rattle.sync_program.specs.declared.barrier.Aim.TheVariants as aim
-use Rattle.sync_program.specs.declared.barrier.Ending.{Ending}
-use Rattle.sync_program.specs.declared.barrier.Ending.TheVariants as ending
-use Rattle.sync_program.specs.declared.barrier.Found.{Found}
-use Rattle.sync_program.specs.declared.barrier.Found.TheVariants as found
-use Rattle.sync_program.specs.declared.barrier.Place.{Place}
-use Rattle.sync_program.specs.declared.barrier.Place.TheVariants.{EnterLock, WaitLock, TakeLock, Look, Join, Arrive, Complete, NotifyAll, Check, JoinAgain, ReleaseLock, ReleasingLock, Ask, CancelLock, CancellingLock, CancelLeave, Abandon}
-use Rattle.sync_program.specs.declared.barrier.Position.{Position}
-use Rattle.sync_program.specs.declared.barrier.Position.TheVariants.{Out, Made, Locking, Waiting, At}
-use Rattle.world_barrier.specs.program.Deeds.{entries_after}
-use Rattle.world_barrier.specs.program.Program.{start_of, place_for, action_of, next_of, position_after, released}
-use Rattle.world_barrier.specs.machine.Roles.{fits_lock, in_lock, listed}
-use Rattle.world_barrier.specs.machine.Machine.{Barrier, IsBarrier, Moves, position_at, is_own_marked}
-use Rattle.world_barrier.specs.Legal.{call_of}
-use Rattle.world_barrier.specs.Runs.{Runs, HoldsWell}
-use Rattle.world_barrier.specs.State.{World, standing_of}
-use Rattle.world_barrier.specs.Steps.{IsBarrierTable, Stands, Steps}
 use Rattle.world_barrier.proofs.whole.Alone.{known_calls, acts_so}
 use Rattle.world_barrier.proofs.whole.Polls.{nobody_starved, from_waiting, stands_at, at_rest_there}
 use Rattle.world_barrier.proofs.whole.Served.{Step}
@@ -64,10 +11,10 @@ use Rattle.world_barrier.proofs.whole.Served.{Step}
 
 -- an action counts nobody
 pub counts_none : (i : Inputs) (p : ℕ) (action : Action) (f : Found) (m n : Mutex) → i.starving ≡ false → OnLock i p action f m n → starved m ≡ 0 → is_counting (course_at m.courses p) ≡ false → (starved n ≡ 0) × (is_counting (course_at n.courses p) ≡ false)
-counts_none i p (act.Begin c) (found.Lock s) m n patient o none not_next = o.patient patient none not_next
-counts_none i p (act.Begin c) _ m n patient o none not_next = absurd o
-counts_none i p act.Go (found.Lock s) m n patient o none not_next = o.patient patient none not_next
-counts_none i p act.Go _ m n patient o none not_next = absurd o
+counts_none i p (Action.Begin c) (Found.Lock s) m n patient o none not_next = o.patient patient none not_next
+counts_none i p (Action.Begin c) _ m n patient o none not_next = absurd o
+counts_none i p Action.Go (Found.Lock s) m n patient o none not_next = o.patient patient none not_next
+counts_none i p Action.Go _ m n patient o none not_next = absurd o
 counts_none i p _ f m n patient o none not_next = let P : Mutex → Type 0 = λ l. (starved l ≡ 0) × (is_counting (course_at l.courses p) ≡ false) in subst P (sym o) (none, not_next)
 
 -- whoever begins a call isn't about to be counted
@@ -76,16 +23,16 @@ begins_uncounted c Out from k e fits = out_uncounted k fits
 begins_uncounted c (Made a) from k e fits = out_uncounted k fits
 begins_uncounted c (Locking a) from k e fits = waiting_uncounted k fits
 begins_uncounted c Waiting from k e fits = out_uncounted k fits
-begins_uncounted call.Wait (At x) from k e fits = absurd (none_some e)
-begins_uncounted call.Poll (At x) from k e fits = absurd (none_some e)
-begins_uncounted call.Drop (At x) from k e fits = absurd (none_some e)
+begins_uncounted Call.Wait (At x) from k e fits = absurd (none_some e)
+begins_uncounted Call.Poll (At x) from k e fits = absurd (none_some e)
+begins_uncounted Call.Drop (At x) from k e fits = absurd (none_some e)
 begins_uncounted _ (At x) from k e fits = absurd (none_some e)
 
 -- ---- where the inner lock was had, or the call is decided
 
 -- whoever asks in its generation's list after that isn't marked there
 abbrev ThenUnmarked : Ending → ℕ → Barrier → Type 0
-ThenUnmarked ending.Wait p x = is_own_marked x p ≡ false
+ThenUnmarked Ending.Wait p x = is_own_marked x p ≡ false
 ThenUnmarked e p x = Unit {0}
 
 abbrev PastIn : Place → ℕ → Barrier → Type 0
@@ -112,40 +59,40 @@ some_of (Some e) h = (e, refl)
 some_of None h = absurd (false≢true h)
 
 -- a poll that is decided on another end than pending has the lock next, or is refused
-decided_past : (p : ℕ) (y : Barrier) (a : Aim) (s : LockStep) (e : LockEnd) → Takes s (course_at y.lock.courses p) → decided_then s (course_at y.lock.courses p) ≡ Some e → (e ≡ lock_end.Pending → ⊥) → PastAt (position_after (next_of (TakeLock a) (found.Lock s))) p y
-decided_past p y a lock_step.More e t d f = ap is_some d
-decided_past p y aim.Arrive (lock_step.End lock_end.Got) e t d f = tt
-decided_past p y aim.Check (lock_step.End lock_end.Got) e t d f = tt
-decided_past p y a (lock_step.End lock_end.Pending) e t d f = absurd (f (sym (some_eq d)))
-decided_past p y a (lock_step.End (lock_end.Refused r)) e t d f = tt
-decided_past p y a (lock_step.End _) e t d f = absurd t
+decided_past : (p : ℕ) (y : Barrier) (a : Aim) (s : LockStep) (e : LockEnd) → Takes s (course_at y.lock.courses p) → decided_then s (course_at y.lock.courses p) ≡ Some e → (e ≡ LockEnd.Pending → ⊥) → PastAt (position_after (next_of (TakeLock a) (Found.Lock s))) p y
+decided_past p y a LockStep.More e t d f = ap is_some d
+decided_past p y Aim.Arrive (LockStep.End LockEnd.Got) e t d f = tt
+decided_past p y Aim.Check (LockStep.End LockEnd.Got) e t d f = tt
+decided_past p y a (LockStep.End LockEnd.Pending) e t d f = absurd (f (sym (some_eq d)))
+decided_past p y a (LockStep.End (LockEnd.Refused r)) e t d f = tt
+decided_past p y a (LockStep.End _) e t d f = absurd t
 
 module _ (i : Inputs) (p : ℕ) (x y : Barrier) (laws : IsBarrier x) where
   abbrev Then : Place → Found → Type 0
   Then from f = PastAt (position_after (next_of from f)) p y
 
-  joined : (from : Place) → position_at x.positions p ≡ At from → listed (At from) ≡ 0 → y.entries ≡ entries_after p act.Join found.Done x.entries → is_own_marked y p ≡ false
+  joined : (from : Place) → position_at x.positions p ≡ At from → listed (At from) ≡ 0 → y.entries ≡ entries_after p Action.Join Found.Done x.entries → is_own_marked y p ≡ false
   joined from here none entries = ap (is_marked_at (is_party p)) entries ∙ joined_unmarked p x.entries (laws.owners p ∙ (ap listed here ∙ none))
 
   same_mark : y.entries ≡ x.entries → is_own_marked x p ≡ false → is_own_marked y p ≡ false
   same_mark e h = ap (is_marked_at (is_party p)) e ∙ h
 
   then_kept : (e : Ending) → y.entries ≡ x.entries → ThenUnmarked e p x → ThenUnmarked e p y
-  then_kept ending.Wait e h = same_mark e h
-  then_kept ending.Follow e h = tt
-  then_kept ending.Lead e h = tt
-  then_kept ending.RefuseGenerations e h = tt
-  then_kept (ending.RefuseMemory a) e h = tt
+  then_kept Ending.Wait e h = same_mark e h
+  then_kept Ending.Follow e h = tt
+  then_kept Ending.Lead e h = tt
+  then_kept Ending.RefuseGenerations e h = tt
+  then_kept (Ending.RefuseMemory a) e h = tt
 
   after : (e : Ending) → y.entries ≡ x.entries → ThenUnmarked e p x → PastAt (position_after (released e)) p y
-  after ending.Wait e h = same_mark e h
-  after ending.Follow e h = tt
-  after ending.Lead e h = tt
-  after ending.RefuseGenerations e h = tt
-  after (ending.RefuseMemory a) e h = tt
+  after Ending.Wait e h = same_mark e h
+  after Ending.Follow e h = tt
+  after Ending.Lead e h = tt
+  after Ending.RefuseGenerations e h = tt
+  after (Ending.RefuseMemory a) e h = tt
 
   takes_past : (a : Aim) (f : Found) → is_taking (course_at x.lock.courses p) ≡ true → is_some (decision (course_at x.lock.courses p)) ≡ true → Step i p (TakeLock a) f x y → Then (TakeLock a) f
-  takes_past a (found.Lock s) taking past k =
+  takes_past a (Found.Lock s) taking past k =
       let c = course_at x.lock.courses p in
       let d = some_of (decision c) past in
       decided_past p y a s d.0 (k.lock.leads.takes taking) (k.lock.legal.kept d.0 d.1).0 (λ e. never_pending c (d.1 ∙ ap Some e))
@@ -158,37 +105,37 @@ module _ (i : Inputs) (p : ℕ) (x y : Barrier) (laws : IsBarrier x) where
   stays_past (EnterLock a) f here h k = absurd h
   stays_past (WaitLock a) f here h k = absurd h
   stays_past (TakeLock a) f here h k = takes_past a f (link_at (TakeLock a) here) h k
-  stays_past Look found.MustWait here h k = tt
-  stays_past Look found.Leads here h k = tt
+  stays_past Look Found.MustWait here h k = tt
+  stays_past Look Found.Leads here h k = tt
   stays_past Look _ here h k = tt
-  stays_past Join found.Done here h k = joined Join here refl k.entries
+  stays_past Join Found.Done here h k = joined Join here refl k.entries
   stays_past Join _ here h k = tt
   stays_past Arrive f here h k = same_mark k.entries h
   stays_past Complete f here h k = tt
   stays_past NotifyAll f here h k = tt
-  stays_past Check found.Finished here h k = tt
+  stays_past Check Found.Finished here h k = tt
   stays_past Check _ here h k = tt
-  stays_past JoinAgain found.Done here h k = joined JoinAgain here refl k.entries
+  stays_past JoinAgain Found.Done here h k = joined JoinAgain here refl k.entries
   stays_past JoinAgain _ here h k = tt
-  stays_past (ReleaseLock e) (found.Lock lock_step.More) here h k = then_kept e k.entries h
-  stays_past (ReleaseLock e) (found.Lock (lock_step.End z)) here h k = after e k.entries h
+  stays_past (ReleaseLock e) (Found.Lock LockStep.More) here h k = then_kept e k.entries h
+  stays_past (ReleaseLock e) (Found.Lock (LockStep.End z)) here h k = after e k.entries h
   stays_past (ReleaseLock e) _ here h k = absurd k.lock
-  stays_past (ReleasingLock e) (found.Lock lock_step.More) here h k = then_kept e k.entries h
-  stays_past (ReleasingLock e) (found.Lock (lock_step.End z)) here h k = after e k.entries h
+  stays_past (ReleasingLock e) (Found.Lock LockStep.More) here h k = then_kept e k.entries h
+  stays_past (ReleasingLock e) (Found.Lock (LockStep.End z)) here h k = after e k.entries h
   stays_past (ReleasingLock e) _ here h k = absurd k.lock
-  stays_past Ask found.Yes here h k = absurd (true≢false (sym k.finds ∙ h))
+  stays_past Ask Found.Yes here h k = absurd (true≢false (sym k.finds ∙ h))
   stays_past Ask _ here h k = tt
   stays_past CancelLock f here h k = cancelled f k
     where
       cancelled : (f : Found) → Step i p CancelLock f x y → Then CancelLock f
-      cancelled (found.Lock lock_step.More) k = tt
-      cancelled (found.Lock (lock_step.End z)) k = tt
+      cancelled (Found.Lock LockStep.More) k = tt
+      cancelled (Found.Lock (LockStep.End z)) k = tt
       cancelled _ k = absurd k.lock
   stays_past CancellingLock f here h k = cancelled f k
     where
       cancelled : (f : Found) → Step i p CancellingLock f x y → Then CancellingLock f
-      cancelled (found.Lock lock_step.More) k = tt
-      cancelled (found.Lock (lock_step.End z)) k = tt
+      cancelled (Found.Lock LockStep.More) k = tt
+      cancelled (Found.Lock (LockStep.End z)) k = tt
       cancelled _ k = absurd k.lock
   stays_past CancelLeave f here h k = tt
   stays_past Abandon f here h k = tt
@@ -213,14 +160,14 @@ is_quiet (Locking a) = true
 is_quiet position = false
 
 starts_before : (c : Call) (x : Position) (from : Place) (k : Course) → start_of c x ≡ Some from → fits_lock (in_lock x) k ≡ true → (is_before from ≡ true) × (fits_lock (in_lock (At from)) k ≡ true)
-starts_before call.Wait Out from k e fits = let B : Place → Type 0 = λ z. (is_before z ≡ true) × (fits_lock (in_lock (At z)) k ≡ true) in subst B (some_eq e) (refl, fits)
-starts_before call.Poll (Made a) from k e fits = let B : Place → Type 0 = λ z. (is_before z ≡ true) × (fits_lock (in_lock (At z)) k ≡ true) in subst B (some_eq e) (refl, fits)
-starts_before call.Poll (Locking a) from k e fits = let B : Place → Type 0 = λ z. (is_before z ≡ true) × (fits_lock (in_lock (At z)) k ≡ true) in subst B (some_eq e) (refl, fits)
-starts_before call.Poll Waiting from k e fits = let B : Place → Type 0 = λ z. (is_before z ≡ true) × (fits_lock (in_lock (At z)) k ≡ true) in subst B (some_eq e) (refl, fits)
-starts_before call.Drop (Locking a) from k e fits = let B : Place → Type 0 = λ z. (is_before z ≡ true) × (fits_lock (in_lock (At z)) k ≡ true) in subst B (some_eq e) (refl, fits)
-starts_before call.Drop Waiting from k e fits = let B : Place → Type 0 = λ z. (is_before z ≡ true) × (fits_lock (in_lock (At z)) k ≡ true) in subst B (some_eq e) (refl, fits)
-starts_before call.Drop Out from k e fits = let B : Place → Type 0 = λ z. (is_before z ≡ true) × (fits_lock (in_lock (At z)) k ≡ true) in subst B (some_eq e) (refl, fits)
-starts_before call.Drop (Made a) from k e fits = let B : Place → Type 0 = λ z. (is_before z ≡ true) × (fits_lock (in_lock (At z)) k ≡ true) in subst B (some_eq e) (refl, fits)
+starts_before Call.Wait Out from k e fits = let B : Place → Type 0 = λ z. (is_before z ≡ true) × (fits_lock (in_lock (At z)) k ≡ true) in subst B (some_eq e) (refl, fits)
+starts_before Call.Poll (Made a) from k e fits = let B : Place → Type 0 = λ z. (is_before z ≡ true) × (fits_lock (in_lock (At z)) k ≡ true) in subst B (some_eq e) (refl, fits)
+starts_before Call.Poll (Locking a) from k e fits = let B : Place → Type 0 = λ z. (is_before z ≡ true) × (fits_lock (in_lock (At z)) k ≡ true) in subst B (some_eq e) (refl, fits)
+starts_before Call.Poll Waiting from k e fits = let B : Place → Type 0 = λ z. (is_before z ≡ true) × (fits_lock (in_lock (At z)) k ≡ true) in subst B (some_eq e) (refl, fits)
+starts_before Call.Drop (Locking a) from k e fits = let B : Place → Type 0 = λ z. (is_before z ≡ true) × (fits_lock (in_lock (At z)) k ≡ true) in subst B (some_eq e) (refl, fits)
+starts_before Call.Drop Waiting from k e fits = let B : Place → Type 0 = λ z. (is_before z ≡ true) × (fits_lock (in_lock (At z)) k ≡ true) in subst B (some_eq e) (refl, fits)
+starts_before Call.Drop Out from k e fits = let B : Place → Type 0 = λ z. (is_before z ≡ true) × (fits_lock (in_lock (At z)) k ≡ true) in subst B (some_eq e) (refl, fits)
+starts_before Call.Drop (Made a) from k e fits = let B : Place → Type 0 = λ z. (is_before z ≡ true) × (fits_lock (in_lock (At z)) k ≡ true) in subst B (some_eq e) (refl, fits)
 starts_before _ _ from k e fits = absurd (none_some e)
 
 module _ (i : Inputs) (p : ℕ) (x y : Barrier) (still : i.starving ≡ false) (none : starved x.lock ≡ 0) (uncounting : is_counting (course_at x.lock.courses p) ≡ false) where
@@ -231,25 +178,25 @@ module _ (i : Inputs) (p : ℕ) (x y : Barrier) (still : i.starving ≡ false) (
   abbrev Quiet : Place → Found → Type 0
   Quiet from f = PastAt (position_after (next_of from f)) p y ⊎ ((is_quiet (position_after (next_of from f)) ≡ true) × Marks)
 
-  by_step : (a : Aim) (from : Place) (s : LockStep) → ((n : LockStep) → position_after (next_of from (found.Lock n)) ≡ position_after (next_of (TakeLock a) (found.Lock n))) → Marks → Quiet from (found.Lock s)
+  by_step : (a : Aim) (from : Place) (s : LockStep) → ((n : LockStep) → position_after (next_of from (Found.Lock n)) ≡ position_after (next_of (TakeLock a) (Found.Lock n))) → Marks → Quiet from (Found.Lock s)
   by_step a from s same marks = let Q : Position → Type 0 = λ z. PastAt z p y ⊎ ((is_quiet z ≡ true) × Marks) in subst Q (sym (same s)) (taken a s) where
-    taken : (a : Aim) (s : LockStep) → PastAt (position_after (next_of (TakeLock a) (found.Lock s))) p y ⊎ ((is_quiet (position_after (next_of (TakeLock a) (found.Lock s))) ≡ true) × Marks)
-    taken a lock_step.More = inr (refl, marks)
-    taken aim.Arrive (lock_step.End lock_end.Got) = inl tt
-    taken aim.Check (lock_step.End lock_end.Got) = inl tt
-    taken a (lock_step.End (lock_end.Refused r)) = inl tt
-    taken a (lock_step.End _) = inr (refl, marks)
+    taken : (a : Aim) (s : LockStep) → PastAt (position_after (next_of (TakeLock a) (Found.Lock s))) p y ⊎ ((is_quiet (position_after (next_of (TakeLock a) (Found.Lock s))) ≡ true) × Marks)
+    taken a LockStep.More = inr (refl, marks)
+    taken Aim.Arrive (LockStep.End LockEnd.Got) = inl tt
+    taken Aim.Check (LockStep.End LockEnd.Got) = inl tt
+    taken a (LockStep.End (LockEnd.Refused r)) = inl tt
+    taken a (LockStep.End _) = inr (refl, marks)
 
   unmoved : y.lock ≡ x.lock → Marks
   unmoved e = let M : Mutex → Type 0 = λ l. MarksNobody p x.lock.entries l.entries in subst M (sym e) (λ q apart h. h)
 
   goes_quietly : (from : Place) (f : Found) → is_before from ≡ true → fits_lock (in_lock (At from)) (course_at x.lock.courses p) ≡ true → Step i p from f x y → Quiet from f
-  goes_quietly (EnterLock a) (found.Lock s) before fits k = by_step a (EnterLock a) s (λ n. refl) (step_marks i.memory p None s x.lock y.lock k.lock.legal refl (out_silent (course_at x.lock.courses p) fits))
+  goes_quietly (EnterLock a) (Found.Lock s) before fits k = by_step a (EnterLock a) s (λ n. refl) (step_marks i.memory p None s x.lock y.lock k.lock.legal refl (out_silent (course_at x.lock.courses p) fits))
   goes_quietly (EnterLock a) _ before fits k = absurd k.lock
-  goes_quietly (WaitLock a) (found.Lock s) before fits k = by_step a (WaitLock a) s (λ n. refl) (step_marks i.memory p None s x.lock y.lock k.lock.legal refl (waiting_silent (course_at x.lock.courses p) fits))
+  goes_quietly (WaitLock a) (Found.Lock s) before fits k = by_step a (WaitLock a) s (λ n. refl) (step_marks i.memory p None s x.lock y.lock k.lock.legal refl (waiting_silent (course_at x.lock.courses p) fits))
   goes_quietly (WaitLock a) _ before fits k = absurd k.lock
-  goes_quietly (TakeLock a) (found.Lock s) before fits k = by_decision (is_some (decision (course_at x.lock.courses p))) refl where
-    by_decision : (b : Bool) → is_some (decision (course_at x.lock.courses p)) ≡ b → Quiet (TakeLock a) (found.Lock s)
+  goes_quietly (TakeLock a) (Found.Lock s) before fits k = by_decision (is_some (decision (course_at x.lock.courses p))) refl where
+    by_decision : (b : Bool) → is_some (decision (course_at x.lock.courses p)) ≡ b → Quiet (TakeLock a) (Found.Lock s)
     by_decision true some =
         let c = course_at x.lock.courses p in
         let d = some_of (decision c) some in
@@ -258,10 +205,10 @@ module _ (i : Inputs) (p : ℕ) (x y : Barrier) (still : i.starving ≡ false) (
         let midway : decision (course_at x.lock.courses p) ≡ None = none_of (decision (course_at x.lock.courses p)) apart in
         by_step a (TakeLock a) s (λ n. refl) (step_marks i.memory p (decision (course_at x.lock.courses p)) s x.lock y.lock k.lock.legal midway (undecided_silent x.lock p none midway uncounting))
   goes_quietly (TakeLock a) _ before fits k = absurd k.lock
-  goes_quietly Ask found.Yes before fits k = inr (refl, unmoved k.lock)
+  goes_quietly Ask Found.Yes before fits k = inr (refl, unmoved k.lock)
   goes_quietly Ask _ before fits k = inl tt
-  goes_quietly CancelLock (found.Lock lock_step.More) before fits k = inl tt
-  goes_quietly CancelLock (found.Lock (lock_step.End z)) before fits k = inl tt
+  goes_quietly CancelLock (Found.Lock LockStep.More) before fits k = inl tt
+  goes_quietly CancelLock (Found.Lock (LockStep.End z)) before fits k = inl tt
   goes_quietly CancelLock _ before fits k = absurd k.lock
   goes_quietly CancelLeave f before fits k = inl tt
   goes_quietly Abandon f before fits k = inl tt
@@ -278,8 +225,8 @@ quiet_before (EnterLock a) h = refl
 quiet_before (TakeLock a) h = refl
 quiet_before _ h = absurd (false≢true h)
 
-pending_stands : (u : Within) (b : Answer) (t : Standing) → b ≡ answer.Pending → StandsAfter rest.Finished u b t → t ≡ outside rest.Pending
-pending_stands u answer.Pending t e s = s.1
+pending_stands : (u : Within) (b : Answer) (t : Standing) → b ≡ Answer.Pending → StandsAfter Rest.Finished u b t → t ≡ outside Rest.Pending
+pending_stands u Answer.Pending t e s = s.1
 pending_stands u _ t e s = absurd (cc e)
 
 module _ (p : ℕ) (i : Inputs) (patient : i.starving ≡ false) (l0 : List (Entry ℕ)) where
@@ -295,10 +242,10 @@ module _ (p : ℕ) (i : Inputs) (patient : i.starving ≡ false) (l0 : List (Ent
   Calm t = PastAt (here t) p t.machine ⊎ ((is_quiet (here t) ≡ true) × Silent t)
 
   abbrev Kept : Answer → Table Barrier → Type 0
-  Kept b t = b ≡ answer.Pending → (a : Aim) → here t ≡ Locking a → MarksNobody p l0 t.machine.lock.entries
+  Kept b t = b ≡ Answer.Pending → (a : Aim) → here t ≡ Locking a → MarksNobody p l0 t.machine.lock.entries
 
   record Done (b : Answer) (y : World) : Type 0 where
-    pub outside : b ≡ answer.Pending → standing_of y p ≡ outside rest.Pending
+    pub outside : b ≡ Answer.Pending → standing_of y p ≡ outside Rest.Pending
     pub kept : Kept b y.behind
 
   never_past : (z : Position) (a : Aim) (x : Barrier) → z ≡ Locking a → PastAt z p x → ⊥
@@ -311,7 +258,7 @@ module _ (p : ℕ) (i : Inputs) (patient : i.starving ≡ false) (l0 : List (Ent
   abbrev Before : Place → Table Barrier → Type 0
   Before from t = ((here t ≡ At from) × PastIn from p t.machine) ⊎ ((is_before from ≡ true) × (fits_lock (in_lock (At from)) (course_at t.machine.lock.courses p) ≡ true) × Silent t)
 
-  module _ (t u : Table Barrier) (what : What) (a : Answer) (w : Within) (still : (inputs_of what).starving ≡ false) (laws : IsBarrier t.machine) (tf : IsBarrierTable t) (k : Acted known_calls rest.Finished Moves w t (record { party = p; what = what }) a u) where
+  module _ (t u : Table Barrier) (what : What) (a : Answer) (w : Within) (still : (inputs_of what).starving ≡ false) (laws : IsBarrier t.machine) (tf : IsBarrierTable t) (k : Acted known_calls Rest.Finished Moves w t (record { party = p; what = what }) a u) where
     abbrev from : Place
     from = k.acts.from
 
@@ -334,25 +281,25 @@ module _ (p : ℕ) (i : Inputs) (patient : i.starving ≡ false) (l0 : List (Ent
     calm_then (inl h) = past_then (stays_past (inputs_of what) p t.machine u.machine laws from f h.0 h.1 did)
     calm_then (inr h) = quietly h.2 (goes_quietly (inputs_of what) p t.machine u.machine still h.2.unstarved h.2.uncounting from f h.0 h.1 did)
 
-  moved : (x : World) (what : What) (a : Answer) (v : World) → (inputs_of what).starving ≡ false → ((w : Within) (k : Acted known_calls rest.Finished Moves w x.behind (record { party = p; what = what }) a v.behind) → Before k.acts.from x.behind)
+  moved : (x : World) (what : What) (a : Answer) (v : World) → (inputs_of what).starving ≡ false → ((w : Within) (k : Acted known_calls Rest.Finished Moves w x.behind (record { party = p; what = what }) a v.behind) → Before k.acts.from x.behind)
       → Steps x (record { party = p; what = what }) a v → Onward (λ y. Calm y.behind) Done a v
   moved x what a v still before s = record { going = o.going; ended = λ e. record { outside = ends_pending; kept = o.ended e } } where
     m : Move
     m = record { party = p; what = what }
 
     o : Onward Calm Kept a v.behind
-    o = onward known_calls rest.Finished Moves x.behind v.behind m a Calm Kept (λ y. y) (λ e. absurd (cc e)) (λ e. absurd (cc e))
+    o = onward known_calls Rest.Finished Moves x.behind v.behind m a Calm Kept (λ y. y) (λ e. absurd (cc e)) (λ e. absurd (cc e))
         (λ w e f k. let calm = calm_then x.behind v.behind what a w still s.did.stood.barrier s.did.stood.fits k (before w k) in record { going = λ g. calm; ended = λ g y. kept_so v.behind calm }) s.did.step
 
-    ends_pending : a ≡ answer.Pending → standing_of v p ≡ outside rest.Pending
+    ends_pending : a ≡ Answer.Pending → standing_of v p ≡ outside Rest.Pending
     ends_pending is = by_call (call_of x m) refl where
-      by_call : (o : Option Within) → call_of x m ≡ o → standing_of v p ≡ outside rest.Pending
+      by_call : (o : Option Within) → call_of x m ≡ o → standing_of v p ≡ outside Rest.Pending
       by_call None e = let no = s.legal.possible.exactly.1 e in absurd (cc (sym is ∙ no))
       by_call (Some u) e = pending_stands u a (standing_of v p) is (s.legal.ends_properly.stands u e)
 
   goes : (x : World) (a : Answer) (v : World) → Calm x.behind → Steps x (going_on p i) a v → Onward (λ y. Calm y.behind) Done a v
   goes x a v calm s = moved x (Go i) a v patient (λ w k. before w k calm) s where
-    before : (w : Within) (k : Acted known_calls rest.Finished Moves w x.behind (going_on p i) a v.behind) → Calm x.behind → Before k.acts.from x.behind
+    before : (w : Within) (k : Acted known_calls Rest.Finished Moves w x.behind (going_on p i) a v.behind) → Calm x.behind → Before k.acts.from x.behind
     before w k (inl past) =
         let at = going_at i (here x.behind) k.acts.from k.acts.starts in
         let P : Position → Type 0 = λ z. PastAt z p x.behind.machine in
@@ -364,22 +311,22 @@ module _ (p : ℕ) (i : Inputs) (patient : i.starving ≡ false) (l0 : List (Ent
 
   first : (c : Call) (x : World) → starved x.behind.machine.lock ≡ 0 → MarksNobody p l0 x.behind.machine.lock.entries → (a : Answer) (v : World) → Steps x (beginning p c i) a v → Onward (λ y. Calm y.behind) Done a v
   first c x none kept a v s = moved x (Begin c i) a v patient (λ w k. before k) s where
-    before : {w : Within} (k : Acted known_calls rest.Finished Moves w x.behind (beginning p c i) a v.behind) → Before k.acts.from x.behind
+    before : {w : Within} (k : Acted known_calls Rest.Finished Moves w x.behind (beginning p c i) a v.behind) → Before k.acts.from x.behind
     before k =
         let course = course_at x.behind.machine.lock.courses p in
         let link = s.did.stood.barrier.links p in
         let at = starts_before c (here x.behind) k.acts.from course k.acts.starts link in
         inr (at.0, at.1, record { unstarved = none; uncounting = begins_uncounted c (here x.behind) k.acts.from course k.acts.starts link; kept = kept })
 
-pub tells_nobody_at_end : (known : ℕ → Account) (w : World) (p : ℕ) (c : Call) (i : Inputs) (n : ℕ) (a : Answer) (v : World) → Stands w → Stands v → Runs known w (moves_of p c i n) (answers_of n a) v → a ≢ answer.Stepped → i.starving ≡ false → how_many w.lock.starved ≡ 0 → a ≡ answer.Pending → 0 < entries_of p v.lock_list → MarksNobody p w.lock_list v.lock_list
+pub tells_nobody_at_end : (known : ℕ → Account) (w : World) (p : ℕ) (c : Call) (i : Inputs) (n : ℕ) (a : Answer) (v : World) → Stands w → Stands v → Runs known w (moves_of p c i n) (answers_of n a) v → a ≢ Answer.Stepped → i.starving ≡ false → how_many w.lock.starved ≡ 0 → a ≡ Answer.Pending → 0 < entries_of p v.lock_list → MarksNobody p w.lock_list v.lock_list
 tells_nobody_at_end known w p c i n a v stood stands runs ended patient none is there =
     let l0 = w.behind.machine.lock.entries in
     let u = v.behind in
     let zero : starved w.behind.machine.lock ≡ 0 = nobody_starved w.behind (subst (λ x. how_many x.lock.starved ≡ 0) stood.seen none) in
     let done : Done p i patient l0 a v = along Steps accounts_after HoldsWell p i (λ y. Calm p i patient l0 y.behind) (Done p i patient l0) (goes p i patient l0) known n w (beginning p c i) a v (first p i patient l0 c w zero (λ q apart h. h)) ended runs in
-    let at = at_rest_there u p stands.barrier stands.fits rest.Pending (ap (λ y. standing_of y p) (sym stands.seen) ∙ done.outside is) in
+    let at = at_rest_there u p stands.barrier stands.fits Rest.Pending (ap (λ y. standing_of y p) (sym stands.seen) ∙ done.outside is) in
     let listed_there : 0 < entries_of p u.machine.lock.entries = subst (λ y. 0 < entries_of p y.lock_list) stands.seen there in
-    let waits = from_waiting u p stands.barrier stands.fits i (position_at u.machine.positions p) refl at (stands_at u p stands.barrier stands.fits rest.Pending at) listed_there in
+    let waits = from_waiting u p stands.barrier stands.fits i (position_at u.machine.positions p) refl at (stands_at u p stands.barrier stands.fits Rest.Pending at) listed_there in
     let M : List (Entry ℕ) → Type 0 = λ l. MarksNobody p l v.lock_list in
     let N : List (Entry ℕ) → Type 0 = λ l. MarksNobody p l0 l in
     subst M (sym (ap (λ y. y.lock_list) stood.seen)) (subst N (sym (ap (λ y. y.lock_list) stands.seen)) (done.kept is waits.0.its_aim waits.1))

@@ -1,14 +1,5 @@
 -- From place to place: how a poll that is carried out alone goes on that has the inner lock, or is to get it.
-use Rattle.std.proofs.Common.{◌≡◌, ℕ, Bool, refl, sym, subst}
-use Rattle.world_base.specs.declared.moves.Inputs.{Inputs}
-use Rattle.sync_program.specs.declared.barrier.Aim.{Aim}
-use Rattle.sync_program.specs.declared.barrier.Found.{Found}
-use Rattle.sync_program.specs.declared.barrier.Place.{Place}
-use Rattle.sync_program.specs.declared.barrier.Place.TheVariants.{EnterLock, TakeLock}
-use Rattle.sync_program.specs.declared.barrier.Position.{Position}
-use Rattle.sync_program.specs.declared.barrier.Position.TheVariants.{At}
-use Rattle.world_barrier.specs.program.Program.{next_of}
-use Rattle.world_barrier.specs.machine.Machine.{Barrier, IsBarrier, position_at}
+use Rattle.world_barrier.proofs.Prelude.{◌≡◌, ℕ, Bool, refl, sym, subst, Inputs, Aim, Found, Place, EnterLock, TakeLock, Position, At, next_of, Barrier, IsBarrier, position_at}
 use Rattle.world_barrier.proofs.whole.Served.{Step, IsSupplied, Serves, serves}
 use Rattle.world_barrier.proofs.whole.Locked.{IsTaking, Settles, IsFresh, Goes, SoloThen, then_served, goes_on, Enters, EntersThen, then_entered, gets_at_once}
 

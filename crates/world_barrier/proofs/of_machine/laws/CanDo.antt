@@ -1,20 +1,5 @@
 -- What an action needs is there.
-use Rattle.std.proofs.Common.{◌≡◌, ℕ, ◌<◌, true, List, length, refl, arith, ap, sym, ◌∙◌}
-use Rattle.world_base.specs.queue.Parties.{entries_of}
-use Rattle.world_base.specs.queue.Queues.{Queue}
-use Rattle.world_base.specs.declared.standing.Within.{Within}
-use Rattle.world_mutex.specs.machine.Mutex.{Mutex, course_at}
-use Rattle.world_mutex.proofs.of_machine.callers.Callers.{may_lock, may_poll, may_cancel, may_release}
-use Rattle.sync_program.specs.declared.barrier.Place.{Place}
-use Rattle.sync_program.specs.declared.barrier.Place.TheVariants.{EnterLock, WaitLock, TakeLock, Join, Arrive, Complete, JoinAgain, ReleaseLock, ReleasingLock, Ask, CancelLock, CancellingLock, CancelLeave}
-use Rattle.sync_program.specs.declared.barrier.Position.{Position}
-use Rattle.sync_program.specs.declared.barrier.Position.TheVariants.{At}
-use Rattle.world_barrier.specs.declared.program.words.Progress.{Progress}
-use Rattle.world_barrier.specs.declared.program.words.Words.{Words}
-use Rattle.world_barrier.specs.program.Program.{action_of}
-use Rattle.world_barrier.specs.program.Deeds.{CanDo}
-use Rattle.world_barrier.specs.machine.Roles.{fits_lock, listed, in_lock, Sure}
-use Rattle.world_barrier.specs.machine.Machine.{IsKept, position_at, arrival_at}
+use Rattle.world_barrier.proofs.Prelude.{◌≡◌, ℕ, ◌<◌, true, List, length, refl, arith, ap, sym, ◌∙◌, entries_of, Queue, Within, Mutex, course_at, may_lock, may_poll, may_cancel, may_release, Place, EnterLock, WaitLock, TakeLock, Join, Arrive, Complete, JoinAgain, ReleaseLock, ReleasingLock, Ask, CancelLock, CancellingLock, CancelLeave, Position, At, Progress, Words, action_of, CanDo, fits_lock, listed, in_lock, Sure, IsKept, position_at, arrival_at}
 use Rattle.world_barrier.proofs.of_machine.stages.Starts.{Fits}
 
 module _ (p : ℕ) (w : Words) (xs : List Position) (rs : List Progress) (q : Queue) (m : Mutex) (kept : IsKept w xs rs q m) (known : p < length xs) (v : Within) where

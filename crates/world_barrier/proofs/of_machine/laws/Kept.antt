@@ -1,36 +1,7 @@
 -- An action of one party keeps what always holds of a barrier.
-use Rattle.std.proofs.Common.{◌≡◌, ◌≢◌, ℕ, ◌+◌, ◌<◌, ◌≤◌, ◌*◌, inl, inr, true, List, length, get_or, Some, refl, arith, ap, sym, subst, ◌∙◌, length-set, get_or-set_same, get_or-set_other}
-use Rattle.std.proofs.Math.ListN.{set}
-use Rattle.std.proofs.Math.Decide.{ℕ_discrete}
-use Rattle.std.specs.List.{sum_by}
+use Rattle.world_barrier.proofs.Prelude.{◌≡◌, ◌≢◌, ℕ, ◌+◌, ◌<◌, ◌≤◌, ◌*◌, inl, inr, true, List, length, get_or, Some, refl, arith, ap, sym, subst, ◌∙◌, length-set, get_or-set_same, get_or-set_other, set, ℕ_discrete, sum_by, entries_of, Queue, queue, Inputs, Rest, Stage, Within, some_eq, stage_after, Keeps, Course, is_holding, Mutex, course_at, IsMutex, holder_from, holding_holds, held_at, Ending, Found, Place, Arrive, Complete, ReleaseLock, ReleasingLock, Position, Out, At, Progress, Words, progress, IsPast, IsWithin, IsFollower, action_of, next_of, Finds, CanDo, arrival_after, entries_after, OnLock, InLock, holds_there as holds, fits_lock, listed, in_lock, follows, Sure, HasOutcome, Barrier, IsKept, HasArrived, AreApart, goes_with, answer_by, position_at, arrival_at}
 use Rattle.std.proofs.lemmas.List.Sums.{sum_by-set, sum_by-le}
-use Rattle.world_base.specs.queue.Parties.{entries_of}
-use Rattle.world_base.specs.queue.Queues.{Queue, queue}
-use Rattle.world_base.specs.declared.moves.Inputs.{Inputs}
-use Rattle.world_base.specs.declared.standing.Rest.TheVariants as rest
-use Rattle.world_base.specs.declared.standing.Stage.{Stage}
-use Rattle.world_base.specs.declared.standing.Within.{Within}
-use Rattle.world_base.proofs.Equations.{some_eq}
-use Rattle.world_base.specs.table.Stages.{stage_after}
-use Rattle.world_base.specs.table.Tables.{Keeps}
-use Rattle.world_mutex.specs.machine.Course.{Course, is_holding}
-use Rattle.world_mutex.specs.machine.Mutex.{Mutex, course_at, IsMutex, holder_from}
-use Rattle.world_mutex.proofs.of_machine.callers.Callers.{holding_holds}
-use Rattle.world_mutex.proofs.of_machine.callers.Holders.{held_at}
-use Rattle.sync_program.specs.declared.barrier.Ending.TheVariants as ending
-use Rattle.sync_program.specs.declared.barrier.Found.{Found}
-use Rattle.sync_program.specs.declared.barrier.Place.{Place}
-use Rattle.sync_program.specs.declared.barrier.Place.TheVariants.{Arrive, Complete, ReleaseLock, ReleasingLock}
-use Rattle.sync_program.specs.declared.barrier.Position.{Position}
-use Rattle.sync_program.specs.declared.barrier.Position.TheVariants.{Out, At}
-use Rattle.world_barrier.specs.declared.program.words.Progress.{Progress}
-use Rattle.world_barrier.specs.declared.program.words.Words.{Words}
-use Rattle.world_barrier.specs.program.Words.{progress, IsPast, IsWithin, IsFollower}
-use Rattle.world_barrier.specs.program.Program.{action_of, next_of}
-use Rattle.world_barrier.specs.program.Deeds.{Finds, CanDo, arrival_after, entries_after}
-use Rattle.world_barrier.specs.program.Locks.{OnLock}
-use Rattle.world_barrier.specs.machine.Roles.{InLock, holds, fits_lock, listed, in_lock, follows, Sure, HasOutcome}
-use Rattle.world_barrier.specs.machine.Machine.{Barrier, IsKept, HasArrived, AreApart, Stands, goes_with, answer_by, position_at, arrival_at}
+use Rattle.world_barrier.specs.machine.Machine.{Stands}
 use Rattle.world_barrier.proofs.of_machine.stages.Starts.{Fits}
 use Rattle.world_barrier.proofs.of_machine.stages.Links.{Led, led, links, lands, lock_others, lock_length, lock_stays}
 use Rattle.world_barrier.proofs.of_machine.laws.CanDo.{can_do, linked, is_sure, entries_are}
@@ -52,16 +23,16 @@ has_lock y c link h = let P : InLock → Type 0 = λ l. fits_lock l c ≡ true i
 
 -- no party is listed twice, so no list is longer than there are parties
 at_most_once : (x : Position) → listed x ≤ 1
-at_most_once (At (ReleaseLock ending.Wait)) = omega arith
-at_most_once (At (ReleaseLock ending.Follow)) = omega arith
-at_most_once (At (ReleaseLock ending.Lead)) = omega arith
-at_most_once (At (ReleaseLock ending.RefuseGenerations)) = omega arith
-at_most_once (At (ReleaseLock (ending.RefuseMemory a))) = omega arith
-at_most_once (At (ReleasingLock ending.Wait)) = omega arith
-at_most_once (At (ReleasingLock ending.Follow)) = omega arith
-at_most_once (At (ReleasingLock ending.Lead)) = omega arith
-at_most_once (At (ReleasingLock ending.RefuseGenerations)) = omega arith
-at_most_once (At (ReleasingLock (ending.RefuseMemory a))) = omega arith
+at_most_once (At (ReleaseLock Ending.Wait)) = omega arith
+at_most_once (At (ReleaseLock Ending.Follow)) = omega arith
+at_most_once (At (ReleaseLock Ending.Lead)) = omega arith
+at_most_once (At (ReleaseLock Ending.RefuseGenerations)) = omega arith
+at_most_once (At (ReleaseLock (Ending.RefuseMemory a))) = omega arith
+at_most_once (At (ReleasingLock Ending.Wait)) = omega arith
+at_most_once (At (ReleasingLock Ending.Follow)) = omega arith
+at_most_once (At (ReleasingLock Ending.Lead)) = omega arith
+at_most_once (At (ReleasingLock Ending.RefuseGenerations)) = omega arith
+at_most_once (At (ReleasingLock (Ending.RefuseMemory a))) = omega arith
 at_most_once (At _) = omega arith
 at_most_once _ = omega arith
 
@@ -182,9 +153,9 @@ module _ (i : Inputs) (p : ℕ) (w : Words) (xs : List Position) (rs : List Prog
 
 pub keeps : (i : Inputs) (s t : Barrier) (p : ℕ) (w : Within) (from : Place) (f : Found) (stage : Stage) → p < length s.positions → Fits w (position_at s.positions p) from → fits_lock (in_lock (position_at s.positions p)) (course_at s.lock.courses p) ≡ true
     → OnLock i p (action_of from) f s.lock t.lock → t.positions ≡ set s.positions p (after from f)
-    → Keeps (λ (s : Barrier). length s.positions) Stands s p (stage_after rest.Finished w (answer_by (next_of from f))) t
+    → Keeps (λ (s : Barrier). length s.positions) Stands s p (stage_after Rest.Finished w (answer_by (next_of from f))) t
 keeps i s t p w from f stage known fit link lock to = (
-    let P : List Position → Type 0 = λ ps. goes_with (stage_after rest.Finished w (answer_by (next_of from f))) (position_at ps p) ≡ true in
+    let P : List Position → Type 0 = λ ps. goes_with (stage_after Rest.Finished w (answer_by (next_of from f))) (position_at ps p) ≡ true in
     let linked : fits_lock (in_lock (At from)) (course_at s.lock.courses p) ≡ true = ap (λ l. fits_lock l (course_at s.lock.courses p)) fit.lock ∙ link in
     let leads : Led from f (course_at t.lock.courses p) = led i p s.lock t.lock from f lock linked in
     let set_to : P (set s.positions p (after from f)) = rw (get_or-set_same s.positions p (after from f) Out known) (lands w from f (course_at t.lock.courses p) leads fit.runs) in

@@ -1,21 +1,6 @@
 -- What always holds of a barrier, as callers see it.
-use Rattle.std.proofs.Common.{◌≡◌, ℕ, zero, suc, ◌<◌, true, false, List, [], ◌∷◌, refl, arith}
-use Rattle.std.specs.List.{sum_by}
+use Rattle.world_barrier.proofs.Prelude.{◌≡◌, ℕ, zero, suc, ◌<◌, true, false, List, [], ◌∷◌, refl, arith, sum_by, Entry, is_marked_at, IsMarkedFirst, is_party, entries_of, Queue, Course, holds, rests_there, Mutex, course_at, IsMutex, holders, LockAtRest, out_free, waiting_free, holding_holds, out_rests, waiting_rests, Arrive, NotifyAll, Position, Out, Made, Locking, Waiting, At, Progress, Words, fits_lock, in_lock, is_late, will_tell, is_resting, IsKept, IsAtRest, IsBarrier, AllTold, position_at, arrival_at}
 use Rattle.std.proofs.lemmas.List.Sums.{sum_by-cons}
-use Rattle.lock_event.specs.declared.event.Entry.{Entry}
-use Rattle.lock_event.specs.Lists.{is_marked_at, IsMarkedFirst}
-use Rattle.world_base.specs.queue.Parties.{is_party, entries_of}
-use Rattle.world_base.specs.queue.Queues.{Queue}
-use Rattle.world_mutex.specs.machine.Course.{Course, holds, is_resting as rests_there}
-use Rattle.world_mutex.specs.machine.Mutex.{Mutex, course_at, IsMutex, holders, IsAtRest as LockAtRest}
-use Rattle.world_mutex.proofs.of_machine.callers.Callers.{out_free, waiting_free, holding_holds, out_rests, waiting_rests}
-use Rattle.sync_program.specs.declared.barrier.Place.TheVariants.{Arrive, NotifyAll}
-use Rattle.sync_program.specs.declared.barrier.Position.{Position}
-use Rattle.sync_program.specs.declared.barrier.Position.TheVariants.{Out, Made, Locking, Waiting, At}
-use Rattle.world_barrier.specs.declared.program.words.Progress.{Progress}
-use Rattle.world_barrier.specs.declared.program.words.Words.{Words}
-use Rattle.world_barrier.specs.machine.Roles.{fits_lock, in_lock, is_late, will_tell, is_resting}
-use Rattle.world_barrier.specs.machine.Machine.{IsKept, IsAtRest, IsBarrier, AllTold, position_at, arrival_at}
 use Rattle.world_base.proofs.of_queue.Marks.{else_marked}
 
 -- a party without the inner lock is counted if it is listed, and is about to tell nobody

@@ -1,16 +1,9 @@
 -- A new barrier.
-use Rattle.std.proofs.Common.{◌≡◌, ℕ, ◌≤◌, [], length, replicate, refl, sym, arith, ◌∙◌}
+use Rattle.world_barrier.proofs.Prelude.{◌≡◌, ℕ, ◌≤◌, [], length, replicate, refl, sym, arith, ◌∙◌, queue, new_mutex, new_is_out, new_parties, Out, progress, new_words, listed, Outside, IsKept, new_barrier}
 use Rattle.std.proofs.lemmas.List.{length-replicate}
-use Rattle.world_base.specs.queue.Queues.{queue}
 use Rattle.world_base.proofs.Alike.{all_alike, none_of_all}
-use Rattle.world_mutex.specs.machine.Mutex.{new_mutex}
-use Rattle.world_mutex.proofs.of_machine.callers.Callers.{new_is_out, new_parties}
-use Rattle.sync_program.specs.declared.barrier.Position.TheVariants.{Out}
-use Rattle.world_barrier.specs.program.Words.{progress, new_words}
-use Rattle.world_barrier.specs.machine.Roles.{listed}
 use Rattle.world_base.specs.declared.standing.Rest.TheVariants.{Idle}
-use Rattle.world_base.specs.declared.standing.Stage.TheVariants.{Outside}
-use Rattle.world_barrier.specs.machine.Machine.{IsKept, Stands, new_barrier}
+use Rattle.world_barrier.specs.machine.Machine.{Stands}
 
 pub new_is : (n many starved most : ℕ) → n ≤ 4294967295 → IsKept (new_words many most) (replicate n Out) (replicate n (progress 0 0)) (queue n []) (new_mutex n starved)
 new_is n many starved most few = record {

@@ -1,26 +1,7 @@
 -- What an action does to how far the barrier is, and to what parties know of it.
-use Rattle.std.proofs.Common.{◌≡◌, ◌≢◌, ℕ, ◌+◌, ◌<◌, ◌≤◌, ◌⊎◌, inl, inr, true, false, List, refl, arith, ap}
-use Rattle.std.proofs.Math.Decide.{ℕ_discrete}
-use Rattle.lock_event.specs.declared.event.Entry.{Entry}
-use Rattle.world_base.specs.declared.moves.Inputs.{Inputs}
-use Rattle.lock_program.specs.declared.mutex.Step.TheVariants as lock_step
-use Rattle.lock_program.specs.declared.end.End.TheVariants as lock_end
-use Rattle.sync_program.specs.declared.barrier.Aim.{Aim}
-use Rattle.sync_program.specs.declared.barrier.Aim.TheVariants as aim
-use Rattle.sync_program.specs.declared.barrier.Ending.{Ending}
-use Rattle.sync_program.specs.declared.barrier.Ending.TheVariants as ending
-use Rattle.sync_program.specs.declared.barrier.Found.{Found}
-use Rattle.sync_program.specs.declared.barrier.Found.TheVariants as found
-use Rattle.sync_program.specs.declared.barrier.Place.{Place}
-use Rattle.sync_program.specs.declared.barrier.Place.TheVariants.{EnterLock, WaitLock, TakeLock, Look, Join, Arrive, Complete, NotifyAll, Check, JoinAgain, ReleaseLock, ReleasingLock, Ask, CancelLock, CancellingLock, CancelLeave, Abandon}
-use Rattle.sync_program.specs.declared.barrier.Position.{Position}
-use Rattle.sync_program.specs.declared.barrier.Position.TheVariants.{At}
-use Rattle.world_barrier.specs.declared.program.words.Progress.{Progress}
-use Rattle.world_barrier.specs.declared.program.words.Words.{Words}
-use Rattle.world_barrier.specs.program.Words.{IsSound, IsPast, IsWithin, IsFollower}
-use Rattle.world_barrier.specs.program.Program.{action_of, next_of, position_after, after_lock, after_cancel, after_release, released}
-use Rattle.world_barrier.specs.program.Deeds.{Finds, words_after, arrival_after}
-use Rattle.world_barrier.specs.machine.Roles.{holds, in_lock, follows, is_counted, ending_follows, will_tell, Sure, Outcome, HasOutcome}
+use Rattle.world_barrier.proofs.Prelude.{◌≡◌, ◌≢◌, ℕ, ◌+◌, ◌<◌, ◌≤◌, ◌⊎◌, inl, inr, true, false, List, refl, arith, ap, ℕ_discrete, Entry, Inputs, LockStep as Step, End, Aim, Ending, Found, Place, EnterLock, WaitLock, TakeLock, Look, Join, Arrive, Complete, NotifyAll, Check, JoinAgain, ReleaseLock, ReleasingLock, Ask, CancelLock, CancellingLock, CancelLeave, Abandon, Position, At, Progress, Words, IsPast, IsWithin, IsFollower, action_of, next_of, position_after, after_lock, after_cancel, after_release, released, Finds, words_after, arrival_after, holds_there as holds, in_lock, follows, ending_follows, will_tell, Sure, Outcome, HasOutcome}
+use Rattle.world_barrier.specs.program.Words.{IsSound}
+use Rattle.world_barrier.specs.machine.Roles.{is_counted}
 
 abbrev pub then : Place → Words → Words
 then x w = words_after (action_of x) w
@@ -68,28 +49,28 @@ within_then _ a w s i = i
 -- ---- who follows
 
 lock_follows : (a : Aim) (f : Found) → follows (position_after (after_lock a f)) ≡ is_counted a
-lock_follows a (found.Lock lock_step.More) = refl
-lock_follows aim.Arrive (found.Lock (lock_step.End lock_end.Got)) = refl
-lock_follows aim.Check (found.Lock (lock_step.End lock_end.Got)) = refl
-lock_follows a (found.Lock (lock_step.End (lock_end.Refused r))) = refl
-lock_follows a (found.Lock (lock_step.End _)) = refl
+lock_follows a (Found.Lock Step.More) = refl
+lock_follows Aim.Arrive (Found.Lock (Step.End End.Got)) = refl
+lock_follows Aim.Check (Found.Lock (Step.End End.Got)) = refl
+lock_follows a (Found.Lock (Step.End (End.Refused r))) = refl
+lock_follows a (Found.Lock (Step.End _)) = refl
 lock_follows a _ = refl
 
 released_follows : (e : Ending) → follows (position_after (released e)) ≡ ending_follows e
-released_follows ending.Wait = refl
-released_follows ending.Follow = refl
-released_follows ending.Lead = refl
-released_follows ending.RefuseGenerations = refl
-released_follows (ending.RefuseMemory a) = refl
+released_follows Ending.Wait = refl
+released_follows Ending.Follow = refl
+released_follows Ending.Lead = refl
+released_follows Ending.RefuseGenerations = refl
+released_follows (Ending.RefuseMemory a) = refl
 
 release_follows : (e : Ending) (f : Found) → follows (position_after (after_release e f)) ≡ ending_follows e
-release_follows e (found.Lock lock_step.More) = refl
-release_follows e (found.Lock (lock_step.End x)) = released_follows e
+release_follows e (Found.Lock Step.More) = refl
+release_follows e (Found.Lock (Step.End x)) = released_follows e
 release_follows e _ = released_follows e
 
 cancel_follows : (f : Found) → follows (position_after (after_cancel f)) ≡ false
-cancel_follows (found.Lock lock_step.More) = refl
-cancel_follows (found.Lock (lock_step.End x)) = refl
+cancel_follows (Found.Lock Step.More) = refl
+cancel_follows (Found.Lock (Step.End x)) = refl
 cancel_follows _ = refl
 
 pub follower_then : (x : Place) (f : Found) (a : Progress) (w : Words) → Sure (At x) a w → (follows (At x) ≡ true → IsFollower w.size a) → follows (after x f) ≡ true → IsFollower (then x w).size (arrival_after (action_of x) w a)
@@ -100,10 +81,10 @@ follower_then (ReleaseLock e) f a w s was h = was (cc (h, release_follows e f))
 follower_then (ReleasingLock e) f a w s was h = was (cc (h, release_follows e f))
 follower_then CancelLock f a w s was h = absurd (cc (h, cancel_follows f))
 follower_then CancellingLock f a w s was h = absurd (cc (h, cancel_follows f))
-follower_then Look found.MustWait a w s was h = absurd (cc h)
-follower_then Look found.Leads a w s was h = absurd (cc h)
+follower_then Look Found.MustWait a w s was h = absurd (cc h)
+follower_then Look Found.Leads a w s was h = absurd (cc h)
 follower_then Look _ a w s was h = absurd (cc h)
-follower_then Join found.Done a w s was h = absurd (cc h)
+follower_then Join Found.Done a w s was h = absurd (cc h)
 follower_then Join _ a w s was h = absurd (cc h)
 follower_then Arrive _ a w s was h = record { counted = omega arith; unfinished = s }
 follower_then Complete _ a w s was h = absurd (cc h)
@@ -117,28 +98,28 @@ follower_then Abandon _ a w s was h = absurd (cc h)
 -- ---- what parties are sure of
 
 lock_sure : (a : Aim) (f : Found) (b : Progress) (w : Words) → Sure (position_after (after_lock a f)) b w
-lock_sure a (found.Lock lock_step.More) b w = tt
-lock_sure aim.Arrive (found.Lock (lock_step.End lock_end.Got)) b w = tt
-lock_sure aim.Check (found.Lock (lock_step.End lock_end.Got)) b w = tt
-lock_sure a (found.Lock (lock_step.End (lock_end.Refused r))) b w = tt
-lock_sure a (found.Lock (lock_step.End _)) b w = tt
+lock_sure a (Found.Lock Step.More) b w = tt
+lock_sure Aim.Arrive (Found.Lock (Step.End End.Got)) b w = tt
+lock_sure Aim.Check (Found.Lock (Step.End End.Got)) b w = tt
+lock_sure a (Found.Lock (Step.End (End.Refused r))) b w = tt
+lock_sure a (Found.Lock (Step.End _)) b w = tt
 lock_sure a _ b w = tt
 
 released_sure : (e : Ending) (b : Progress) (w : Words) → Sure (position_after (released e)) b w
-released_sure ending.Wait b w = tt
-released_sure ending.Follow b w = tt
-released_sure ending.Lead b w = tt
-released_sure ending.RefuseGenerations b w = tt
-released_sure (ending.RefuseMemory a) b w = tt
+released_sure Ending.Wait b w = tt
+released_sure Ending.Follow b w = tt
+released_sure Ending.Lead b w = tt
+released_sure Ending.RefuseGenerations b w = tt
+released_sure (Ending.RefuseMemory a) b w = tt
 
 release_sure : (e : Ending) (f : Found) (b : Progress) (w : Words) → Sure (position_after (after_release e f)) b w
-release_sure e (found.Lock lock_step.More) b w = tt
-release_sure e (found.Lock (lock_step.End x)) b w = released_sure e b w
+release_sure e (Found.Lock Step.More) b w = tt
+release_sure e (Found.Lock (Step.End x)) b w = released_sure e b w
 release_sure e _ b w = released_sure e b w
 
 cancel_sure : (f : Found) (b : Progress) (w : Words) → Sure (position_after (after_cancel f)) b w
-cancel_sure (found.Lock lock_step.More) b w = tt
-cancel_sure (found.Lock (lock_step.End x)) b w = tt
+cancel_sure (Found.Lock Step.More) b w = tt
+cancel_sure (Found.Lock (Step.End x)) b w = tt
 cancel_sure _ b w = tt
 
 module _ (i : Inputs) (p : ℕ) (a : Progress) (w : Words) (l : List (Entry ℕ)) where
@@ -150,20 +131,20 @@ module _ (i : Inputs) (p : ℕ) (a : Progress) (w : Words) (l : List (Entry ℕ)
   sure_then (ReleasingLock e) f finds s = release_sure e f a w
   sure_then CancelLock f finds s = cancel_sure f a w
   sure_then CancellingLock f finds s = cancel_sure f a w
-  sure_then Look found.MustWait finds s = finds
-  sure_then Look found.Leads finds s = finds
+  sure_then Look Found.MustWait finds s = finds
+  sure_then Look Found.Leads finds s = finds
   sure_then Look _ finds s = tt
-  sure_then Join found.Done finds s = s
+  sure_then Join Found.Done finds s = s
   sure_then Join _ finds s = tt
   sure_then Arrive _ finds s = tt
   sure_then Complete _ finds s = tt
   sure_then NotifyAll _ finds s = tt
-  sure_then Check found.Finished finds s = tt
-  sure_then Check found.Unfinished finds s = finds
+  sure_then Check Found.Finished finds s = tt
+  sure_then Check Found.Unfinished finds s = finds
   sure_then Check _ finds s = absurd finds
-  sure_then JoinAgain found.Done finds s = tt
+  sure_then JoinAgain Found.Done finds s = tt
   sure_then JoinAgain _ finds s = tt
-  sure_then Ask found.Yes finds s = tt
+  sure_then Ask Found.Yes finds s = tt
   sure_then Ask _ finds s = tt
   sure_then CancelLeave _ finds s = tt
   sure_then Abandon _ finds s = tt
@@ -171,28 +152,28 @@ module _ (i : Inputs) (p : ℕ) (a : Progress) (w : Words) (l : List (Entry ℕ)
 -- ---- how waits end
 
 lock_outcome : (a : Aim) (f : Found) (b : Progress) (w : Words) → HasOutcome (position_after (after_lock a f)) b w
-lock_outcome a (found.Lock lock_step.More) b w = tt
-lock_outcome aim.Arrive (found.Lock (lock_step.End lock_end.Got)) b w = tt
-lock_outcome aim.Check (found.Lock (lock_step.End lock_end.Got)) b w = tt
-lock_outcome a (found.Lock (lock_step.End (lock_end.Refused r))) b w = tt
-lock_outcome a (found.Lock (lock_step.End _)) b w = tt
+lock_outcome a (Found.Lock Step.More) b w = tt
+lock_outcome Aim.Arrive (Found.Lock (Step.End End.Got)) b w = tt
+lock_outcome Aim.Check (Found.Lock (Step.End End.Got)) b w = tt
+lock_outcome a (Found.Lock (Step.End (End.Refused r))) b w = tt
+lock_outcome a (Found.Lock (Step.End _)) b w = tt
 lock_outcome a _ b w = tt
 
 released_outcome : (e : Ending) (b : Progress) (w : Words) → HasOutcome (position_after (released e)) b w
-released_outcome ending.Wait b w = tt
-released_outcome ending.Follow b w = tt
-released_outcome ending.Lead b w = tt
-released_outcome ending.RefuseGenerations b w = tt
-released_outcome (ending.RefuseMemory a) b w = tt
+released_outcome Ending.Wait b w = tt
+released_outcome Ending.Follow b w = tt
+released_outcome Ending.Lead b w = tt
+released_outcome Ending.RefuseGenerations b w = tt
+released_outcome (Ending.RefuseMemory a) b w = tt
 
 release_outcome : (e : Ending) (f : Found) (b : Progress) (w : Words) → Outcome e b w → HasOutcome (position_after (after_release e f)) b w
-release_outcome e (found.Lock lock_step.More) b w h = h
-release_outcome e (found.Lock (lock_step.End x)) b w h = released_outcome e b w
+release_outcome e (Found.Lock Step.More) b w h = h
+release_outcome e (Found.Lock (Step.End x)) b w h = released_outcome e b w
 release_outcome e _ b w h = released_outcome e b w
 
 cancel_outcome : (f : Found) (b : Progress) (w : Words) → HasOutcome (position_after (after_cancel f)) b w
-cancel_outcome (found.Lock lock_step.More) b w = tt
-cancel_outcome (found.Lock (lock_step.End x)) b w = tt
+cancel_outcome (Found.Lock Step.More) b w = tt
+cancel_outcome (Found.Lock (Step.End x)) b w = tt
 cancel_outcome _ b w = tt
 
 module _ (i : Inputs) (p : ℕ) (a : Progress) (w : Words) (l : List (Entry ℕ)) where
@@ -204,34 +185,34 @@ module _ (i : Inputs) (p : ℕ) (a : Progress) (w : Words) (l : List (Entry ℕ)
   outcome_then (ReleasingLock e) f finds past was h = release_outcome e f a w h
   outcome_then CancelLock f finds past was h = cancel_outcome f a w
   outcome_then CancellingLock f finds past was h = cancel_outcome f a w
-  outcome_then Look found.MustWait finds past was h = tt
-  outcome_then Look found.Leads finds past was h = tt
+  outcome_then Look Found.MustWait finds past was h = tt
+  outcome_then Look Found.Leads finds past was h = tt
   outcome_then Look _ finds past was h = tt
-  outcome_then Join found.Done finds past was h = tt
+  outcome_then Join Found.Done finds past was h = tt
   outcome_then Join _ finds past was h = tt
   outcome_then Arrive _ finds past was h = tt
   outcome_then Complete _ finds past was h = (refl, omega arith)
   outcome_then NotifyAll _ finds past was h = h
-  outcome_then Check found.Finished finds past was h = (was refl, less a.generation w.progress.generation past.generation finds) where
+  outcome_then Check Found.Finished finds past was h = (was refl, less a.generation w.progress.generation past.generation finds) where
     less : (n m : ℕ) → n ≤ m → n ≢ m → n < m
     less n m few apart = elim (ℕ_discrete n m) as (λ _. n < m) [
       | yes e ↦ absurd (apart e)
       | no off ↦ omega (arith, few, off)
     ]
-  outcome_then Check found.Unfinished finds past was h = tt
+  outcome_then Check Found.Unfinished finds past was h = tt
   outcome_then Check _ finds past was h = absurd finds
-  outcome_then JoinAgain found.Done finds past was h = tt
+  outcome_then JoinAgain Found.Done finds past was h = tt
   outcome_then JoinAgain _ finds past was h = tt
-  outcome_then Ask found.Yes finds past was h = tt
+  outcome_then Ask Found.Yes finds past was h = tt
   outcome_then Ask _ finds past was h = tt
   outcome_then CancelLeave _ finds past was h = tt
   outcome_then Abandon _ finds past was h = tt
 
 outcome_on : (e : Ending) (x : Place) (b : Progress) (w : Words) → Outcome e b w → Outcome e b (then x w)
-outcome_on ending.Lead x b w h = h
-outcome_on ending.Follow Arrive b w h = h
-outcome_on ending.Follow Complete b w h = (let less = h.1 in (h.0, omega arith))
-outcome_on ending.Follow _ b w h = h
+outcome_on Ending.Lead x b w h = h
+outcome_on Ending.Follow Arrive b w h = h
+outcome_on Ending.Follow Complete b w h = (let less = h.1 in (h.0, omega arith))
+outcome_on Ending.Follow _ b w h = h
 outcome_on _ x b w h = tt
 
 pub outcome_others : (x : Place) (y : Position) (b : Progress) (w : Words) → HasOutcome y b w → HasOutcome y b (then x w)

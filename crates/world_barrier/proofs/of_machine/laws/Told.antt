@@ -1,30 +1,7 @@
 -- Whom a finished generation has told.
-use Rattle.std.proofs.Common.{◌≡◌, ◌≢◌, ℕ, ◌-◌, ◌<◌, ◌≤◌, true, false, Bool, List, [], ◌∷◌, length, refl, ap, arith, sym, ◌∙◌, subst, get_or-set_same, get_or-set_other}
-use Rattle.std.proofs.Math.ListN.{set}
-use Rattle.std.proofs.Math.Decide.{ℕ_discrete}
-use Rattle.lock_event.specs.declared.event.Entry.{Entry}
-use Rattle.lock_event.specs.declared.event.Mark.TheVariants as mark
-use Rattle.lock_event.specs.Lists.{marked_count}
-use Rattle.world_base.specs.queue.Parties.{entries_of, is_unmarked}
+use Rattle.world_barrier.proofs.Prelude.{◌≡◌, ◌≢◌, ℕ, ◌-◌, ◌<◌, ◌≤◌, true, false, Bool, List, [], ◌∷◌, length, refl, ap, arith, sym, ◌∙◌, subst, get_or-set_same, get_or-set_other, set, ℕ_discrete, Entry, marked_count, entries_of, is_unmarked, unmarked_before, Inputs, joins, asks, leaves, notifies, Action, Found, Place, EnterLock, WaitLock, TakeLock, Look, Join, Arrive, Complete, NotifyAll, Check, JoinAgain, ReleaseLock, ReleasingLock, Ask, CancelLock, CancellingLock, CancelLeave, Abandon, Position, Out, At, Progress, Words, progress, action_of, Finds, arrival_after, entries_after, everyone, listed, is_late, will_tell, Sure, position_at, arrival_at, AllTold}
+use Rattle.lock_event.specs.declared.event.Mark.{Mark}
 use Rattle.world_base.proofs.of_queue.Marks.{never_unlisted, all_marked}
-use Rattle.world_base.proofs.Lists.{unmarked_before}
-use Rattle.world_base.specs.declared.moves.Inputs.{Inputs}
-use Rattle.world_base.specs.Steps.{joins, asks, leaves, notifies}
-use Rattle.sync_program.specs.declared.barrier.Action.{Action}
-use Rattle.sync_program.specs.declared.barrier.Action.TheVariants as act
-use Rattle.sync_program.specs.declared.barrier.Found.{Found}
-use Rattle.sync_program.specs.declared.barrier.Found.TheVariants as found
-use Rattle.sync_program.specs.declared.barrier.Place.{Place}
-use Rattle.sync_program.specs.declared.barrier.Place.TheVariants.{EnterLock, WaitLock, TakeLock, Look, Join, Arrive, Complete, NotifyAll, Check, JoinAgain, ReleaseLock, ReleasingLock, Ask, CancelLock, CancellingLock, CancelLeave, Abandon}
-use Rattle.sync_program.specs.declared.barrier.Position.{Position}
-use Rattle.sync_program.specs.declared.barrier.Position.TheVariants.{Out, At}
-use Rattle.world_barrier.specs.declared.program.words.Progress.{Progress}
-use Rattle.world_barrier.specs.declared.program.words.Words.{Words}
-use Rattle.world_barrier.specs.program.Words.{progress}
-use Rattle.world_barrier.specs.program.Program.{action_of}
-use Rattle.world_barrier.specs.program.Deeds.{Finds, arrival_after, entries_after, everyone}
-use Rattle.world_barrier.specs.machine.Roles.{listed, is_late, will_tell, Sure}
-use Rattle.world_barrier.specs.machine.Machine.{position_at, arrival_at, AllTold}
 use Rattle.world_barrier.proofs.of_machine.laws.Rows.{then, after, same_generation}
 use Rattle.world_barrier.proofs.of_machine.laws.Listed.{lock_listed, cancel_listed}
 
@@ -33,18 +10,18 @@ few_marked [] = omega arith
 few_marked (e ∷ es) = grind (arith, few_marked es)
 
 -- who is notified with all others is marked
-told_everyone : (j : ℕ) (l : List (Entry ℕ)) → length l ≤ 4294967295 → is_unmarked j (entries_after 0 act.NotifyAll found.Done l) ≡ true → ⊥
+told_everyone : (j : ℕ) (l : List (Entry ℕ)) → length l ≤ 4294967295 → is_unmarked j (entries_after 0 Action.NotifyAll Found.Done l) ≡ true → ⊥
 told_everyone j l few u =
     let less : marked_count l ≤ length l = few_marked l in
     let enough : length l ≤ everyone - marked_count l = omega arith in
-    all_marked j mark.Notified (everyone - marked_count l) l refl enough u
+    all_marked j Mark.Notified (everyone - marked_count l) l refl enough u
 
 others_unmarked : (p : ℕ) (a : Action) (f : Found) (l : List (Entry ℕ)) (j : ℕ) → j ≢ p → is_unmarked j (entries_after p a f l) ≡ true → is_unmarked j l ≡ true
-others_unmarked p act.Join found.Done l j apart h = unmarked_before p joins l j apart h
-others_unmarked p act.Join _ l j apart h = h
-others_unmarked p act.Ask f l j apart h = unmarked_before p asks l j apart h
-others_unmarked p act.Leave f l j apart h = unmarked_before p leaves l j apart h
-others_unmarked p act.NotifyAll f l j apart h = unmarked_before p (notifies everyone) l j apart h
+others_unmarked p Action.Join Found.Done l j apart h = unmarked_before p joins l j apart h
+others_unmarked p Action.Join _ l j apart h = h
+others_unmarked p Action.Ask f l j apart h = unmarked_before p asks l j apart h
+others_unmarked p Action.Leave f l j apart h = unmarked_before p leaves l j apart h
+others_unmarked p Action.NotifyAll f l j apart h = unmarked_before p (notifies everyone) l j apart h
 others_unmarked p _ f l j apart h = h
 
 module _ (i : Inputs) (p : ℕ) (a : Progress) (w : Words) (l : List (Entry ℕ)) where
@@ -66,20 +43,20 @@ module _ (i : Inputs) (p : ℕ) (a : Progress) (w : Words) (l : List (Entry ℕ)
   own_told (ReleasingLock e) f finds s own u late was = was u refl
   own_told CancelLock f finds s own u late was = absurd (never_unlisted p _ (own ∙ cancel_listed f) u)
   own_told CancellingLock f finds s own u late was = absurd (never_unlisted p _ (own ∙ cancel_listed f) u)
-  own_told Look found.MustWait finds s own u late was = absurd (never_unlisted p _ own u)
-  own_told Look found.Leads finds s own u late was = absurd (never_unlisted p _ own u)
+  own_told Look Found.MustWait finds s own u late was = absurd (never_unlisted p _ own u)
+  own_told Look Found.Leads finds s own u late was = absurd (never_unlisted p _ own u)
   own_told Look _ finds s own u late was = absurd (never_unlisted p _ own u)
-  own_told Join found.Done finds s own u late was = absurd (cc late)
+  own_told Join Found.Done finds s own u late was = absurd (cc late)
   own_told Join _ finds s own u late was = absurd (never_unlisted p _ own u)
   own_told Arrive _ finds s own u late was = refl
   own_told Complete _ finds s own u late was = refl
   own_told NotifyAll _ finds s own u late was = absurd (never_unlisted p _ own u)
-  own_told Check found.Finished finds s own u late was = absurd (never_unlisted p _ own u)
+  own_told Check Found.Finished finds s own u late was = absurd (never_unlisted p _ own u)
   own_told Check _ finds s own u late was = absurd (never_unlisted p _ own u)
-  own_told JoinAgain found.Done finds s own u late was = s
+  own_told JoinAgain Found.Done finds s own u late was = s
   own_told JoinAgain _ finds s own u late was = absurd (never_unlisted p _ own u)
-  own_told Ask found.Yes finds s own u late was = absurd (never_unlisted p _ own u)
-  own_told Ask found.No finds s own u late was = was (rw finds at u) refl
+  own_told Ask Found.Yes finds s own u late was = absurd (never_unlisted p _ own u)
+  own_told Ask Found.No finds s own u late was = was (rw finds at u) refl
   own_told Ask _ finds s own u late was = absurd finds
   own_told CancelLeave _ finds s own u late was = absurd (never_unlisted p _ own u)
   own_told Abandon _ finds s own u late was = absurd (never_unlisted p _ own u)

@@ -1,28 +1,6 @@
 -- Where a call begins or goes on.
-use Rattle.std.proofs.Common.{◌≡◌, ℕ, ◌<◌, List, length, get_or, true, false, Some, refl, subst, ap, sym, ◌∙◌}
+use Rattle.world_barrier.proofs.Prelude.{◌≡◌, ℕ, ◌<◌, List, length, get_or, true, false, Some, refl, subst, ap, sym, ◌∙◌, false≢true, Call, Inputs, What, Begin, Go, Rest, Stage, Outside, Inside, Forgotten, Within, some_eq, none_some, both, call_at, polls_again, Aim, Place, EnterLock, WaitLock, Ask, CancelLock, CancelLeave, Abandon, Position, Out, Made, Locking, Waiting, At, Progress, Words, place_for, listed, in_lock, follows, is_late, will_tell, Sure, HasOutcome, knows, runs, is_begun, goes_with, position_at}
 use Rattle.std.proofs.lemmas.List.{get_or_default}
-use Rattle.std.proofs.lemmas.Bool.{false≢true}
-use Rattle.world_base.specs.declared.moves.Call.TheVariants as call
-use Rattle.world_base.specs.declared.moves.Inputs.{Inputs}
-use Rattle.world_base.specs.declared.moves.What.{What}
-use Rattle.world_base.specs.declared.moves.What.TheVariants.{Begin, Go}
-use Rattle.world_base.specs.declared.standing.Rest.{Rest}
-use Rattle.world_base.specs.declared.standing.Rest.TheVariants as rest
-use Rattle.world_base.specs.declared.standing.Stage.{Stage}
-use Rattle.world_base.specs.declared.standing.Stage.TheVariants.{Outside, Inside, Forgotten}
-use Rattle.world_base.specs.declared.standing.Within.{Within}
-use Rattle.world_base.proofs.Equations.{some_eq, none_some, both}
-use Rattle.world_base.specs.table.Stages.{call_at, polls_again}
-use Rattle.sync_program.specs.declared.barrier.Aim.TheVariants as aim
-use Rattle.sync_program.specs.declared.barrier.Place.{Place}
-use Rattle.sync_program.specs.declared.barrier.Place.TheVariants.{EnterLock, WaitLock, Ask, CancelLock, CancelLeave, Abandon}
-use Rattle.sync_program.specs.declared.barrier.Position.{Position}
-use Rattle.sync_program.specs.declared.barrier.Position.TheVariants.{Out, Made, Locking, Waiting, At}
-use Rattle.world_barrier.specs.declared.program.words.Progress.{Progress}
-use Rattle.world_barrier.specs.declared.program.words.Words.{Words}
-use Rattle.world_barrier.specs.program.Program.{place_for}
-use Rattle.world_barrier.specs.machine.Roles.{listed, in_lock, follows, is_late, will_tell, Sure, HasOutcome}
-use Rattle.world_barrier.specs.machine.Machine.{knows, runs, is_begun, goes_with, position_at}
 
 -- A party has as much where its call begins as where it stood and knows as much, and its place is one of that call's program.
 pub record Fits (w : Within) (x : Position) (from : Place) : Type 0 where
@@ -45,40 +23,40 @@ begun : (what : What) (v w : Within) (x : Position) (from : Place) → place_for
 begun what v w x from starts e h = let Q : Within → Type 0 = λ u. Fits u x from in record { from = from; starts = starts; fits = subst Q (some_eq e) h }
 
 -- one stage after the other, since each case of a match over all of them at once would be told apart from all others
-idle : (what : What) (w : Within) → call_at knows (Outside rest.Idle) what ≡ Some w → Starts what w Out
-idle (Begin call.Wait i) w e = begun _ _ w Out (EnterLock aim.Arrive) refl e (record { stands = refl; lock = refl; counted = λ h. h; sure = λ a v h. tt; outcome = λ a v h. tt; late = refl; tells = refl; runs = refl })
+idle : (what : What) (w : Within) → call_at knows (Outside Rest.Idle) what ≡ Some w → Starts what w Out
+idle (Begin Call.Wait i) w e = begun _ _ w Out (EnterLock Aim.Arrive) refl e (record { stands = refl; lock = refl; counted = λ h. h; sure = λ a v h. tt; outcome = λ a v h. tt; late = refl; tells = refl; runs = refl })
 idle (Begin _ i) w e = absurd (none_some e)
 idle (Go i) w e = absurd (none_some e)
 
-finished : (what : What) (w : Within) → call_at knows (Outside rest.Finished) what ≡ Some w → polls_again (Outside rest.Finished) what ≡ false → Starts what w Out
-finished (Begin call.Wait i) w e n = begun _ _ w Out (EnterLock aim.Arrive) refl e (record { stands = refl; lock = refl; counted = λ h. h; sure = λ a v h. tt; outcome = λ a v h. tt; late = refl; tells = refl; runs = refl })
-finished (Begin call.Drop i) w e n = begun _ _ w Out Abandon refl e (record { stands = refl; lock = refl; counted = λ h. h; sure = λ a v h. tt; outcome = λ a v h. tt; late = refl; tells = refl; runs = refl })
-finished (Begin call.Poll i) w e n = absurd (false≢true (sym n))
+finished : (what : What) (w : Within) → call_at knows (Outside Rest.Finished) what ≡ Some w → polls_again (Outside Rest.Finished) what ≡ false → Starts what w Out
+finished (Begin Call.Wait i) w e n = begun _ _ w Out (EnterLock Aim.Arrive) refl e (record { stands = refl; lock = refl; counted = λ h. h; sure = λ a v h. tt; outcome = λ a v h. tt; late = refl; tells = refl; runs = refl })
+finished (Begin Call.Drop i) w e n = begun _ _ w Out Abandon refl e (record { stands = refl; lock = refl; counted = λ h. h; sure = λ a v h. tt; outcome = λ a v h. tt; late = refl; tells = refl; runs = refl })
+finished (Begin Call.Poll i) w e n = absurd (false≢true (sym n))
 finished (Begin _ i) w e n = absurd (none_some e)
 finished (Go i) w e n = absurd (none_some e)
 
-polled : (i : Inputs) (w : Within) (x : Position) → goes_with (Outside rest.Pending) x ≡ true → call_at knows (Outside rest.Pending) (Begin call.Poll i) ≡ Some w → Starts (Begin call.Poll i) w x
+polled : (i : Inputs) (w : Within) (x : Position) → goes_with (Outside Rest.Pending) x ≡ true → call_at knows (Outside Rest.Pending) (Begin Call.Poll i) ≡ Some w → Starts (Begin Call.Poll i) w x
 polled i w (Made m) g e = begun _ _ w (Made m) (EnterLock m) refl e (record { stands = refl; lock = refl; counted = λ h. h; sure = λ a v h. tt; outcome = λ a v h. tt; late = refl; tells = refl; runs = refl })
 polled i w (Locking m) g e = begun _ _ w (Locking m) (WaitLock m) refl e (record { stands = refl; lock = refl; counted = λ h. h; sure = λ a v h. tt; outcome = λ a v h. tt; late = refl; tells = refl; runs = refl })
 polled i w Waiting g e = begun _ _ w Waiting Ask refl e (record { stands = refl; lock = refl; counted = λ h. h; sure = λ a v h. tt; outcome = λ a v h. tt; late = refl; tells = refl; runs = refl })
 polled i w _ g e = absurd (false≢true g)
 
-dropped : (i : Inputs) (w : Within) (x : Position) → goes_with (Outside rest.Pending) x ≡ true → call_at knows (Outside rest.Pending) (Begin call.Drop i) ≡ Some w → Starts (Begin call.Drop i) w x
+dropped : (i : Inputs) (w : Within) (x : Position) → goes_with (Outside Rest.Pending) x ≡ true → call_at knows (Outside Rest.Pending) (Begin Call.Drop i) ≡ Some w → Starts (Begin Call.Drop i) w x
 dropped i w (Made m) g e = begun _ _ w (Made m) Abandon refl e (record { stands = refl; lock = refl; counted = λ h. absurd (false≢true h); sure = λ a v h. tt; outcome = λ a v h. tt; late = refl; tells = refl; runs = refl })
 dropped i w (Locking m) g e = begun _ _ w (Locking m) CancelLock refl e (record { stands = refl; lock = refl; counted = λ h. absurd (false≢true h); sure = λ a v h. tt; outcome = λ a v h. tt; late = refl; tells = refl; runs = refl })
 dropped i w Waiting g e = begun _ _ w Waiting CancelLeave refl e (record { stands = refl; lock = refl; counted = λ h. h; sure = λ a v h. tt; outcome = λ a v h. tt; late = refl; tells = refl; runs = refl })
 dropped i w _ g e = absurd (false≢true g)
 
-pending : (what : What) (w : Within) (x : Position) → goes_with (Outside rest.Pending) x ≡ true → call_at knows (Outside rest.Pending) what ≡ Some w → Starts what w x
-pending (Begin call.Poll i) w x g e = polled i w x g e
-pending (Begin call.Drop i) w x g e = dropped i w x g e
+pending : (what : What) (w : Within) (x : Position) → goes_with (Outside Rest.Pending) x ≡ true → call_at knows (Outside Rest.Pending) what ≡ Some w → Starts what w x
+pending (Begin Call.Poll i) w x g e = polled i w x g e
+pending (Begin Call.Drop i) w x g e = dropped i w x g e
 pending (Begin _ i) w x g e = absurd (none_some e)
 pending (Go i) w x g e = absurd (none_some e)
 
 resting : (r : Rest) (what : What) (w : Within) (x : Position) → goes_with (Outside r) x ≡ true → call_at knows (Outside r) what ≡ Some w → polls_again (Outside r) what ≡ false → Starts what w x
-resting rest.Idle what w Out g e n = idle what w e
-resting rest.Finished what w Out g e n = finished what w e n
-resting rest.Pending what w x g e n = pending what w x g e
+resting Rest.Idle what w Out g e n = idle what w e
+resting Rest.Finished what w Out g e n = finished what w e n
+resting Rest.Pending what w x g e n = pending what w x g e
 resting _ what w _ g e n = absurd (false≢true g)
 
 pub starts : (s : Stage) (what : What) (w : Within) (x : Position) → goes_with s x ≡ true → call_at knows s what ≡ Some w → polls_again s what ≡ false → Starts what w x

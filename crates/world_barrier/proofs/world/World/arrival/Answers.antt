@@ -1,9 +1,6 @@
 -- The number of a counted wait.
-use Rattle.std.proofs.Common.{◌≡◌, true, false, Some, ap, sym, ◌∙◌}
-use Rattle.world_barrier.specs.machine.Waits.{number_of, is_counted, wait_at}
-use Rattle.world_barrier.specs.program.Words.{arrivals_at}
-use Rattle.world_barrier.specs.machine.Machine.{Barrier, position_at, arrival_at}
-use Rattle.world_barrier.specs.State.{wait_of}
+use Rattle.world_barrier.proofs.Prelude.{◌≡◌, true, false, Some, ap, sym, ◌∙◌, is_counted, wait_at, arrivals_at, Barrier, position_at, arrival_at, wait_of}
+use Rattle.world_barrier.specs.machine.Waits.{number_of}
 use Rattle.world_barrier.proofs.Counted.{numbered, unnumbered}
 use Rattle.world_barrier.proofs.table.Seen.{wait_seen}
 use Rattle.world_barrier.proofs.world.World.arrival.Goals as goal

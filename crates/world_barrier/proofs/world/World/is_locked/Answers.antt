@@ -1,9 +1,6 @@
 -- The word is held exactly if there is a holder.
-use Rattle.std.proofs.Common.{ap, ◌∙◌}
+use Rattle.world_barrier.proofs.Prelude.{ap, ◌∙◌, holders, held_seen, Barrier}
 use Rattle.std.specs.Prelude.{is_some}
-use Rattle.world_mutex.specs.machine.Mutex.{holders}
-use Rattle.world_mutex.proofs.of_machine.callers.Holders.{held_seen}
-use Rattle.world_barrier.specs.machine.Machine.{Barrier}
 use Rattle.world_barrier.proofs.world.World.is_locked.Goals as goal
 
 pub returns : goal.returns

@@ -1,9 +1,5 @@
 -- The word's number is the size of the starved set.
-use Rattle.std.proofs.Common.{ap, sym, ◌∙◌}
-use Rattle.world_base.specs.Rosters.{how_many}
-use Rattle.world_mutex.specs.machine.Mutex.{starved}
-use Rattle.world_mutex.proofs.of_machine.callers.Holders.{how_many_counted}
-use Rattle.world_barrier.specs.machine.Machine.{Barrier}
+use Rattle.world_barrier.proofs.Prelude.{ap, sym, ◌∙◌, how_many, starved, how_many_counted, Barrier}
 use Rattle.world_barrier.proofs.world.World.starved.Goals as goal
 
 pub returns : goal.returns

@@ -1,8 +1,5 @@
 -- A new table is seen as a new World.
-use Rattle.std.proofs.Common.{ap, ◌∙◌}
-use Rattle.world_base.specs.table.Tables.{new_table}
-use Rattle.world_barrier.specs.State.{new_world}
-use Rattle.world_barrier.specs.View.{view_of}
+use Rattle.world_barrier.proofs.Prelude.{ap, ◌∙◌, new_table, new_world, view_of}
 use Rattle.world_barrier.proofs.table.Opening.{starts_new}
 use Rattle.world_barrier.proofs.world.World.with_limits.Goals as goal
 

@@ -1,12 +1,5 @@
 -- An action of one party is one of its program, and keeps what always holds of the barrier.
-use Rattle.std.proofs.Common.{◌≡◌, ◌<◌, true, length, ap, sym, ◌∙◌}
-use Rattle.std.proofs.Math.ListN.{set}
-use Rattle.world_base.specs.queue.Queues.{queue}
-use Rattle.world_barrier.specs.program.Words.{progress}
-use Rattle.world_barrier.specs.program.Program.{action_of, position_after}
-use Rattle.world_barrier.specs.program.Locks.{OnLock}
-use Rattle.world_barrier.specs.program.Deeds.{Finds, words_after, arrival_after, entries_after}
-use Rattle.world_barrier.specs.machine.Machine.{answer_by, goes_with, position_at, arrival_at}
+use Rattle.world_barrier.proofs.Prelude.{◌≡◌, ◌<◌, true, length, ap, sym, ◌∙◌, set, queue, progress, action_of, position_after, OnLock, Finds, words_after, arrival_after, entries_after, answer_by, goes_with, position_at, arrival_at}
 use Rattle.world_barrier.proofs.of_machine.laws.Rows.{after}
 use Rattle.world_barrier.proofs.of_machine.stages.Starts.{Began, began, read_at}
 use Rattle.world_barrier.proofs.of_machine.laws.CanDo.{entries_are}

@@ -1,7 +1,5 @@
 -- The number of an arrival is the one that its generation and count stand for.
-use Rattle.std.proofs.Common.{ℕ, ◌≡◌, ◌*◌, ◌+◌, zero, suc, refl}
-use Rattle.world_barrier.specs.declared.program.words.Progress.{Progress}
-use Rattle.world_barrier.specs.program.Words.{arrivals_at}
+use Rattle.world_barrier.proofs.Prelude.{ℕ, ◌≡◌, ◌*◌, ◌+◌, zero, suc, refl, Progress, arrivals_at}
 use Rattle.world_barrier.proofs.program.words.Progress.number.Goals as goal
 
 of_some : (size : ℕ) (x : Progress) → (size ≡ 0 → ⊥) → size * x.generation + x.count ≡ arrivals_at size x
