@@ -6,6 +6,8 @@
 #![tactic(auto)]
 
 #[cfg(test)]
+mod lent_tests;
+#[cfg(test)]
 mod plain;
 #[cfg(test)]
 mod random;

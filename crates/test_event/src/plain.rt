@@ -116,6 +116,18 @@ impl Plain {
         }
     }
 
+    /// Exchanges what the entry keeps, if it waits: what it kept before.
+    pub(crate) fn exchange(&mut self, id: EntryId, waker: Option<u32>) -> Option<Option<u32>> {
+        let place = self.place(id)?;
+        let kept = self.entries.get_mut(place)?;
+        if kept.mark.is_marked() {
+            return None;
+        }
+        let before = kept.waker;
+        kept.waker = waker;
+        Some(before)
+    }
+
     /// The waker of the first notified entry that has one is taken out.
     pub(crate) fn next_waker(&mut self) -> Option<u32> {
         for kept in self.entries.iter_mut() {

@@ -3,6 +3,7 @@
 use crate::plain::Plain;
 use crate::random::Random;
 use lock_event::{EntryId, Event};
+use std::mem;
 use std::process::Abort;
 
 /// The list, and the sequence that it has to be.
@@ -60,6 +61,15 @@ impl Both {
         self.list.ask(id, waker) == self.plain.ask(id, waker)
     }
 
+    fn exchange(&mut self, id: EntryId, waker: Option<u32>) -> bool {
+        let waits = self.list.is_waiting(id);
+        let before = match self.list.waker_mut(id) {
+            Some(kept) => Some(mem::replace(kept, waker)),
+            None => None,
+        };
+        waits == before.is_some() && before == self.plain.exchange(id, waker)
+    }
+
     fn next_waker(&mut self) -> bool {
         self.list.next_waker() == self.plain.next_waker()
     }
@@ -80,7 +90,7 @@ impl Both {
     fn operate(&mut self, random: &mut Random) -> bool {
         let waker = random.waker();
         let n = random.below(4);
-        let operation = random.below(16);
+        let operation = random.below(18);
         let Some(id) = self.picked(random) else {
             return self.join();
         };
@@ -93,6 +103,8 @@ impl Both {
             10 => self.poll(id, waker),
             11 | 12 => self.ask(id, Some(waker)),
             13 => self.ask(id, None),
+            14 => self.exchange(id, Some(waker)),
+            15 => self.exchange(id, None),
             _ => self.next_waker(),
         }
     }

@@ -8,6 +8,8 @@
 #[cfg(test)]
 mod event;
 #[cfg(test)]
+mod in_place;
+#[cfg(test)]
 mod meeting;
 #[cfg(test)]
 mod same;
