@@ -8,4 +8,8 @@ mod mutex_tests;
 #[cfg(test)]
 mod party;
 #[cfg(test)]
+mod second_look;
+#[cfg(test)]
 mod setting;
+#[cfg(test)]
+mod whole;

@@ -4,11 +4,12 @@ ghost use Rattle.std.specs.Prelude.{◌<◌};
 
 use crate::party::{Party, end, entry_of, new_party, put, release, set_starving, take, value};
 use crate::setting::{Setting, Table, Ways};
+use crate::whole::{leave, poll};
 use futures::test::MockTask;
 use lock_driver::RawMutex;
 use lock_event::{EntryId, Mark};
-use lock_program::End;
 use lock_program::mutex::{LockCall, Place};
+use lock_program::{End, Refusal};
 use lock_words::Words;
 use lockstep::{Acted, Bench, Beside, Did, Dids, Shell, moved};
 use std::alloc::{AllocFailed, Global};
@@ -27,6 +28,10 @@ pub(crate) enum Deed {
     Take,
     /// A whole release, past the driver.
     Release,
+    /// A whole poll as the public type makes it; whether the party has waited for too long.
+    Poll(bool),
+    /// The drop of a future that waits, whole, as the public type makes it.
+    Leave,
 }
 
 /// How a party stands.
@@ -127,9 +132,16 @@ fn deed_of(stage: Stage, place: Place, ways: Ways, number: usize) -> Option<Deed
         (Stage::Fresh | Stage::Idle, 2) if ways == Ways::All => Some(Deed::Take),
         (Stage::Pending, 0) => Some(Deed::Begin(Call::Poll)),
         (Stage::Pending, 1) => Some(Deed::Begin(Call::Drop)),
+        (Stage::Fresh | Stage::Idle, 1) | (Stage::Pending, 2) if ways == Ways::Whole => {
+            Some(Deed::Poll(false))
+        }
+        (Stage::Pending, 3) if ways == Ways::Whole => Some(Deed::Leave),
+        (Stage::Pending, 4) if ways == Ways::Whole && matches!(place, Place::Ask) => {
+            Some(Deed::Poll(true))
+        }
         (Stage::Holding, 0) if ways == Ways::Public => Some(Deed::Release),
         (Stage::Holding, 0) => Some(Deed::Begin(Call::Drop)),
-        (Stage::Holding, 1) if ways == Ways::All => Some(Deed::Release),
+        (Stage::Holding, 1) if ways == Ways::All || ways == Ways::Whole => Some(Deed::Release),
         (Stage::Inside(_), 0) => Some(Deed::Go(false)),
         (Stage::Inside(_), 1) if matches!(place, Place::Retry) => Some(Deed::Go(true)),
         _ => None,
@@ -286,6 +298,39 @@ impl Member {
         let [first, put, _] = self.begin(bench, task, Call::Lock).moves;
         Dids {
             moves: [failed, first, put],
+        }
+    }
+
+    // A whole poll as the public type makes it, or the drop of a future that waits. What the allocator did is an input of the
+    // World's, and the shell is asked for it.
+    fn whole<R: Wait>(
+        &mut self,
+        bench: &Bench<R>,
+        task: &MockTask,
+        starving: Option<bool>,
+    ) -> Dids {
+        let (call, end) = match (starving, self.stage) {
+            (None, _) => (Call::Drop, leave(&mut self.party, bench)),
+            (Some(starving), stage) => {
+                set_starving(&mut self.party, bench, starving);
+                let end = task.enter(|cx| poll(&mut self.party, bench, cx));
+                match stage {
+                    Stage::Fresh | Stage::Idle => (Call::Lock, end),
+                    _ => (Call::Poll, end),
+                }
+            }
+        };
+        let answer = match end {
+            Some(end) => self.ended(false, end),
+            None => Answer::NotPossible,
+        };
+        let given = Inputs {
+            memory: answer != Answer::Refused(Refusal::Memory.number()),
+            ..inputs(starving == Some(true))
+        };
+        let put = self.put(answer);
+        Dids {
+            moves: [Some(moved(What::Begin(call, given), answer)), put, None],
         }
     }
 
@@ -479,6 +524,10 @@ impl Shell for MutexShell {
         deed_of(member.stage, member.party.place, self.ways, number)
     }
 
+    fn is_whole(deed: Deed) -> bool {
+        matches!(deed, Deed::Poll(_) | Deed::Leave)
+    }
+
     fn carry_out<R: Wait>(&mut self, bench: &Bench<R>, party: usize, deed: Deed) -> Dids {
         let goes_on = self.ways == Ways::Public;
         if let (Some(member), Some(task)) = (self.members.get_mut(party), bench.task(party)) {
@@ -487,6 +536,8 @@ impl Shell for MutexShell {
                 Deed::Go(starving) => member.go(bench, task, starving),
                 Deed::Take => member.take(bench, task, goes_on),
                 Deed::Release => member.release(bench),
+                Deed::Poll(starving) => member.whole(bench, task, Some(starving)),
+                Deed::Leave => member.whole(bench, task, None),
             };
         }
         Dids {

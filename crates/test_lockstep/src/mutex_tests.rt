@@ -59,6 +59,26 @@ fn three_parties_go_on_alike_in_each_state(rt: HostRuntime) {
 }
 
 #[test]
+fn whole_polls_go_alike_in_each_state(rt: HostRuntime) {
+    let of_two = setting(&rt, 2, Ways::Whole);
+    let of_three = setting(&rt, 3, Ways::Whole);
+    if let Some(bench) = Bench::new(rt, 3) {
+        in_each_state(&bench, of_two);
+        in_each_state(&bench, of_three);
+    }
+}
+
+#[test]
+fn whole_polls_are_refused_alike(rt: HostRuntime) {
+    let of_three = setting(&rt, 3, Ways::Whole);
+    if let Some(bench) = Bench::new(rt, 3) {
+        for limit in [0, 1] {
+            in_each_state(&bench, Setting { limit, ..of_three });
+        }
+    }
+}
+
+#[test]
 fn three_parties_are_refused_alike(rt: HostRuntime) {
     let of_three = setting(&rt, 3, Ways::All);
     if let Some(bench) = Bench::new(rt, 3) {
@@ -92,7 +112,7 @@ fn by_chance<R: Wait + Abort>(bench: &Bench<R>, setting: Setting) {
 fn four_parties_go_alike_by_chance(rt: HostRuntime) {
     let of_four = setting(&rt, 4, Ways::Driver);
     if let Some(bench) = Bench::new(rt, 4) {
-        for ways in [Ways::Driver, Ways::Public, Ways::All] {
+        for ways in [Ways::Driver, Ways::Public, Ways::All, Ways::Whole] {
             by_chance(&bench, Setting { ways, ..of_four });
         }
     }

@@ -10,11 +10,11 @@ use std::sync::{Arc, Wait};
 use std::time::Instant;
 
 /// A party of a mutex over a number.
-pub(crate) type Party = Walker<MutexParty<u64>>;
+pub(crate) type Party = Walker<MutexParty<RawMutex<u64>>>;
 
 /// A party outside every call.
 pub(crate) fn new_party(shared: Arc<RawMutex<u64>>) -> Party {
-    let party = shared.party();
+    let party = MutexParty::new(&*shared, shared.words.sit());
     Walker {
         shared,
         party,
@@ -46,15 +46,15 @@ pub(crate) fn take(walker: &mut Party) -> bool {
         Place::Out => match walker.shared.take() {
             Some((seat, hold)) => {
                 let held = MutexParty {
+                    entry: None,
+                    since: None,
                     seat,
                     hold: Some(hold),
-                    entry: None,
                     owed: None,
-                    since: None,
                 };
                 let out = mem::replace(&mut walker.party, held);
                 walker.place = Place::Holding;
-                out.end(&walker.shared.words);
+                out.end(&*walker.shared).rise();
                 true
             }
             None => false,
@@ -80,10 +80,10 @@ fn entries<R: Wait>(shared: &RawMutex<u64>, rt: &R) -> Entries {
 pub(crate) fn release<R: Wait>(walker: &mut Party, rt: &R) -> bool {
     match walker.place {
         Place::Holding => {
-            let fresh = walker.shared.party();
+            let fresh = MutexParty::new(&*walker.shared, walker.shared.words.sit());
             let held = mem::replace(&mut walker.party, fresh);
             walker.place = Place::Out;
-            let (seat, hold) = held.into_held(&walker.shared.words);
+            let (seat, hold) = held.into_held(&*walker.shared);
             let shared = &walker.shared;
             let before = entries(shared, rt);
             let is_so = AtomicBool::new(false);
@@ -138,10 +138,12 @@ pub(crate) fn end<R: Wait>(walker: Party, bench: &Bench<R>, number: usize) {
     } = walker;
     match place {
         Place::Holding => {
-            let (seat, hold) = party.into_held(&shared.words);
+            let (seat, hold) = party.into_held(&*shared);
             shared.release(bench, seat, hold);
         }
-        Place::Out | Place::Ask | Place::AskStarved => shared.cancel(bench, party, place),
+        Place::Out | Place::Ask | Place::AskStarved => {
+            party.cancel(&*shared, bench, place).rise();
+        }
         _ => {
             for _ in bench.forever() {}
             unreachable!()

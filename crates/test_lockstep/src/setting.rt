@@ -7,10 +7,12 @@ use std::alloc::Global;
 pub(crate) enum Ways {
     /// By the driver.
     Driver,
-    /// As the public type goes: what is done most goes past the driver.
+    /// As the public type goes, one action at a time: a first take and a release go past the driver.
     Public,
     /// Both, and each call that there is.
     All,
+    /// By the driver, or as the public type goes with each poll and drop whole, while others are inside a call.
+    Whole,
 }
 
 /// Which table the World goes by.

@@ -1,11 +1,11 @@
 //! A party of a shared read-write lock, driven by single actions.
 
-use async_driver::Carries;
+use async_driver::{Carries, Listed};
 use lock_event::EntryId;
 use lock_program::mutex::Place as TurnPlace;
 use lock_program::rwlock::{Place, RwLockCall};
 use lockstep::{Acted, Bench, Walker};
-use rwlock_driver::{AtList, Call, RawRwLock, RwLockParty, Standing};
+use rwlock_driver::{Call, RawRwLock, RwLockParty, Standing};
 use std::sync::{Arc, Wait};
 use std::time::Instant;
 
@@ -32,12 +32,12 @@ const LONG: u64 = 501;
 /// Puts the clock so that the party has waited for too long, or hasn't.
 pub(crate) fn set_starving<R: Wait>(walker: &mut Party, bench: &Bench<R>, is_starving: bool) {
     bench.set_clock(0);
-    walker.party.since = Instant::now(bench).ok();
+    walker.party.turn.since = Instant::now(bench).ok();
     bench.set_clock(if is_starving { LONG } else { 0 });
 }
 
-fn id_of(at: &AtList) -> Option<EntryId> {
-    match &at.entry {
+fn id_of(entry: &Option<Listed>) -> Option<EntryId> {
+    match entry {
         Some(listed) => Some(listed.id()),
         None => None,
     }
@@ -54,9 +54,9 @@ pub(crate) enum Which {
 /// The party's entry in this list, while it stands there.
 pub(crate) fn entry_of(walker: &Party, which: Which) -> Option<EntryId> {
     match which {
-        Which::Turn => id_of(&walker.party.turn),
-        Which::NoWriter => id_of(&walker.party.no_writer),
-        Which::NoReaders => id_of(&walker.party.no_readers),
+        Which::Turn => id_of(&walker.party.turn.entry),
+        Which::NoWriter => id_of(&walker.party.no_writer.entry),
+        Which::NoReaders => id_of(&walker.party.no_readers.entry),
     }
 }
 

@@ -27,27 +27,26 @@ pub(crate) const VALUE: u64 = 7;
 fn seated(shared: Arc<RawRwLock>, seat: Seat, aim: Aim) -> Party
     requires { Has (arc_value shared) (right_of aim) seat }
 {
-    let party = shared.party(seat);
     match aim {
         Aim::Read => Walker {
+            party: shared.party(seat),
             shared,
-            party,
             place: Standing {
                 at: Place::Reading,
                 turn: TurnPlace::Out,
             },
         },
         Aim::UpgradableRead => Walker {
+            party: shared.holder(seat),
             shared,
-            party,
             place: Standing {
                 at: Place::Upgradable,
                 turn: TurnPlace::Holding,
             },
         },
         Aim::Write | Aim::Upgrade => Walker {
+            party: shared.holder(seat),
             shared,
-            party,
             place: Standing {
                 at: Place::Writing,
                 turn: TurnPlace::Holding,
