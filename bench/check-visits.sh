@@ -2,7 +2,7 @@
 # Looks that the calls of lock_event whose visits are promised reach slots by counted calls alone.
 #
 # A call by `&self` can't count, so three calls of `Slots` reach a slot without counting: `node`, `contains` and
-# `len`. Each function of the crate that names one of them, or a function above that does, is listed below; a
+# `len`. A fourth, `waker_mut`, lends an entry's waker out, and counts nothing either. Each function of the crate that names one of them, or a function above that does, is listed below; a
 # function that isn't listed, such as `mark_waiting`, `take_out` or `notify`, mustn't.
 #
 # Run it at the top of the repository: bench/check-visits.sh
@@ -15,13 +15,13 @@ import sys
 FILES = ["slots", "chain", "line", "event", "weighted"]
 # the uncounted calls of each layer: (file, function)
 UNCOUNTED = {
-    "slots": {"node", "contains", "len"},
-    "chain": {"at", "after", "entry", "contains", "len", "laws"},
-    "line": {"at", "entry", "contains", "len", "laws", "next_waker"},
+    "slots": {"node", "contains", "len", "waker_mut"},
+    "chain": {"at", "after", "entry", "contains", "len", "laws", "waker_mut"},
+    "line": {"at", "entry", "contains", "len", "laws", "next_waker", "waker_mut"},
 }
 # what a list may do without counting: look at one entry by its id, look at a place, search for a waker
 ALLOWED = {
-    "event": {"len", "is_empty", "entry", "in_order", "contains", "is_notified", "poll_entry", "ask", "next_waker", "withdraw", "notify", "notify_additional"},
+    "event": {"len", "is_empty", "entry", "in_order", "contains", "is_notified", "is_waiting", "waker_mut", "poll_entry", "ask", "next_waker", "withdraw", "notify", "notify_additional"},
     "weighted": {"len", "entry", "contains", "is_notified", "poll_entry", "ask", "next_waker", "withdraw", "fit", "remove", "find", "take_waker"},
 }
 # of these the calls that promise their visits may use the ones that reach no slot

@@ -6,41 +6,21 @@ with one finding of its action: what the step changes, and what it decides.
 """
 
 HEAD = """-- Each action of a party, place by place: what it changes, and what it decides. Written by generators/mutex_rows.py.
-use Rattle.std.proofs.Common.{◌≡◌, ◌<◌, ◌⊎◌, inl, inr, Bool, true, false, Option, Some, None, refl}
-use Rattle.lock_program.specs.declared.refusal.Refusal.TheVariants.{Memory, Starved}
-use Rattle.world_base.specs.Steps.{Deed, nothing, changes, does, joins, asks, leaves, notifies, notifies_additionally}
-use Rattle.lock_program.specs.declared.mutex.Place.{Place}
-use Rattle.lock_program.specs.declared.mutex.Place.TheVariants.{Out, Holding, Enter, Try, Clear, CancelUncount, CancelLeave, Join, Look, Ask, Retry, PassOn, Count, JoinStarved, LookAlone, PassOnListed, AskStarved, Seize, Uncount, Leave, RefuseUncount, RefuseLeave, RefuseNotifyMemory, RefuseNotifyStarved, ReleaseNotify}
-use Rattle.lock_program.specs.declared.mutex.Action.{Action}
-use Rattle.lock_program.specs.declared.mutex.Action.TheVariants as act
-use Rattle.world_mutex.specs.declared.program.led.Next.{Next}
-use Rattle.world_mutex.specs.declared.program.led.Next.TheVariants as next
-use Rattle.lock_program.specs.declared.end.End.{End}
-use Rattle.lock_program.specs.declared.end.End.TheVariants.{Got, Pending, NotFree, GivenBack, Refused}
-use Rattle.lock_program.specs.declared.mutex.Found.{Found}
-use Rattle.lock_program.specs.declared.mutex.Found.TheVariants.{Done, Free, Held, SomeStarved, AtLimit, NoMemory, Yes, No}
-use Rattle.world_mutex.specs.program.Program.{action_of, next_of}
-use Rattle.lock_program.specs.MutexRoles.{counted, listed}
-use Rattle.world_mutex.specs.machine.Machine.{Lock}
-use Rattle.world_mutex.specs.machine.Acts.{Finds, holders, starved}
-use Rattle.world_mutex.specs.machine.State.{is_holder, is_counted}
-use Rattle.world_mutex.specs.machine.Legal.{decision}
-use Rattle.world_mutex.specs.machine.Deeds.{Change, ListName, takes, releases, starves, recovers, for_the_lock, gives_back, gives_up, is_release}
+use Rattle.world_mutex.proofs.Prelude.{◌≡◌, ◌<◌, ◌⊎◌, inl, inr, Bool, true, false, Option, Some, None, refl, Memory, Starved, Deed, nothing, changes, does, joins, asks, leaves, notifies, notifies_additionally, Place, Out, Holding, Enter, Try, Clear, CancelUncount, CancelLeave, Join, Look, Ask, Retry, PassOn, Count, JoinStarved, LookAlone, PassOnListed, AskStarved, Seize, Uncount, Leave, RefuseUncount, RefuseLeave, RefuseNotifyMemory, RefuseNotifyStarved, ReleaseNotify, Action, Next, End, Got, Pending, NotFree, GivenBack, Refused, Found, Done, Free, Held, SomeStarved, AtLimit, NoMemory, Yes, No, action_of, next_of, counted, listed, Lock, Finds, holders, starved, is_holder, is_counted, decision, Change, ListName, takes, releases, starves, recovers, for_the_lock, gives_back, gives_up, is_release, is_counting, may_tell}
 use Rattle.world_mutex.proofs.of_machine.laws.Kept.{after}
-use Rattle.world_mutex.specs.machine.Courses.{is_counting, may_tell}
 
 -- what an action changes that found this
 abbrev pub deed_of : Action → Found → Deed Change ListName
-deed_of act.Take Free = changes takes
-deed_of act.TakeAlone Free = changes takes
-deed_of act.Set Free = changes takes
-deed_of act.Count Done = changes starves
-deed_of act.Uncount Done = changes recovers
-deed_of act.Clear Done = changes releases
-deed_of act.Join Done = does for_the_lock joins
-deed_of act.Ask Yes = does for_the_lock asks
-deed_of act.Leave Done = does for_the_lock leaves
-deed_of act.Notify Done = does for_the_lock (notifies 1)
+deed_of Action.Take Free = changes takes
+deed_of Action.TakeAlone Free = changes takes
+deed_of Action.Set Free = changes takes
+deed_of Action.Count Done = changes starves
+deed_of Action.Uncount Done = changes recovers
+deed_of Action.Clear Done = changes releases
+deed_of Action.Join Done = does for_the_lock joins
+deed_of Action.Ask Yes = does for_the_lock asks
+deed_of Action.Leave Done = does for_the_lock leaves
+deed_of Action.Notify Done = does for_the_lock (notifies 1)
 deed_of _ _ = nothing
 
 -- how a deed turns whether its party holds the lock, and whether it is starved
@@ -63,13 +43,13 @@ Finding (does list (notifies_additionally n)) l from = ⊥
 Finding _ l from = Unit {0}
 
 abbrev pub decision_by : Next → Option End
-decision_by (next.Do a q) = decision q
-decision_by (next.End e) = Some e
+decision_by (Next.Do a q) = decision q
+decision_by (Next.End e) = Some e
 
 -- why an action decides its call on an end
 abbrev pub Reason : Bool → Lock → Place → Found → End → Type 0
 Reason memory l from f Got = is_holder (after from f) ≡ true
-Reason memory l from f Pending = (action_of from ≡ act.Ask) × (f ≡ No) × (listed from ≡ 1)
+Reason memory l from f Pending = (action_of from ≡ Action.Ask) × (f ≡ No) × (listed from ≡ 1)
 Reason memory l from f NotFree = (holders l ≡ 1) ⊎ (0 < starved l)
 Reason memory l from f GivenBack = Unit {0}
 Reason memory l from f (Refused Memory) = (memory ≡ false) × (listed from ≡ 0) × (deed_of (action_of from) f ≡ nothing)

@@ -9,24 +9,12 @@ fitting its place in the turn, and that fewer steps are left.
 
 PROOFS = 'crates/world_rwlock/proofs/of_machine/'
 
-PLACES = '''Out, Made, Reading, Upgradable, Writing, EnterRead, JoinNoWriter, LookNoWriter, AskNoWriter, PassOn, LeaveNoWriter, RefuseLeave, RefuseNotify, CancelRead, TryRead, EnterTurn, WaitTurn, TakeTurn, TryTurn, CancelTurn, CancellingTurn, ReleaseTurn, ReleasingTurn, Add, TryUpgrade, Upgrade, Mark, TryWrite, JoinNoReaders, LookNoReaders, AskNoReaders, AwaitNoReaders, LookUnlisted, LeaveNoReaders, DropRead, DropReadNotify, DropUpgradable, DropUpgradableNotify, DropWrite, CancelAwait, Unmark, UnmarkNotify, Down, DownNotify, DowngradeNotify'''
-
-USES = '''use Rattle.lock_program.specs.declared.mutex.Step.TheVariants as turn_step
-use Rattle.lock_program.specs.declared.end.End.TheVariants as turn_end
-use Rattle.lock_program.specs.declared.rwlock.Purpose.TheVariants as purpose
-use Rattle.lock_program.specs.declared.rwlock.Ending.TheVariants as ending
-use Rattle.lock_program.specs.declared.rwlock.Place.{Place}
-use Rattle.lock_program.specs.declared.rwlock.Place.TheVariants.{%s}
-use Rattle.lock_program.specs.declared.rwlock.Found.{Found}
-use Rattle.lock_program.specs.declared.rwlock.Found.TheVariants.{Done, Writer, NoneLeft, Yes, Turn}
-''' % PLACES
-
-PURPOSES = ('purpose.UpgradableRead', 'purpose.Write')
-ENDINGS = ('ending.GivenBack', '(ending.NotFree p)', 'ending.RefuseReaders', 'ending.RefuseMemory', 'ending.Reading', 'ending.NotifyReaders')
+PURPOSES = ('Purpose.UpgradableRead', 'Purpose.Write')
+ENDINGS = ('Ending.GivenBack', '(Ending.NotFree p)', 'Ending.RefuseReaders', 'Ending.RefuseMemory', 'Ending.Reading', 'Ending.NotifyReaders')
 BOTH = ('true', 'false')
-DO = '(Turn turn_step.More)'
-GOT = '(Turn (turn_step.End turn_end.Got))'
-REFUSED = '(Turn (turn_step.End (turn_end.Refused r)))'
+DO = '(Turn Step.More)'
+GOT = '(Turn (Step.End End.Got))'
+REFUSED = '(Turn (Step.End (End.Refused r)))'
 
 # Each place, its action, and the findings on which the next place depends; '_' stands for the others.
 ROWS = [
@@ -110,18 +98,18 @@ def links():
             continue
         kind = place.strip('()').split(' ')[0]
         if kind in ('EnterTurn', 'WaitTurn', 'TakeTurn'):
-            for found, proof in ((DO, 'h'), (GOT, 'rw h refl'), ('(Turn (turn_step.End turn_end.Pending))', 'h'),
-                                 ('(Turn (turn_step.End (turn_end.Refused refusal.Memory)))', 'rw h refl'),
-                                 ('(Turn (turn_step.End (turn_end.Refused refusal.Starved)))', 'rw h refl')):
+            for found, proof in ((DO, 'h'), (GOT, 'rw h refl'), ('(Turn (Step.End End.Pending))', 'h'),
+                                 ('(Turn (Step.End (End.Refused Refusal.Memory)))', 'rw h refl'),
+                                 ('(Turn (Step.End (End.Refused Refusal.Starved)))', 'rw h refl')):
                 lines.append(f'links {place} {found} t to h same e = {proof}')
         elif kind == 'TryTurn':
             lines.append(f'links {place} {GOT} t to h same e = rw h refl')
-            lines.append(f'links {place} (Turn (turn_step.End turn_end.NotFree)) t to h same e = rw h refl')
+            lines.append(f'links {place} (Turn (Step.End End.NotFree)) t to h same e = rw h refl')
         elif kind == 'ReleasingTurn':
-            lines.append(f'links {place} (Turn (turn_step.End turn_end.GivenBack)) t to h same e = rw h refl')
+            lines.append(f'links {place} (Turn (Step.End End.GivenBack)) t to h same e = rw h refl')
         else:
             lines.append(f'links {place} {DO} t to h same e = h')
-            lines.append(f'links {place} (Turn (turn_step.End turn_end.GivenBack)) t to h same e = rw h refl')
+            lines.append(f'links {place} (Turn (Step.End End.GivenBack)) t to h same e = rw h refl')
         lines.append(f'links {place} _ t to h same e = absurd h')
     return lines
 
@@ -139,7 +127,7 @@ def falls():
         else:
             flags = ('upgrade',)
         if kind == 'ReleasingTurn':
-            findings = (DO, '(Turn (turn_step.End ended))', '_')
+            findings = (DO, '(Turn (Step.End ended))', '_')
         for flag in flags:
             for found in findings:
                 proof = 'grind arith' if kind in BY_MARK else 'omega arith'
@@ -153,19 +141,14 @@ def table(name, head, lines):
 
 
 table('laws/Fits.antt', '''-- Each step of a program fits its action. Written by generators/rwlock_rows.py.
-use Rattle.std.proofs.Common.{refl, true, false}
-''' + USES + '''use Rattle.world_rwlock.specs.program.Program.{action_of, next_of, place_after}
+use Rattle.world_rwlock.proofs.Prelude.{refl, true, false, TurnStep as Step, End, Purpose, Ending, Place, Out, Made, Reading, Upgradable, Writing, EnterRead, JoinNoWriter, LookNoWriter, AskNoWriter, PassOn, LeaveNoWriter, RefuseLeave, RefuseNotify, CancelRead, TryRead, EnterTurn, WaitTurn, TakeTurn, TryTurn, CancelTurn, CancellingTurn, ReleaseTurn, ReleasingTurn, Add, TryUpgrade, Upgrade, Mark, TryWrite, JoinNoReaders, LookNoReaders, AskNoReaders, AwaitNoReaders, LookUnlisted, LeaveNoReaders, DropRead, DropReadNotify, DropUpgradable, DropUpgradableNotify, DropWrite, CancelAwait, Unmark, UnmarkNotify, Down, DownNotify, DowngradeNotify, Found, Done, Writer, NoneLeft, Yes, Turn, action_of, next_of, place_after}
 use Rattle.world_rwlock.proofs.of_machine.laws.Steps.{Fits}
 
 pub fits : (x : Place) (f : Found) → Fits (action_of x) f x (place_after (next_of x f))
 ''', fits())
 
 table('stages/Links.antt', '''-- Each step leaves the party's place fitting its place in the turn. Written by generators/rwlock_rows.py.
-use Rattle.std.proofs.Common.{◌≡◌, refl, true, false}
-use Rattle.lock_program.specs.declared.refusal.Refusal.TheVariants as refusal
-use Rattle.world_mutex.specs.machine.Course.{Course as TurnCourse}
-''' + USES + '''use Rattle.world_rwlock.specs.program.Program.{next_of, place_after}
-use Rattle.world_rwlock.specs.machine.Roles.{fits_turn}
+use Rattle.world_rwlock.proofs.Prelude.{◌≡◌, refl, true, false, Refusal, TurnCourse, TurnStep as Step, End, Purpose, Ending, Place, Out, Made, Reading, Upgradable, Writing, EnterRead, JoinNoWriter, LookNoWriter, AskNoWriter, PassOn, LeaveNoWriter, RefuseLeave, RefuseNotify, CancelRead, TryRead, EnterTurn, WaitTurn, TakeTurn, TryTurn, CancelTurn, CancellingTurn, ReleaseTurn, ReleasingTurn, Add, TryUpgrade, Upgrade, Mark, TryWrite, JoinNoReaders, LookNoReaders, AskNoReaders, AwaitNoReaders, LookUnlisted, LeaveNoReaders, DropRead, DropReadNotify, DropUpgradable, DropUpgradableNotify, DropWrite, CancelAwait, Unmark, UnmarkNotify, Down, DownNotify, DowngradeNotify, Found, Done, Writer, NoneLeft, Yes, Turn, next_of, place_after, fits_turn}
 use Rattle.world_rwlock.proofs.of_machine.stages.Leads.{Led, steps_in_turn}
 
 -- a step that is not in the turn leaves the party there where it was
@@ -173,9 +156,7 @@ pub links : (x : Place) (f : Found) (t to : TurnCourse) → Led x f to → (step
 ''', links())
 
 table('falls/Falls.antt', '''-- Each step of a party that moves alone leaves fewer steps. Written by generators/rwlock_rows.py.
-use Rattle.std.proofs.Common.{ℕ, ◌<◌, Bool, true, false, arith}
-''' + USES + '''use Rattle.world_rwlock.specs.program.Program.{action_of, next_of}
-use Rattle.world_rwlock.specs.machine.Ranks.{left}
+use Rattle.world_rwlock.proofs.Prelude.{ℕ, ◌<◌, Bool, true, false, arith, TurnStep as Step, End, Purpose, Ending, Place, Out, Made, Reading, Upgradable, Writing, EnterRead, JoinNoWriter, LookNoWriter, AskNoWriter, PassOn, LeaveNoWriter, RefuseLeave, RefuseNotify, CancelRead, TryRead, EnterTurn, WaitTurn, TakeTurn, TryTurn, CancelTurn, CancellingTurn, ReleaseTurn, ReleasingTurn, Add, TryUpgrade, Upgrade, Mark, TryWrite, JoinNoReaders, LookNoReaders, AskNoReaders, AwaitNoReaders, LookUnlisted, LeaveNoReaders, DropRead, DropReadNotify, DropUpgradable, DropUpgradableNotify, DropWrite, CancelAwait, Unmark, UnmarkNotify, Down, DownNotify, DowngradeNotify, Found, Done, Writer, NoneLeft, Yes, Turn, action_of, next_of, left}
 use Rattle.world_rwlock.proofs.of_machine.falls.Lowers.{Lowers, then_left}
 
 module _ (here there here' there' : Bool) (turn turn' : ℕ) where

@@ -7,41 +7,16 @@ Run it at the top of the repository after a change of the program of the read-wr
 one place with one finding of its action.
 """
 
-PLACES = ('Out, Made, Reading, Upgradable, Writing, EnterRead, JoinNoWriter, LookNoWriter, AskNoWriter, PassOn, LeaveNoWriter, '
-          'RefuseLeave, RefuseNotify, CancelRead, TryRead, EnterTurn, WaitTurn, TakeTurn, TryTurn, CancelTurn, CancellingTurn, '
-          'ReleaseTurn, ReleasingTurn, Add, TryUpgrade, Upgrade, Mark, TryWrite, JoinNoReaders, LookNoReaders, AskNoReaders, '
-          'AwaitNoReaders, LookUnlisted, LeaveNoReaders, DropRead, DropReadNotify, DropUpgradable, DropUpgradableNotify, DropWrite, '
-          'CancelAwait, Unmark, UnmarkNotify, Down, DownNotify, DowngradeNotify')
-
 PATHS_HEAD = f'''-- Where each action leads, place by place. Written by generators/rwlock_world_rows.py.
-use Rattle.std.proofs.Common.{{◌≡◌, ◌&&◌, Bool, true, false, refl}}
-use Rattle.lock_program.specs.declared.refusal.Refusal.{{Refusal}}
-use Rattle.lock_program.specs.declared.refusal.Refusal.TheVariants as refusal
-use Rattle.world_mutex.specs.machine.Course.{{Course as TurnCourse}}
-use Rattle.lock_program.specs.declared.mutex.Step.TheVariants as turn_step
-use Rattle.lock_program.specs.declared.end.End.TheVariants as turn_end
-use Rattle.lock_program.specs.declared.rwlock.Purpose.TheVariants as purpose
-use Rattle.lock_program.specs.declared.rwlock.Ending.TheVariants as ending
-use Rattle.lock_program.specs.declared.end.End.{{End}}
-use Rattle.lock_program.specs.declared.end.End.TheVariants.{{Got, Granted, Pending, NotFree, GivenBack, Refused}}
-use Rattle.world_rwlock.specs.declared.program.led.Next.{{Next}}
-use Rattle.world_rwlock.specs.declared.program.led.Next.TheVariants as next
-use Rattle.lock_program.specs.declared.rwlock.Found.{{Found}}
-use Rattle.lock_program.specs.declared.rwlock.Found.TheVariants.{{Done, Writer, Full, NoneLeft, SomeLeft, NoMemory, Yes, No, Turn}}
-use Rattle.lock_program.specs.declared.rwlock.Found.TheVariants as found
-use Rattle.lock_program.specs.declared.rwlock.Place.{{Place}}
-use Rattle.lock_program.specs.declared.rwlock.Place.TheVariants.{{{PLACES}}}
-use Rattle.world_rwlock.specs.program.Program.{{action_of, next_of}}
-use Rattle.world_rwlock.specs.machine.Machine.{{RwLock}}
-use Rattle.world_rwlock.specs.machine.Acts.{{Finds}}
+use Rattle.world_rwlock.proofs.Prelude.{{◌≡◌, ◌&&◌, Bool, true, false, refl, Refusal, TurnCourse, TurnStep as Step, Purpose, Ending, End, Got, Granted, Pending, NotFree, GivenBack, Refused, Next, Found, Done, Writer, Full, NoneLeft, SomeLeft, NoMemory, Yes, No, Turn, Place, Out, Made, Reading, Upgradable, Writing, EnterRead, JoinNoWriter, LookNoWriter, AskNoWriter, PassOn, LeaveNoWriter, RefuseLeave, RefuseNotify, CancelRead, TryRead, EnterTurn, WaitTurn, TakeTurn, TryTurn, CancelTurn, CancellingTurn, ReleaseTurn, ReleasingTurn, Add, TryUpgrade, Upgrade, Mark, TryWrite, JoinNoReaders, LookNoReaders, AskNoReaders, AwaitNoReaders, LookUnlisted, LeaveNoReaders, DropRead, DropReadNotify, DropUpgradable, DropUpgradableNotify, DropWrite, CancelAwait, Unmark, UnmarkNotify, Down, DownNotify, DowngradeNotify, action_of, next_of, RwLock, Finds, Course, polls, tries, drops, downgrades, upgrades, tries_upgrade, strays, course_of, is_inside, sought_at, is_future, is_guard}}
 use Rattle.world_rwlock.proofs.of_machine.stages.Leads.{{Led}}
-use Rattle.world_rwlock.specs.Stages.{{Course, polls, tries, drops, downgrades, upgrades, tries_upgrade, strays, course_of, is_inside, sought_at, is_out, is_future, is_guard}}
+use Rattle.world_rwlock.specs.Stages.{{is_out}}
 
 -- the refusals of a read-write lock's futures
 abbrev pub is_ours : Refusal → Bool
-is_ours refusal.Memory = true
-is_ours refusal.Starved = true
-is_ours refusal.Readers = true
+is_ours Refusal.Memory = true
+is_ours Refusal.Starved = true
+is_ours Refusal.Readers = true
 is_ours _ = false
 
 -- how a program of this course ends, and where its party stands then
@@ -59,9 +34,9 @@ ends_in _ _ q = false
 
 -- a program goes on as it is, or ends so
 abbrev pub Keeps : Course → Next → Type 0
-Keeps c (next.Do a q) = (course_of q ≡ c) × (is_inside q ≡ true)
-Keeps c (next.End e q) = ends_in c e q ≡ true
-Keeps c (next.Wait q) = (c ≡ upgrades) × (is_future q ≡ true)
+Keeps c (Next.Do a q) = (course_of q ≡ c) × (is_inside q ≡ true)
+Keeps c (Next.End e q) = ends_in c e q ≡ true
+Keeps c (Next.Wait q) = (c ≡ upgrades) × (is_future q ≡ true)
 
 -- where a party stands whose try was in vain
 abbrev pub InVain : Course → Place → Type 0
@@ -70,10 +45,10 @@ InVain _ q = q ≡ Out
 
 -- what is sought goes on to be sought
 abbrev pub Seeks : Place → Next → Type 0
-Seeks x (next.End NotFree q) = InVain (course_of x) q
-Seeks x (next.Do a q) = sought_at q ≡ sought_at x
-Seeks x (next.End _ q) = sought_at q ≡ sought_at x
-Seeks x (next.Wait q) = sought_at q ≡ sought_at x
+Seeks x (Next.End NotFree q) = InVain (course_of x) q
+Seeks x (Next.Do a q) = sought_at q ≡ sought_at x
+Seeks x (Next.End _ q) = sought_at q ≡ sought_at x
+Seeks x (Next.Wait q) = sought_at q ≡ sought_at x
 
 pub record Path (x : Place) (f : Found) : Type 0 where
   pub keeps : Keeps (course_of x) (next_of x f)
@@ -83,13 +58,13 @@ module _ (memory : Bool) (l : RwLock) (to : TurnCourse) where
   pub path : (x : Place) (f : Found) → Finds memory (action_of x) f l → Led x f to → (course_of x ≡ strays → ⊥) → Path x f
 '''
 
-DO = '(Turn turn_step.More)'
-GOT = '(Turn (turn_step.End turn_end.Got))'
-PENDING = '(Turn (turn_step.End turn_end.Pending))'
-NOT_FREE = '(Turn (turn_step.End turn_end.NotFree))'
-BACK = '(Turn (turn_step.End turn_end.GivenBack))'
-MEMORY = '(Turn (turn_step.End (turn_end.Refused refusal.Memory)))'
-STARVED = '(Turn (turn_step.End (turn_end.Refused refusal.Starved)))'
+DO = '(Turn Step.More)'
+GOT = '(Turn (Step.End End.Got))'
+PENDING = '(Turn (Step.End End.Pending))'
+NOT_FREE = '(Turn (Step.End End.NotFree))'
+BACK = '(Turn (Step.End End.GivenBack))'
+MEMORY = '(Turn (Step.End (End.Refused Refusal.Memory)))'
+STARVED = '(Turn (Step.End (End.Refused Refusal.Starved)))'
 
 paths = []
 
@@ -110,7 +85,7 @@ def goes_on(place, found):
         return True
     if found == GOT:
         return True
-    if found == BACK and place == '(ReleaseTurn ending.NotifyReaders)' or found == BACK and place == '(ReleasingTurn ending.NotifyReaders)':
+    if found == BACK and place == '(ReleaseTurn Ending.NotifyReaders)' or found == BACK and place == '(ReleasingTurn Ending.NotifyReaders)':
         return True
     return f'{place} {found}' in GOES_ON
 
@@ -118,7 +93,7 @@ def goes_on(place, found):
 def path(place, found):
     keeps = '(refl, refl)' if goes_on(place, found) or place == 'Upgrade' else 'refl'
     if found == 'NotFree':
-        found = 'found.NotFree'
+        found = 'Found.NotFree'
     paths.append(f'  path {place} {found} e l n = record {{ keeps = {keeps}; seeks = refl }}')
 
 
@@ -150,8 +125,8 @@ word('PassOn', 'Done')
 word('LeaveNoWriter', 'Done')
 for told in ('true', 'false'):
     word(f'(RefuseLeave {told})', 'Done')
-word('(RefuseNotify refusal.Memory)', 'Done')
-word('(RefuseNotify refusal.Readers)', 'Done')
+word('(RefuseNotify Refusal.Memory)', 'Done')
+word('(RefuseNotify Refusal.Readers)', 'Done')
 stray('(RefuseNotify _)')
 word('CancelRead', 'Done')
 word('TryRead', 'Done', 'Writer', 'Full')
@@ -165,13 +140,13 @@ def turn(place, *founds):
 
 
 for name in ('EnterTurn', 'WaitTurn', 'TakeTurn'):
-    for p in ('purpose.UpgradableRead', 'purpose.Write'):
+    for p in ('Purpose.UpgradableRead', 'Purpose.Write'):
         turn(f'({name} {p})', DO, GOT, PENDING, MEMORY, STARVED)
-for p in ('purpose.UpgradableRead', 'purpose.Write'):
+for p in ('Purpose.UpgradableRead', 'Purpose.Write'):
     turn(f'(TryTurn {p})', GOT, NOT_FREE)
 turn('CancelTurn', DO, BACK)
 turn('CancellingTurn', DO, BACK)
-ENDINGS = ('ending.GivenBack', '(ending.NotFree p)', 'ending.RefuseReaders', 'ending.RefuseMemory', 'ending.Reading', 'ending.NotifyReaders')
+ENDINGS = ('Ending.GivenBack', '(Ending.NotFree p)', 'Ending.RefuseReaders', 'Ending.RefuseMemory', 'Ending.Reading', 'Ending.NotifyReaders')
 for e in ENDINGS:
     place = f'(ReleaseTurn {e})'
     path(place, DO)
@@ -216,70 +191,32 @@ with open('crates/world_rwlock/proofs/step/Paths.antt', 'w', encoding='utf-8') a
 
 
 ROWS_HEAD = f'''-- What each action on the word or on a list changes and decides, place by place. Written by generators/rwlock_world_rows.py.
-use Rattle.std.proofs.Common.{{◌≡◌, ℕ, ◌+◌, ◌<◌, ◌≤◌, ◌==◌, ◌⊎◌, ◌||◌, not, inl, inr, if◌then◌else◌, Bool, true, false, List, Option, Some, None, refl, sym, ◌∙◌}}
-use Rattle.lock_event.specs.declared.event.Entry.{{Entry}}
-use Rattle.lock_event.specs.Lists.{{is_marked_at, without}}
-use Rattle.world_base.specs.queue.Parties.{{is_party}}
-use Rattle.world_base.specs.declared.moves.Answer.{{Answer}}
-use Rattle.world_base.specs.declared.moves.Answer.TheVariants as answer
-use Rattle.world_base.specs.declared.moves.Got.TheVariants.{{Value}}
-use Rattle.lock_program.specs.declared.refusal.Refusal.{{Refusal}}
-use Rattle.lock_program.specs.declared.refusal.Refusal.TheVariants as refusal
-use Rattle.lock_program.specs.Refusals.{{number_of}}
-use Rattle.world_base.specs.Rights.{{Right, read, upgradable}}
-use Rattle.world_base.specs.Steps.{{Deed, nothing, changes, does, joins, asks, leaves, notifies}}
-use Rattle.world_base.proofs.Equations.{{chosen}}
-use Rattle.world_mutex.specs.machine.Course.{{Course as TurnCourse, is_out as is_out_there, is_holding}}
-use Rattle.lock_program.specs.declared.rwlock.Action.{{Action}}
-use Rattle.lock_program.specs.declared.rwlock.Action.TheVariants as act
-use Rattle.lock_program.specs.declared.end.End.TheVariants.{{Pending, Refused}}
-use Rattle.world_rwlock.specs.declared.program.led.Next.{{Next}}
-use Rattle.world_rwlock.specs.declared.program.led.Next.TheVariants as next
-use Rattle.lock_program.specs.declared.rwlock.Found.{{Found}}
-use Rattle.lock_program.specs.declared.rwlock.Found.TheVariants.{{Done, Writer, Full, NoneLeft, SomeLeft, NoMemory, Yes, No, Turn}}
-use Rattle.lock_program.specs.declared.rwlock.Found.TheVariants as found
-use Rattle.lock_program.specs.declared.mutex.Step.TheVariants as turn_step
-use Rattle.lock_program.specs.declared.end.End.TheVariants as turn_end
-use Rattle.lock_program.specs.declared.rwlock.Purpose.TheVariants as purpose
-use Rattle.lock_program.specs.declared.rwlock.Ending.TheVariants as ending
-use Rattle.lock_program.specs.declared.rwlock.Place.{{Place}}
-use Rattle.lock_program.specs.declared.rwlock.Place.TheVariants.{{{PLACES}}}
-use Rattle.world_rwlock.specs.program.Program.{{action_of, next_of, place_after}}
-use Rattle.world_rwlock.specs.machine.Roles.{{has_turn, in_no_writer, in_no_readers, fits_turn}}
-use Rattle.world_rwlock.specs.program.Parties.{{OnNoWriter, OnNoReaders}}
-use Rattle.world_rwlock.specs.machine.Machine.{{RwLock}}
-use Rattle.world_rwlock.specs.machine.Acts.{{Finds, readers, marked}}
+use Rattle.world_rwlock.proofs.Prelude.{{◌≡◌, ℕ, ◌+◌, ◌<◌, ◌≤◌, ◌==◌, ◌⊎◌, ◌||◌, not, inl, inr, if◌then◌else◌, Bool, true, false, List, Option, Some, None, refl, sym, ◌∙◌, Entry, is_marked_at, without, is_party, Answer, Value, Refusal, number_of, Right, read, upgradable, Deed, nothing, changes, does, joins, asks, leaves, notifies, chosen, TurnCourse, is_out as is_out_there, is_holding, Action, Pending, Refused, Next, Found, Done, Writer, Full, NoneLeft, SomeLeft, NoMemory, Yes, No, Turn, TurnStep as Step, End, Purpose, Ending, Place, Out, Made, Reading, Upgradable, Writing, EnterRead, JoinNoWriter, LookNoWriter, AskNoWriter, PassOn, LeaveNoWriter, RefuseLeave, RefuseNotify, CancelRead, TryRead, EnterTurn, WaitTurn, TakeTurn, TryTurn, CancelTurn, CancellingTurn, ReleaseTurn, ReleasingTurn, Add, TryUpgrade, Upgrade, Mark, TryWrite, JoinNoReaders, LookNoReaders, AskNoReaders, AwaitNoReaders, LookUnlisted, LeaveNoReaders, DropRead, DropReadNotify, DropUpgradable, DropUpgradableNotify, DropWrite, CancelAwait, Unmark, UnmarkNotify, Down, DownNotify, DowngradeNotify, action_of, next_of, place_after, has_turn, in_no_writer, in_no_readers, fits_turn, OnNoWriter, OnNoReaders, RwLock, Finds, readers, marked, Change, begins_to_read, stops_reading, becomes_upgradable, stops_upgradable, begins_to_wait, begins_to_write, upgrades_at_once, unmarks, downgrades_to_upgradable, turn_after, starved_after, value_after, entries_after, gives_back, gives_up, ListName, for_the_turn, for_no_readers, for_no_writer, decided_after, answer_by, strays, course_of, sought_at, passing, upgrading, waiting, writing, turn_as, share_of, is_reading, is_upgrade, verdict, notifies_additionally}}
 use Rattle.world_rwlock.proofs.of_machine.stages.Leads.{{Led, steps_in_turn}}
-use Rattle.world_rwlock.specs.Changes.{{Change, begins_to_read, stops_reading, becomes_upgradable, stops_upgradable, begins_to_wait, begins_to_write, upgrades, upgrades_at_once, unmarks, downgrades, downgrades_to_upgradable, turn_after, starved_after, value_after, entries_after, gives_back, gives_up}}
+use Rattle.world_rwlock.specs.Changes.{{upgrades, downgrades}}
 use Rattle.world_rwlock.specs.State as state
-use Rattle.world_rwlock.specs.State.{{ListName, for_the_turn, for_no_readers, for_no_writer}}
-use Rattle.world_base.proofs.of_table.Calls.{{decided_after}}
-use Rattle.world_rwlock.specs.Guarded.{{answer_by}}
-use Rattle.world_rwlock.specs.Stages.{{strays, course_of, sought_at}}
-use Rattle.world_rwlock.specs.View.{{passing, upgrading, waiting, writing, turn_as, share_of, is_reading, is_upgrade, verdict}}
-use Rattle.world_base.specs.Steps.{{notifies_additionally}}
 
 -- what an action changes that found this
 abbrev pub deed_of : Action → Found → Deed Change ListName
-deed_of act.Read Done = changes begins_to_read
-deed_of act.Add Done = changes becomes_upgradable
-deed_of act.Off _ = changes stops_reading
-deed_of act.Load NoneLeft = changes begins_to_write
-deed_of act.Mark NoneLeft = changes begins_to_write
-deed_of act.Mark _ = changes begins_to_wait
-deed_of act.TryWrite Done = changes begins_to_write
-deed_of act.TryUpgrade Done = changes upgrades_at_once
-deed_of act.Upgrade _ = changes upgrades
-deed_of act.Down _ = changes downgrades
-deed_of act.Unmark _ = changes unmarks
-deed_of act.JoinNoWriter Done = does for_no_writer joins
-deed_of act.AskNoWriter Yes = does for_no_writer asks
-deed_of act.LeaveNoWriter _ = does for_no_writer leaves
-deed_of act.NotifyNoWriter _ = does for_no_writer (notifies 1)
-deed_of act.JoinNoReaders Done = does for_no_readers joins
-deed_of act.AskNoReaders Yes = does for_no_readers asks
-deed_of act.LeaveNoReaders _ = does for_no_readers leaves
-deed_of act.NotifyNoReaders _ = does for_no_readers (notifies 1)
+deed_of Action.Read Done = changes begins_to_read
+deed_of Action.Add Done = changes becomes_upgradable
+deed_of Action.Off _ = changes stops_reading
+deed_of Action.Load NoneLeft = changes begins_to_write
+deed_of Action.Mark NoneLeft = changes begins_to_write
+deed_of Action.Mark _ = changes begins_to_wait
+deed_of Action.TryWrite Done = changes begins_to_write
+deed_of Action.TryUpgrade Done = changes upgrades_at_once
+deed_of Action.Upgrade _ = changes upgrades
+deed_of Action.Down _ = changes downgrades
+deed_of Action.Unmark _ = changes unmarks
+deed_of Action.JoinNoWriter Done = does for_no_writer joins
+deed_of Action.AskNoWriter Yes = does for_no_writer asks
+deed_of Action.LeaveNoWriter _ = does for_no_writer leaves
+deed_of Action.NotifyNoWriter _ = does for_no_writer (notifies 1)
+deed_of Action.JoinNoReaders Done = does for_no_readers joins
+deed_of Action.AskNoReaders Yes = does for_no_readers asks
+deed_of Action.LeaveNoReaders _ = does for_no_readers leaves
+deed_of Action.NotifyNoReaders _ = does for_no_readers (notifies 1)
 deed_of _ _ = nothing
 
 -- and which right the place is for
@@ -293,7 +230,7 @@ abbrev pub verdict_then : ℕ → TurnCourse → Next → Option Answer
 verdict_then v t n = decided_after (answer_by v n) (verdict v (place_after n) t)
 
 abbrev pub is_after_ready : Answer → Bool
-is_after_ready (answer.Refused n) = n == number_of refusal.Finished
+is_after_ready (Answer.Refused n) = n == number_of Refusal.Finished
 is_after_ready _ = false
 
 -- how a deed turns whether its party reads
@@ -369,16 +306,16 @@ MeetsReaders l x s = ⊥
 
 -- why a step refuses its call
 abbrev pub Refuses : Bool → RwLock → Place → Found → Refusal → Type 0
-Refuses memory l x f refusal.Memory = (memory ≡ false) × (in_no_writer x + in_no_readers x ≡ 0) × (deed_at x f ≡ nothing) × ((t : TurnCourse) → fits_turn x t ≡ true → JoinsAt x t) × (lacks_memory x ≡ true)
-Refuses memory l x f refusal.Readers = (l.limit ≤ readers l) × MeetsReaders l x (sought_at (place_after (next_of x f)))
+Refuses memory l x f Refusal.Memory = (memory ≡ false) × (in_no_writer x + in_no_readers x ≡ 0) × (deed_at x f ≡ nothing) × ((t : TurnCourse) → fits_turn x t ≡ true → JoinsAt x t) × (lacks_memory x ≡ true)
+Refuses memory l x f Refusal.Readers = (l.limit ≤ readers l) × MeetsReaders l x (sought_at (place_after (next_of x f)))
 Refuses memory l x f _ = ⊥
 
 -- why a step decides its call on an answer
 abbrev pub Reason : Bool → RwLock → ℕ → Place → Found → Answer → Type 0
-Reason memory l v x f answer.Pending = WaitsAt x f
-Reason memory l v x f (answer.Ready got) = (got ≡ Value v) × (is_got (place_after (next_of x f)) ≡ true)
-Reason memory l v x f (answer.Granted got) = (got ≡ Value v) × (is_got (place_after (next_of x f)) ≡ true)
-Reason memory l v x f (answer.Refused n) = (r : Refusal) × (n ≡ number_of r) × Refuses memory l x f r
+Reason memory l v x f Answer.Pending = WaitsAt x f
+Reason memory l v x f (Answer.Ready got) = (got ≡ Value v) × (is_got (place_after (next_of x f)) ≡ true)
+Reason memory l v x f (Answer.Granted got) = (got ≡ Value v) × (is_got (place_after (next_of x f)) ≡ true)
+Reason memory l v x f (Answer.Refused n) = (r : Refusal) × (n ≡ number_of r) × Refuses memory l x f r
 Reason memory l v x f _ = Unit {{0}}
 
 abbrev pub Judged : Bool → RwLock → ℕ → Place → Found → Option Answer → Option Answer → Type 0
@@ -400,16 +337,16 @@ keeps_what_it_has o d = not (gives_up d) || is_judged o
 
 -- an upgrade's future stays one while its call is undecided or pending
 abbrev pub KeepsUpgrade : ℕ → Place → Next → Type 0
-KeepsUpgrade v x (next.Do a q) = (t : TurnCourse) → verdict v q t ≡ None → is_upgrade q ≡ is_upgrade x
-KeepsUpgrade v x (next.Wait q) = is_upgrade q ≡ true
-KeepsUpgrade v x (next.End turn_end.Waiting q) = is_upgrade q ≡ true
-KeepsUpgrade v x (next.End Pending q) = is_upgrade q ≡ is_upgrade x
-KeepsUpgrade v x (next.End (Refused r) q) = is_upgrade q ≡ is_upgrade x
-KeepsUpgrade v x (next.End _ q) = Unit {{0}}
+KeepsUpgrade v x (Next.Do a q) = (t : TurnCourse) → verdict v q t ≡ None → is_upgrade q ≡ is_upgrade x
+KeepsUpgrade v x (Next.Wait q) = is_upgrade q ≡ true
+KeepsUpgrade v x (Next.End End.Waiting q) = is_upgrade q ≡ true
+KeepsUpgrade v x (Next.End Pending q) = is_upgrade q ≡ is_upgrade x
+KeepsUpgrade v x (Next.End (Refused r) q) = is_upgrade q ≡ is_upgrade x
+KeepsUpgrade v x (Next.End _ q) = Unit {{0}}
 
 -- where a party stands after a refusal
 abbrev pub RefusedAt : Place → Next → Type 0
-RefusedAt x (next.End (Refused r) q) = ((is_made q ≡ true) × (is_upgrade x ≡ false)) ⊎ ((q ≡ LookUnlisted true) × (is_upgrade x ≡ true))
+RefusedAt x (Next.End (Refused r) q) = ((is_made q ≡ true) × (is_upgrade x ≡ false)) ⊎ ((q ≡ LookUnlisted true) × (is_upgrade x ≡ true))
 RefusedAt x _ = Unit {{0}}
 
 pub record Row (memory : Bool) (l : RwLock) (v : ℕ) (x : Place) (f : Found) : Type 0 where
@@ -446,17 +383,17 @@ MOVES = 'inl (refl, λ p. refl)'
 
 
 def memory(joins):
-    return f'(refusal.Memory, refl, (e, refl, refl, (λ t h. {joins}), refl))'
+    return f'(Refusal.Memory, refl, (e, refl, refl, (λ t h. {joins}), refl))'
 
 
 def full(many, taken):
-    return f'(refusal.Readers, refl, ({many}, {taken}))'
+    return f'(Refusal.Readers, refl, ({many}, {taken}))'
 
 
 def row(place, found, judged, sharing=STAYS, finding='tt', upgrade='tt', refused='tt', no_writer='λ p a b o. o', no_readers='λ p a b o. o'):
     room = 'e' if 'Join' in place and found == 'Done' else 'tt'
     if found == 'NotFree':
-        found = 'found.NotFree'
+        found = 'Found.NotFree'
     rows.append(f'  row {place} {found} e n t = record {{ reading = refl; sharing = {sharing}; starving = λ p s. refl; valued = λ u. refl; unturned = λ p a. refl; no_writer = {no_writer}; no_readers = {no_readers}; '
                 f'finding = {finding}; judged = λ t u. {judged}; room = {room}; holds_on = λ t. refl; over = refl; upgrade = {upgrade}; refused = {refused} }}')
 
@@ -512,8 +449,8 @@ rest('(RefuseLeave true)')
 row('(RefuseLeave false)', 'Done', KEPT, upgrade='refl', refused=MADE)
 rest('(RefuseLeave false)')
 for r in ('Memory', 'Readers'):
-    row(f'(RefuseNotify refusal.{r})', 'Done', KEPT, finding='refl', upgrade='refl', refused=MADE)
-    rest(f'(RefuseNotify refusal.{r})')
+    row(f'(RefuseNotify Refusal.{r})', 'Done', KEPT, finding='refl', upgrade='refl', refused=MADE)
+    rest(f'(RefuseNotify Refusal.{r})')
 astray('(RefuseNotify _)')
 row('CancelRead', 'Done', KEPT)
 rest('CancelRead')
@@ -621,7 +558,7 @@ def turn_rest(place):
 
 
 for name in ('EnterTurn', 'WaitTurn', 'TakeTurn', 'TryTurn'):
-    for q in ('purpose.UpgradableRead', 'purpose.Write'):
+    for q in ('Purpose.UpgradableRead', 'Purpose.Write'):
         for f in ((GOT, NOT_FREE) if name == 'TryTurn' else (DO, GOT, PENDING, MEMORY, STARVED)):
             turn_row(f'({name} {q})', f)
         turn_rest(f'({name} {q})')

@@ -4,10 +4,14 @@
 //! value, so that what was read once is known.
 #![tactic(auto)]
 
-ghost use Rattle.std.specs.Prelude.{◌≡◌, true, IfSome};
+ghost use Rattle.std.specs.Prelude.{◌≡◌, true, IfOk, IfSome};
 
 use async_mutex::{Mutex, MutexGuard, MutexGuardArc};
+use lock_program::Refusal;
+use std::alloc::AllocGlobal;
+use std::random::RandomSource;
 use std::sync::{Arc, Wait};
+use std::time::Clock;
 
 /// Reads the value twice, and says whether both are the same: they are.
 pub fn reads_agree<R: Wait>(guard: &MutexGuard<'_, u64, R>) -> bool
@@ -53,4 +57,15 @@ pub fn owned_exchanged<R: Wait + Drop>(mutex: &Arc<Mutex<u64, R>>, number: u64) 
 {
     let mut guard = Mutex::try_lock_arc(mutex)?;
     Some(owned_written(&mut guard, number))
+}
+
+/// Locks the first of two, and waits for it in this thread: the guard is of that one.
+pub fn first_of_two<'a, R: Wait + Clock + RandomSource + AllocGlobal>(
+    first: &'a Mutex<u64, R>,
+    second: &'a Mutex<u64, R>,
+) -> Result<MutexGuard<'a, u64, R>, Refusal>
+    ensures { IfOk result (λ guard. guard.mutex ≡ first.now) }
+{
+    let _ = second;
+    first.lock_blocking()
 }
