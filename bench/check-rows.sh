@@ -12,7 +12,7 @@ if [ ! -x "$program" ]; then
     echo "there is no program $program: run 'rt run' in crates/lockrun first" >&2
     exit 2
 fi
-rows='crates/test_lockrun/src/rows.rt crates/test_lockrun/src/more_rows.rt'
+rows='crates/lockrun_rows/src/rows.rt crates/lockrun_rows/src/more_rows.rt'
 work=$(mktemp -d)
 trap 'rm -rf "$work"' EXIT
 

@@ -1,8 +1,8 @@
 //! Bad lines, and where a run stops at one.
 
-use crate::bad_lines::{BAD_LINES, HOW_MANY};
 use crate::runs::{Run, Runs, SCRIPT, expect};
 use crate::same::assert_same;
+use lockrun_rows::bad_lines::{BAD_LINES, HOW_MANY};
 
 /// A run that stops at its script's second line.
 const SECOND: Run = Run {
