@@ -1,9 +1,7 @@
 //! Futures that are dropped wherever a pending future may stand: each gives back what it had.
 
-use crate::polls::Name;
-use crate::stories::{
-    Answer, BOTH, Deed, NOBODY, ONE, POLL_ONE, POLL_TWO, Row, of_borrowed, of_owned, of_timed,
-};
+use crate::stories::{of_borrowed, of_owned, of_timed};
+use mutex_scene::{Answer, BOTH, Deed, NOBODY, Name, ONE, POLL_ONE, POLL_TWO, Row};
 
 const NEVER_POLLED: [Row; 9] = [
     (Deed::Ask(Name::One), Answer::Done, NOBODY),

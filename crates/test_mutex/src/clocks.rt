@@ -1,63 +1,8 @@
 //! What the clock says of a waiter.
 
-use crate::polls::Name;
-use crate::stories::{
-    Answer, Deed, NOBODY, ONE, POLL_ONE, POLL_TWO, Row, TWO, of_limited, of_timed,
-};
+use crate::stories::{of_limited, of_timed};
 use async_mutex::Refusal;
-use std::alloc::{Alloc, AllocGlobal, Global};
-use std::io;
-use std::random::RandomSource;
-use std::sync::Wait;
-use std::sync::atomic::{AtomicU64, Ordering};
-use std::time::{Clock, Duration};
-
-/// A runtime of a test's own: its clock stands where the test puts it, and past the first hour it can't be read.
-/// It has no random numbers.
-#[derive(Drop)]
-pub(crate) struct Fake<'a, R> {
-    rt: R,
-    micros: &'a AtomicU64,
-}
-
-const HOUR: u64 = 3_600_000_000;
-
-impl<'a, R> Fake<'a, R> {
-    /// A runtime by this clock, in microseconds.
-    pub(crate) fn new(rt: R, micros: &'a AtomicU64) -> Fake<'a, R> {
-        Fake { rt, micros }
-    }
-}
-
-impl<R: Wait> Wait for Fake<'_, R> {}
-
-impl<R> Clock for Fake<'_, R> {
-    fn monotonic(&self) -> io::Result<Duration> {
-        let micros = self.micros.load(Ordering::SeqCst);
-        if micros > HOUR {
-            return Err(io::Error::other("no clock"));
-        }
-        Ok(Duration::from_micros(micros))
-    }
-
-    fn since_1970(&self) -> io::Result<Duration> {
-        Err(io::Error::other("no clock"))
-    }
-}
-
-impl<R> RandomSource for Fake<'_, R> {
-    fn fill_bytes(&self, _buf: &mut [u8]) -> io::Result<()> {
-        Err(io::Error::other("no random numbers"))
-    }
-}
-
-impl<R: AllocGlobal> Alloc for Fake<'_, R> {
-    type A = Global;
-
-    fn alloc(&self) -> Global {
-        self.rt.alloc()
-    }
-}
+use mutex_scene::{Answer, Deed, HOUR, NOBODY, Name, ONE, POLL_ONE, POLL_TWO, Row, TWO};
 
 // A future that first waits at one time is overtaken at another. What a look finds then says whether it was
 // counted as starved: the starved one alone may have the lock.

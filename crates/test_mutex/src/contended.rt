@@ -2,9 +2,9 @@
 //!
 //! What each does is written over a form, and so proved once, for both.
 
-use crate::forms::{Form, number_of, owned};
 use crate::same::assert_same;
 use async_mutex::Mutex;
+use mutex_scene::{Form, number_of, owned};
 use std::alloc::AllocGlobal;
 use std::process::Abort;
 use std::random::RandomSource;

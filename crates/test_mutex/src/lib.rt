@@ -1,5 +1,5 @@
 //! Tests of the public locks and of the waiting list that they share, by their public calls. There is nothing
-//! else here, and no crate stands on it.
+//! else here, and no crate stands on it. A scene of `mutex_scene` does what a row says, and `stories` compares.
 //!
 //! Those of `surface` have ample memory. Each other test also ends well where one allocation fails, whichever it
 //! is: what is refused memory is tried again, or the test is over.
@@ -12,13 +12,9 @@ mod clocks;
 #[cfg(test)]
 mod contended;
 #[cfg(test)]
-mod forms;
-#[cfg(test)]
 mod lists;
 #[cfg(test)]
 mod mutex;
-#[cfg(test)]
-mod polls;
 #[cfg(test)]
 mod rounds;
 #[cfg(test)]

@@ -3,11 +3,10 @@
 ghost use Rattle.std.specs.Prelude.{◌≡◌, IfSome};
 ghost use Rattle.async_driver.specs.Heard.{IsOf};
 
-use crate::polls::{Name, Tasks};
 use crate::same::assert_same;
-use crate::stories::{BOTH, NOBODY, ONE, Woken};
 use async_driver::{Heard, Listed, Owed, WaitingList};
 use futures::task::{Context, Source, Waker};
+use mutex_scene::{BOTH, NOBODY, Name, ONE, Tasks, Woken};
 use std::alloc::AllocGlobal;
 use std::marker::Model;
 use std::mem;

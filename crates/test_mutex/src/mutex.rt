@@ -1,9 +1,9 @@
 //! The tests of the Rust crate's mutex, under their names.
 
-use crate::polls::{Name, Waiter};
 use crate::same::assert_same;
-use crate::stories::{Answer, Deed, NOBODY, ONE, POLL_ONE, Row, of_borrowed, of_owned};
+use crate::stories::{of_borrowed, of_owned};
 use async_mutex::{Mutex, Settled};
+use mutex_scene::{Answer, Deed, NOBODY, Name, ONE, POLL_ONE, Row, Waiter};
 use std::alloc::AllocGlobal;
 use std::random::RandomSource;
 use std::sync::Wait;

@@ -1,13 +1,12 @@
 //! A mutex's rounds: taken, written, given back and taken again, with whoever waits told.
 
-use crate::forms::{Form, can_be_had, owned};
-use crate::polls::Name;
 use crate::same::assert_same;
-use crate::stories::{
-    Answer, BOTH, Deed, NOBODY, ONE, POLL_ONE, POLL_TWO, Props, Row, Scene, TWO, of_borrowed,
-    of_owned,
-};
+use crate::stories::{of_borrowed, of_owned, play_in};
 use async_mutex::{Mutex, MutexGuard, MutexGuardArc, Refusal};
+use mutex_scene::{
+    Answer, BOTH, Deed, Form, NOBODY, Name, ONE, POLL_ONE, POLL_TWO, Props, Row, Scene, TWO,
+    can_be_had, owned,
+};
 use std::alloc::AllocGlobal;
 use std::process::Abort;
 use std::random::RandomSource;
@@ -107,9 +106,14 @@ where
         return;
     };
     let mut scene = Scene::new(lock);
-    scene.play(rt, &props, &[(Deed::Take, Answer::Got(0), NOBODY)]);
+    play_in(
+        rt,
+        &mut scene,
+        &props,
+        &[(Deed::Take, Answer::Got(0), NOBODY)],
+    );
     for number in 0..10u64 {
-        scene.play(rt, &props, &round(number));
+        play_in(rt, &mut scene, &props, &round(number));
     }
 }
 

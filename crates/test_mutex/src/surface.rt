@@ -1,10 +1,9 @@
 //! Each public call once, with its texts.
 
-use crate::forms::can_be_had;
-use crate::polls::Name;
 use crate::same::assert_same;
-use crate::stories::{Answer, Deed, NOBODY, ONE, POLL_ONE, Row, of_borrowed, of_owned};
+use crate::stories::{of_borrowed, of_owned};
 use async_mutex::{Mutex, Refusal};
+use mutex_scene::{Answer, Deed, NOBODY, Name, ONE, POLL_ONE, Row, can_be_had};
 use std::alloc::AllocGlobal;
 use std::fmt;
 use std::process::Abort;

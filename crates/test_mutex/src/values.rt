@@ -1,10 +1,11 @@
 //! The value: reached past forgotten guards, and dropped exactly once on every way out.
 
-use crate::forms::{Number, number_of, owned};
-use crate::polls::Name;
 use crate::same::assert_same;
-use crate::stories::{Answer, Deed, NOBODY, ONE, POLL_ONE, Props, Row, play_borrowed, play_owned};
+use crate::stories::{play_borrowed, play_owned};
 use async_mutex::Mutex;
+use mutex_scene::{
+    Answer, Deed, NOBODY, Name, Number, ONE, POLL_ONE, Props, Row, number_of, owned,
+};
 use std::alloc::AllocGlobal;
 use std::mem;
 use std::process::Abort;

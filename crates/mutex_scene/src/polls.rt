@@ -13,14 +13,14 @@ use std::time::Clock;
 
 /// Names a task or a future.
 #[derive(Clone, Copy)]
-pub(crate) enum Name {
+pub enum Name {
     One,
     Two,
     Three,
 }
 
 /// Three tasks.
-pub(crate) struct Tasks {
+pub struct Tasks {
     one: MockTask,
     two: MockTask,
     three: MockTask,
@@ -46,7 +46,7 @@ fn task<R: RandomSource + AllocGlobal>(rt: &R) -> Option<MockTask> {
 
 impl Tasks {
     /// None where memory is refused.
-    pub(crate) fn new<R: RandomSource + AllocGlobal>(rt: &R) -> Option<Tasks> {
+    pub fn new<R: RandomSource + AllocGlobal>(rt: &R) -> Option<Tasks> {
         Some(Tasks {
             one: task(rt)?,
             two: task(rt)?,
@@ -54,7 +54,7 @@ impl Tasks {
         })
     }
 
-    pub(crate) fn of(&self, name: Name) -> &MockTask {
+    pub fn of(&self, name: Name) -> &MockTask {
         match name {
             Name::One => &self.one,
             Name::Two => &self.two,
@@ -63,7 +63,7 @@ impl Tasks {
     }
 
     /// Whether each was woken since it was last polled.
-    pub(crate) fn woken(&self) -> (bool, bool, bool) {
+    pub fn woken(&self) -> (bool, bool, bool) {
         (
             self.one.is_woken(),
             self.two.is_woken(),
@@ -73,7 +73,7 @@ impl Tasks {
 }
 
 /// A lock's future.
-pub(crate) trait Waiter: Drop {
+pub trait Waiter: Drop {
     /// What it waits for.
     type Guard: Drop;
 
@@ -164,7 +164,7 @@ fn settled<G: Drop>(got: io::Result<Result<G, Refusal>>) -> Result<G, Refusal> {
 }
 
 /// One poll. Where memory is refused, one more: a refused future is as when it was made.
-pub(crate) fn poll_again<W: Waiter>(task: &MockTask, future: &mut W) -> Turn<W::Guard> {
+pub fn poll_again<W: Waiter>(task: &MockTask, future: &mut W) -> Turn<W::Guard> {
     match future.poll_by(task) {
         Turn::Refused(Refusal::Memory) => future.poll_by(task),
         turn => turn,

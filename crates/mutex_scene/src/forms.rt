@@ -12,7 +12,7 @@ use std::sync::{Arc, Wait};
 use std::time::Clock;
 
 /// A value that is seen as a number.
-pub(crate) trait Number {
+pub trait Number {
     fn number(&self) -> u64;
 
     fn set_number(&mut self, number: u64);
@@ -39,7 +39,7 @@ impl Number for () {
 }
 
 /// A mutex of a number, borrowed or owned.
-pub(crate) trait Form {
+pub trait Form {
     /// Its guard in this form.
     type Guard: Drop;
     /// Its future in this form.
@@ -121,7 +121,7 @@ where
 }
 
 /// A free mutex with an owner; none where memory is refused.
-pub(crate) fn owned<T: Drop, R>(rt: R, value: T) -> Option<Arc<Mutex<T, R>>>
+pub fn owned<T: Drop, R>(rt: R, value: T) -> Option<Arc<Mutex<T, R>>>
 where
     R: AllocGlobal + Copy + Drop,
 {
@@ -130,12 +130,12 @@ where
 }
 
 /// Whether the lock can be had at once. It is given back.
-pub(crate) fn can_be_had<T, R: Wait>(mutex: &Mutex<T, R>) -> bool {
+pub fn can_be_had<T, R: Wait>(mutex: &Mutex<T, R>) -> bool {
     mutex.try_lock().is_some()
 }
 
 /// The number, if the lock can be had at once.
-pub(crate) fn number_of<R: Wait>(mutex: &Mutex<u64, R>) -> Option<u64> {
+pub fn number_of<R: Wait>(mutex: &Mutex<u64, R>) -> Option<u64> {
     let guard = mutex.try_lock()?;
     Some(*guard)
 }
