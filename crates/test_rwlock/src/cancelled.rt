@@ -1,7 +1,7 @@
 //! Futures that are dropped at each place where they may wait, notified or not, with another behind them.
 
-use crate::party::{Answer, Deed};
-use crate::scene::{NOBODY, Name, Row, of_both};
+use crate::plays::of_both;
+use rwlock_scene::{Answer, Deed, NOBODY, Name, Row};
 
 const CANCEL_READ_UNTOLD: [Row; 6] = [
     (Name::One, Deed::Write, Answer::Ready(0), NOBODY),

@@ -9,15 +9,11 @@ mod cancelled;
 #[cfg(test)]
 mod clocks;
 #[cfg(test)]
-mod forms;
-#[cfg(test)]
-mod party;
+mod plays;
 #[cfg(test)]
 mod rust_tests;
 #[cfg(test)]
 mod same;
-#[cfg(test)]
-mod scene;
 #[cfg(test)]
 mod stories;
 #[cfg(test)]

@@ -1,7 +1,7 @@
 //! The tests of the Rust crate, under their names.
 
-use crate::party::{Answer, Deed};
-use crate::scene::{NOBODY, Name, Row, of_both};
+use crate::plays::of_both;
+use rwlock_scene::{Answer, Deed, NOBODY, Name, Row};
 
 const SMOKE: [Row; 10] = [
     (Name::One, Deed::Read, Answer::Ready(0), NOBODY),

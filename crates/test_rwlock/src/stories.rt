@@ -1,8 +1,8 @@
 //! The stories, each told from what the lock's rules say.
 
-use crate::party::{Answer, Deed};
-use crate::scene::{NOBODY, Name, Row, of_both, of_limited};
+use crate::plays::{of_both, of_limited};
 use async_rwlock::Refusal;
+use rwlock_scene::{Answer, Deed, NOBODY, Name, Row};
 
 const WRITER_STEPS_DOWN: [Row; 6] = [
     (Name::One, Deed::Write, Answer::Ready(1), NOBODY),

@@ -1,10 +1,10 @@
-//! Threads that share a lock.
+//! Threads that share a read-write lock.
 //!
 //! What they do is written over a form, and so proved once, for both.
 
-use crate::forms::{Form, owned};
 use crate::same::assert_same;
 use async_rwlock::RwLock;
+use rwlock_scene::{Form, owned};
 use std::alloc::AllocGlobal;
 use std::mem;
 use std::process::Abort;

@@ -1,10 +1,10 @@
 //! The value: reached past forgotten guards, dropped exactly once on every way out, and shown.
 
-use crate::forms::{Form, owned};
 use crate::same::assert_same;
 use async_rwlock::lock_futures::WriteFuture;
 use async_rwlock::{Owns, Refusal, RwLock, Turn, UpgradableGuard, WriteGuard};
 use futures::test::MockTask;
+use rwlock_scene::{Form, owned};
 use std::alloc::AllocGlobal;
 use std::process::Abort;
 use std::random::RandomSource;

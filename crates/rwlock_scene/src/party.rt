@@ -12,7 +12,7 @@ use std::time::Clock;
 
 /// What a party has.
 #[derive(Drop)]
-pub(crate) enum Party<R: Wait, O: Owns<u64, R>> {
+pub enum Party<R: Wait, O: Owns<u64, R>> {
     Nothing,
     Reads(ReadGuard<u64, R, O>),
     Upgradable(UpgradableGuard<u64, R, O>),
@@ -25,7 +25,7 @@ pub(crate) enum Party<R: Wait, O: Owns<u64, R>> {
 
 /// What a party does.
 #[derive(Clone, Copy)]
-pub(crate) enum Deed {
+pub enum Deed {
     /// Makes a future, and polls it.
     Read,
     UpgradableRead,
@@ -53,7 +53,7 @@ pub(crate) enum Deed {
 
 /// What a deed answers.
 #[derive(Clone, Copy, Debug, PartialEq)]
-pub(crate) enum Answer {
+pub enum Answer {
     /// A future gave a guard that reads this number.
     Ready(u64),
     /// A call gave a guard at once that reads this number.
@@ -238,7 +238,7 @@ where
     }
 
     /// Does what is asked, and says what it then has and what is answered.
-    pub(crate) fn does(self, lock: &O, deed: Deed, task: &MockTask) -> (Party<R, O>, Answer) {
+    pub fn does(self, lock: &O, deed: Deed, task: &MockTask) -> (Party<R, O>, Answer) {
         match (self, deed) {
             (party, Deed::Drop) => {
                 drop(party);

@@ -11,7 +11,7 @@ use std::sync::{Arc, Wait};
 use std::time::Clock;
 
 /// A lock of a number, borrowed or owned.
-pub(crate) trait Form<R: Wait>: Owns<u64, R> {
+pub trait Form<R: Wait>: Owns<u64, R> {
     fn read_now(&self) -> Option<ReadGuard<u64, R, Self>>;
 
     fn upgradable_now(&self) -> Option<UpgradableGuard<u64, R, Self>>;
@@ -118,7 +118,7 @@ where
 }
 
 /// A free lock with an owner; none where memory is refused.
-pub(crate) fn owned<R>(rt: R, number: u64) -> Option<Arc<RwLock<u64, R>>>
+pub fn owned<R>(rt: R, number: u64) -> Option<Arc<RwLock<u64, R>>>
 where
     R: AllocGlobal + Copy + Drop,
 {
