@@ -10,8 +10,6 @@ mod cancelled;
 #[cfg(test)]
 mod clocks;
 #[cfg(test)]
-mod contended;
-#[cfg(test)]
 mod lists;
 #[cfg(test)]
 mod mutex;

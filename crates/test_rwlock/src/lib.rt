@@ -17,6 +17,4 @@ mod same;
 #[cfg(test)]
 mod stories;
 #[cfg(test)]
-mod threads;
-#[cfg(test)]
 mod values;
