@@ -1,19 +1,20 @@
 -- What contracts see of a cell's future, and what a poll of it answers.
-use Rattle.std.specs.Prelude.{◌≡◌, ℕ, ⊤, Bool, true, false, Option, Some, None, IfSome, IsSomeAnd, Result, Ok, Err}
+use Rattle.std.specs.Prelude.{◌≡◌, ℕ, ⊤, Bool, true, false, Option, Some, None, IfSome, IsSomeAnd, is_none, Result, Ok, Err}
 use Rattle.async_driver.specs.declared.waiting_list.Listed.{Listed}
 use Rattle.async_once_cell.specs.declared.task.Answer.{Answer}
 use Rattle.async_once_cell.specs.declared.task.Answer.TheVariants as answer
 use Rattle.async_once_cell.specs.declared.task.Stage.{Stage}
-use Rattle.async_once_cell.specs.declared.task.Stage.TheVariants.{New, Inside, Over}
 use Rattle.futures.specs.Task.{Covers}
 use Rattle.futures.specs.declared.task.context.Context.{Context}
 use Rattle.lock_program.specs.declared.refusal.Refusal.TheVariants.{Finished, Memory}
 use Rattle.once_cell_driver.specs.Cells.{Cell}
-use Rattle.once_cell_driver.specs.Parties.{IsTiedTo, Rests, having_at, having_of}
+use Rattle.once_cell_driver.specs.Parties.{IsTiedTo, having_at, having_of}
+use Rattle.once_cell_driver.specs.Resting.{IsWhole, RestsSo, active_at, party_of, passive_at}
 use Rattle.once_cell_driver.specs.Table.{CanPoll}
 use Rattle.once_cell_driver.specs.Purposes.{IsSetting, OnMaking, OnSets}
 use Rattle.once_cell_driver.specs.Sides.{IsReceipt}
 use Rattle.once_cell_driver.specs.declared.maker.Purpose.{Purpose}
+use Rattle.once_cell_driver.specs.declared.resting.Resting.{Resting}
 use Rattle.once_cell_driver.specs.declared.maker.Purpose.TheVariants.{Waits, Makes, Sets}
 
 -- its cell, whether it was ready before, its entries in the cell's lists, and its maker
@@ -28,40 +29,49 @@ pub record Future (C M : Type 0) : Type 0 where
 abbrev pub fresh : {C M : Type 0} → C → M → Future C M
 fresh cell maker = record { cell = cell; is_over = false; active = None; passive = None; maker = Some maker }
 
-abbrev pub is_over_in : {T E M : Type 0} → Stage T E M → Bool
-is_over_in Over = true
-is_over_in _ = false
+-- how far a future is that was never polled, and one that was ready
+abbrev pub fresh_stage : {M : Type 0} → M → Stage M
+fresh_stage maker = record { maker = Some maker; waiting = None }
 
-abbrev pub IsNew : {T E M : Type 0} → Stage T E M → Type 0
-IsNew (New m) = ⊤
-IsNew _ = ⊥
+abbrev pub over : {M : Type 0} → Stage M
+over = record { maker = None; waiting = None }
 
-abbrev pub active_in : {T E M : Type 0} → Stage T E M → Option Listed
-active_in (Inside q w) = q.active.entry
-active_in _ = None
+abbrev pub is_over_in : {M : Type 0} → Stage M → Bool
+is_over_in stage = is_none stage.maker
 
-abbrev pub passive_in : {T E M : Type 0} → Stage T E M → Option Listed
-passive_in (Inside q w) = q.passive.entry
-passive_in _ = None
+abbrev pub maker_in : {M : Type 0} → Stage M → Option M
+maker_in stage = stage.maker
 
-abbrev pub maker_in : {T E M : Type 0} → Stage T E M → Option M
-maker_in (New m) = Some m
-maker_in (Inside q w) = Some q.work.maker
-maker_in Over = None
+-- its entries in the cell's lists, while its party waits
+abbrev pub active_of : Option Resting → Option Listed
+active_of None = None
+active_of (Some r) = active_at r.place r.entry
 
-abbrev pub future : {C T E M : Type 0} → C → Stage T E M → Future C M
-future cell stage = record { cell = cell; is_over = is_over_in stage; active = active_in stage; passive = passive_in stage; maker = maker_in stage }
+abbrev pub passive_of : Option Resting → Option Listed
+passive_of None = None
+passive_of (Some r) = passive_at r.place r.entry
 
--- what a future keeps between its polls: a maker that was never polled, or a party that waits
-abbrev pub IsKept : {T E M : Type 0} → Purpose → (M → Type 0) → Cell → Stage T E M → Type 0
-IsKept u new cell (New m) = OnMaking u (new m)
-IsKept u new cell (Inside q w) = Rests u new cell q w
-IsKept u new cell Over = ⊤
+abbrev pub future : {C M : Type 0} → C → Stage M → Future C M
+future cell stage = record { cell = cell; is_over = is_over_in stage; active = active_of stage.waiting; passive = passive_of stage.waiting; maker = stage.maker }
+
+-- what a future keeps between its polls: a maker that was never polled, or one whose party waits, until it was ready
+abbrev pub KeptBy : (T E : Type 0) → {M : Type 0} → Purpose → (M → Type 0) → Cell → Option M → Option Resting → Type 0
+KeptBy T E u new cell None None = ⊤
+KeptBy T E u new cell None (Some r) = ⊥
+KeptBy T E u new cell (Some m) None = OnMaking u (new m)
+KeptBy T E u new cell (Some m) (Some r) = RestsSo T E u new cell r m
+
+abbrev pub IsKept : (T E : Type 0) → {M : Type 0} → Purpose → (M → Type 0) → Cell → Stage M → Type 0
+IsKept T E u new cell stage = KeptBy T E u new cell stage.maker stage.waiting
 
 -- what its drop needs: of a party that waits, that it does
-abbrev pub CanDrop : {T E M : Type 0} → Cell → Stage T E M → Type 0
-CanDrop cell (Inside q w) = IsTiedTo cell q × CanPoll w × (having_of q ≡ having_at w)
-CanDrop cell _ = ⊤
+abbrev pub DropsSo : (T E : Type 0) → {M : Type 0} → Cell → Option M → Option Resting → Type 0
+DropsSo T E cell maker None = ⊤
+DropsSo T E cell None (Some r) = ⊥
+DropsSo T E cell (Some m) (Some r) = IsTiedTo {T = T} {E = E} cell (party_of r m) × CanPoll r.place × (having_of {T = T} {E = E} (party_of r m) ≡ having_at r.place) × IsWhole r.place r.entry
+
+abbrev pub CanDrop : (T E : Type 0) → {M : Type 0} → Cell → Stage M → Type 0
+CanDrop T E cell stage = DropsSo T E cell stage.maker stage.waiting
 
 -- a fact of the maker, if the future is there to make
 abbrev pub OfMaker : {M : Type 0} → Purpose → (M → Type 0) → Option M → Type 0

@@ -17,7 +17,7 @@ use futures::Future;
 use futures::task::Context;
 use std::convert::Infallible;
 use std::fmt;
-use std::marker::Model;
+use std::marker::{Model, PhantomData};
 use std::sync::Wait;
 use std::time::Clock;
 
@@ -30,7 +30,8 @@ use std::time::Clock;
 /// value (`entry`), and the closure or its future (`maker`).
 pub struct GetOrTryInit<'a, T, E, R: Wait, F, Fut> {
     cell: &'a OnceCell<T, R>,
-    stage: Stage<'a, T, E, Trying<F, Fut>>,
+    stage: Stage<Trying<F, Fut>>,
+    fault: PhantomData<E>,
 }
 
 impl<'a, T, E, R: Wait, F, Fut> Model for GetOrTryInit<'a, T, E, R, F, Fut> {
@@ -45,7 +46,7 @@ impl<'a, T, E, R: Wait, F, Fut> Model for GetOrTryInit<'a, T, E, R, F, Fut> {
 
     ghost view = { λ g. initialising (future g.cell.now g.stage) };
 
-    ghost invariant = { λ g. IsKept purposes.Makes is_new_try g.cell.now.raw g.stage };
+    ghost invariant = { λ g. IsKept T E purposes.Makes is_new_try g.cell.now.raw g.stage };
 }
 
 impl<
@@ -63,7 +64,8 @@ impl<
     {
         GetOrTryInit {
             cell,
-            stage: Stage::New(Trying::Closure(closure)),
+            stage: Stage::new(Trying::Closure(closure)),
+            fault: PhantomData,
         }
     }
 }
@@ -138,8 +140,12 @@ impl<
 
 impl<T: Drop, E: Drop, R: Wait, F: Drop, Fut: Drop> Drop for GetOrTryInit<'_, T, E, R, F, Fut> {
     fn drop(self) {
-        let Self { cell, stage } = self;
-        drop_stage(cell, stage);
+        let Self {
+            cell,
+            stage,
+            fault: _,
+        } = self;
+        drop_stage::<T, E, Trying<F, Fut>, R>(cell, stage);
     }
 }
 
@@ -152,7 +158,7 @@ impl<T, E, R: Wait, F, Fut> fmt::Debug for GetOrTryInit<'_, T, E, R, F, Fut> {
 /// A future of a cell's value, which a closure's future makes if the cell is empty. Otherwise it is as [`GetOrTryInit`].
 pub struct GetOrInit<'a, T, R: Wait, F, Fut> {
     cell: &'a OnceCell<T, R>,
-    stage: Stage<'a, T, Infallible, Making<F, Fut>>,
+    stage: Stage<Making<F, Fut>>,
 }
 
 impl<'a, T, R: Wait, F, Fut> Model for GetOrInit<'a, T, R, F, Fut> {
@@ -162,12 +168,13 @@ impl<'a, T, R: Wait, F, Fut> Model for GetOrInit<'a, T, R, F, Fut> {
     ghost use Rattle.async_once_cell.specs.declared.cell.OnceCell.{OnceCell};
     ghost use Rattle.async_once_cell.specs.declared.makers.Making.{Making};
     ghost use Rattle.once_cell_driver.specs.declared.maker.Purpose.TheVariants as purposes;
+    ghost use Rattle.std.specs.declared.convert.Infallible.{Infallible};
 
     ghost Value = { Initialising (OnceCell T R) (Making F Fut) };
 
     ghost view = { λ g. initialising (future g.cell.now g.stage) };
 
-    ghost invariant = { λ g. IsKept purposes.Makes is_new_make g.cell.now.raw g.stage };
+    ghost invariant = { λ g. IsKept T Infallible purposes.Makes is_new_make g.cell.now.raw g.stage };
 }
 
 impl<'a, T: Drop, R: Wait, F: FnOnce() -> Fut, Fut: Future<Output = T>> GetOrInit<
@@ -184,7 +191,7 @@ impl<'a, T: Drop, R: Wait, F: FnOnce() -> Fut, Fut: Future<Output = T>> GetOrIni
     {
         GetOrInit {
             cell,
-            stage: Stage::New(Making::Closure(closure)),
+            stage: Stage::new(Making::Closure(closure)),
         }
     }
 }
@@ -244,7 +251,7 @@ impl<'a, T: Drop, R: Wait + Clock, F: FnOnce() -> Fut, Fut: Future<Output = T>> 
 impl<T: Drop, R: Wait, F: Drop, Fut: Drop> Drop for GetOrInit<'_, T, R, F, Fut> {
     fn drop(self) {
         let Self { cell, stage } = self;
-        drop_stage(cell, stage);
+        drop_stage::<T, Infallible, Making<F, Fut>, R>(cell, stage);
     }
 }
 

@@ -6,11 +6,12 @@ ghost use Rattle.async_driver.specs.Turns.{OnPending};
 ghost use Rattle.once_cell_driver.specs.Sides.{IsReceipt};
 ghost use Rattle.async_once_cell.specs.Futures.{IsSet, IsTurn, OnMemory, value_in};
 ghost use Rattle.async_once_cell.specs.Stages.{CanDrop, maker_in};
+ghost use Rattle.std.specs.declared.convert.Infallible.{Infallible};
 
 use crate::cell::OnceCell;
 use crate::makers::Given;
 use crate::task::{Answer, Stage, drop_stage, poll_stage};
-use async_driver::{Polled, Turn};
+use async_driver::{Polled, Turn, nothing};
 use futures::task::Context;
 use once_cell_driver::RawCell;
 use std::convert::Infallible;
@@ -26,7 +27,7 @@ use std::time::Clock;
 /// value (`entry`), and its value until it is ready (`value`).
 pub struct Set<'a, T, R: Wait> {
     cell: &'a OnceCell<T, R>,
-    stage: Stage<'a, T, Infallible, Given<T>>,
+    stage: Stage<Given<T>>,
 }
 
 impl<'a, T, R: Wait> Model for Set<'a, T, R> {
@@ -35,12 +36,13 @@ impl<'a, T, R: Wait> Model for Set<'a, T, R> {
     ghost use Rattle.async_once_cell.specs.declared.cell.OnceCell.{OnceCell};
     ghost use Rattle.once_cell_driver.specs.declared.maker.Purpose.TheVariants as purposes;
     ghost use Rattle.std.specs.Prelude.{IsSome};
+    ghost use Rattle.std.specs.declared.convert.Infallible.{Infallible};
 
     ghost Value = { Setting (OnceCell T R) T };
 
     ghost view = { λ s. setting (future s.cell.now s.stage) };
 
-    ghost invariant = { λ s. IsKept purposes.Sets (λ given. IsSome given.value) s.cell.now.raw s.stage };
+    ghost invariant = { λ s. IsKept T Infallible purposes.Sets (λ given. IsSome given.value) s.cell.now.raw s.stage };
 }
 
 impl<'a, T: Drop, R: Wait> Set<'a, T, R> {
@@ -49,7 +51,7 @@ impl<'a, T: Drop, R: Wait> Set<'a, T, R> {
     {
         Set {
             cell,
-            stage: Stage::New(Given::new(value)),
+            stage: Stage::new(Given::new(value)),
         }
     }
 }
@@ -65,20 +67,20 @@ impl<'a, T: Drop, R: Wait> Set<'a, T, R> {
 }
 
 // The value that a stage has, whose party gives back what it has.
-fn value_of<'a, T: Drop, R: Wait>(
-    cell: &'a OnceCell<T, R>,
-    stage: Stage<'a, T, Infallible, Given<T>>,
-) -> Option<T>
-    requires { CanDrop cell.now.raw stage }
-    ensures { result ≡ value_in (maker_in stage.entry) }
+fn value_of<'a, T: Drop, R: Wait>(cell: &'a OnceCell<T, R>, stage: Stage<Given<T>>) -> Option<T>
+    requires { CanDrop T Infallible cell.now.raw stage }
+    ensures { result ≡ value_in (maker_in stage) }
 {
-    match stage {
-        Stage::New(given) => given.into_option(),
-        Stage::Inside(party, place) => {
-            RawCell::withdraw(&cell.raw, &cell.rt, party, place).into_option()
-        }
-        Stage::Over => None,
-    }
+    let Stage { maker, waiting } = stage;
+    let Some(given) = maker else {
+        nothing(waiting);
+        return None;
+    };
+    let Some(resting) = waiting else {
+        return given.into_option();
+    };
+    let (party, place) = resting.resume::<T, Infallible, Given<T>>(given);
+    RawCell::withdraw(&cell.raw, &cell.rt, party, place).into_option()
 }
 
 impl<'a, T: Drop, R: Wait + Clock> Set<'a, T, R> {
@@ -131,7 +133,7 @@ impl<'a, T: Drop, R: Wait + Clock> Polled for Set<'a, T, R> {
 impl<T: Drop, R: Wait> Drop for Set<'_, T, R> {
     fn drop(self) {
         let Self { cell, stage } = self;
-        drop_stage(cell, stage);
+        drop_stage::<T, Infallible, Given<T>, R>(cell, stage);
     }
 }
 

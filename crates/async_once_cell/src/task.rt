@@ -2,26 +2,35 @@
 
 ghost use Rattle.std.specs.Prelude.{◌≡◌, false, IfNone, IfSome};
 ghost use Rattle.futures.specs.Task.{Keeps};
-ghost use Rattle.async_once_cell.specs.Stages.{CanDrop, IsKept, IsNew, OfMaker, OnAnswer, future, is_over_in, maker_in};
-ghost use Rattle.async_once_cell.specs.declared.task.Stage.TheVariants as stages;
+ghost use Rattle.async_once_cell.specs.Stages.{CanDrop, IsKept, OfMaker, OnAnswer, fresh_stage, future, is_over_in, maker_in, over};
 
 use crate::cell::OnceCell;
+use async_driver::{nothing, put};
 use futures::task::Context;
 use lock_program::Refusal;
-use once_cell_driver::{CellParty, Maker, Outcome, RawCell};
-use std::mem;
+use once_cell_driver::{Maker, Outcome, RawCell, Resting};
 use std::sync::Wait;
 use std::time::Clock;
-use sync_program::once_cell::Left;
 
-/// How far a future is. It has no `Drop`: a poll goes on with its party, or a cancel ends it.
-pub enum Stage<'a, T, E, M> {
-    /// It was never polled, or the last poll was refused.
-    New(M),
-    /// Its party waits, and stands here.
-    Inside(CellParty<'a, T, E, M>, Left<()>),
-    /// It was ready.
-    Over,
+/// How far a future is. It has no `Drop`: a poll goes on with what it has, or a cancel ends it.
+pub struct Stage<M> {
+    /// What makes the value, until the future was ready.
+    pub maker: Option<M>,
+    /// What its party keeps beside it, while it waits between two polls.
+    pub waiting: Option<Resting>,
+}
+
+impl<M> Stage<M> {
+    // A future that was never polled.
+    #[inline]
+    pub(crate) fn new(maker: M) -> Stage<M>
+        ensures { result ≡ fresh_stage maker }
+    {
+        Stage {
+            maker: Some(maker),
+            waiting: None,
+        }
+    }
 }
 
 /// What a poll answers, whatever the future is for.
@@ -40,73 +49,55 @@ pub enum Answer<'a, T, E, M> {
     Failed(E),
 }
 
-// Sets the stage of a future whose party was taken out.
-fn put_stage<'a, T, E, M>(stage: &mut Stage<'a, T, E, M>, next: Stage<'a, T, E, M>)
-    requires { stage.old ≡ stages.Over }
-    ensures { stage.new ≡ next.entry }
-{
-    match mem::replace(stage, next) {
-        Stage::Over => {}
-        Stage::New(_) | Stage::Inside(..) => unreachable!(),
-    }
-}
-
 // The value of a full cell, for a future that was never polled or was refused. It is the first action of its program, which ends
 // it where the cell is full; a poll that it doesn't end goes on by `poll_stage`.
 #[inline]
-pub(crate) fn find<'a, T: Drop, E: Drop, M: Drop, R>(
+pub(crate) fn find<'a, T: Drop, M: Drop, R>(
     cell: &'a OnceCell<T, R>,
-    stage: &mut Stage<'a, T, E, M>,
+    stage: &mut Stage<M>,
 ) -> Option<&'a T>
-    ensures found { IfSome result (λ _. (is_over_in stage.old ≡ false) × (stage.new ≡ stages.Over)) }
+    ensures found { IfSome result (λ _. (is_over_in stage.old ≡ false) × (stage.new ≡ over)) }
     ensures none { IfNone result (stage.new ≡ stage.old) }
 {
-    if let Stage::New(_) = stage {
-        let value = cell.get()?;
-        end_new(stage);
-        return Some(value);
+    if stage.waiting.is_some() || stage.maker.is_none() {
+        return None;
     }
-    None
-}
-
-// Ends a future that was never polled: it is over, and its maker is dropped.
-#[inline]
-fn end_new<T, E, M: Drop>(stage: &mut Stage<'_, T, E, M>)
-    requires { IsNew stage.old }
-    ensures { stage.new ≡ stages.Over }
-{
-    match mem::replace(stage, Stage::Over) {
-        Stage::New(maker) => drop(maker),
-        Stage::Inside(..) | Stage::Over => unreachable!(),
-    }
+    let value = cell.get()?;
+    stage.maker = None;
+    Some(value)
 }
 
 // One poll of a future of this cell.
 #[inline(never)]
 pub(crate) fn poll_stage<'a, T: Drop, E: Drop, M: Maker<T, E>, R: Wait + Clock>(
     cell: &'a OnceCell<T, R>,
-    stage: &mut Stage<'a, T, E, M>,
+    stage: &mut Stage<M>,
     cx: &mut Context<'_>,
 ) -> Answer<'a, T, E, M>
-    requires stage { IsKept M.purpose M.is_new cell.now.raw stage.old }
+    requires stage { IsKept T E M.purpose M.is_new cell.now.raw stage.old }
     requires ready { OfMaker M.purpose M.can_make (maker_in stage.old) }
-    ensures stage { IsKept M.purpose M.is_new cell.now.raw stage.new }
+    ensures stage { IsKept T E M.purpose M.is_new cell.now.raw stage.new }
     ensures ready { OfMaker M.purpose M.can_make (maker_in stage.new) }
     ensures answer { OnAnswer M.purpose M.is_new M.gives M.needs cell.now.raw cx.new (future cell.now stage.old) result (future cell.now stage.new) }
     ensures kept { Keeps cx.old cx.new }
 {
-    let (party, place) = match mem::replace(stage, Stage::Over) {
-        Stage::Over => return Answer::Refused(Refusal::Finished),
-        Stage::New(maker) => (CellParty::new(&cell.raw, maker), M::first_place()),
-        Stage::Inside(party, place) => (party, place),
+    let Some(maker) = stage.maker.take() else {
+        return Answer::Refused(Refusal::Finished);
     };
+    let resting = match stage.waiting.take() {
+        Some(resting) => resting,
+        None => Resting::first(&cell.raw, &maker),
+    };
+    let (party, place) = resting.resume(maker);
     match RawCell::poll(&cell.raw, &cell.rt, cx, party, place) {
         Outcome::Waits(party, place) => {
-            put_stage(stage, Stage::Inside(party, place));
+            let (resting, maker) = party.rest(&cell.raw, place);
+            stage.maker = Some(maker);
+            put(&mut stage.waiting, resting);
             Answer::Pending
         }
         Outcome::Refused(maker) => {
-            put_stage(stage, Stage::New(maker));
+            stage.maker = Some(maker);
             Answer::Refused(Refusal::Memory)
         }
         Outcome::Value(value) => Answer::Value(value),
@@ -119,13 +110,17 @@ pub(crate) fn poll_stage<'a, T: Drop, E: Drop, M: Maker<T, E>, R: Wait + Clock>(
 // What a dropped future of this cell gives back.
 pub(crate) fn drop_stage<'a, T: Drop, E: Drop, M: Drop, R: Wait>(
     cell: &'a OnceCell<T, R>,
-    stage: Stage<'a, T, E, M>,
+    stage: Stage<M>,
 )
-    requires { CanDrop cell.now.raw stage }
+    requires { CanDrop T E cell.now.raw stage }
 {
-    match stage {
-        Stage::New(maker) => drop(maker),
-        Stage::Inside(party, place) => RawCell::cancel(&cell.raw, &cell.rt, party, place),
-        Stage::Over => {}
+    let Stage { maker, waiting } = stage;
+    let Some(maker) = maker else {
+        nothing(waiting);
+        return;
+    };
+    if let Some(resting) = waiting {
+        let (party, place) = resting.resume::<T, E, M>(maker);
+        RawCell::cancel(&cell.raw, &cell.rt, party, place);
     }
 }

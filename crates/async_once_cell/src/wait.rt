@@ -24,7 +24,7 @@ use std::time::Clock;
 /// (`entry`).
 pub struct Wait<'a, T, R: Waits> {
     cell: &'a OnceCell<T, R>,
-    stage: Stage<'a, T, Infallible, Nobody>,
+    stage: Stage<Nobody>,
 }
 
 impl<'a, T, R: Waits> Model for Wait<'a, T, R> {
@@ -33,12 +33,13 @@ impl<'a, T, R: Waits> Model for Wait<'a, T, R> {
     ghost use Rattle.async_once_cell.specs.declared.cell.OnceCell.{OnceCell};
     ghost use Rattle.once_cell_driver.specs.declared.maker.Purpose.TheVariants as purposes;
     ghost use Rattle.std.specs.Prelude.{⊤};
+    ghost use Rattle.std.specs.declared.convert.Infallible.{Infallible};
 
     ghost Value = { Waiting (OnceCell T R) };
 
     ghost view = { λ w. waiting (future w.cell.now w.stage) };
 
-    ghost invariant = { λ w. IsKept purposes.Waits (λ _. ⊤) w.cell.now.raw w.stage };
+    ghost invariant = { λ w. IsKept T Infallible purposes.Waits (λ _. ⊤) w.cell.now.raw w.stage };
 }
 
 impl<'a, T: Drop, R: Waits> Wait<'a, T, R> {
@@ -47,7 +48,7 @@ impl<'a, T: Drop, R: Waits> Wait<'a, T, R> {
     {
         Wait {
             cell,
-            stage: Stage::New(Nobody),
+            stage: Stage::new(Nobody),
         }
     }
 }
@@ -97,7 +98,7 @@ impl<'a, T: Drop, R: Waits + Clock> Polled for Wait<'a, T, R> {
 impl<T: Drop, R: Waits> Drop for Wait<'_, T, R> {
     fn drop(self) {
         let Self { cell, stage } = self;
-        drop_stage(cell, stage);
+        drop_stage::<T, Infallible, Nobody, R>(cell, stage);
     }
 }
 

@@ -3,3 +3,4 @@ pub mod Cells
 pub mod Table
 pub mod Purposes
 pub mod Parties
+pub mod Resting

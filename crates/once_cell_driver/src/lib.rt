@@ -10,6 +10,7 @@ mod outcome;
 mod party;
 mod poll;
 mod raw;
+mod resting;
 mod side;
 mod straight;
 
@@ -18,4 +19,5 @@ pub use maker::{Maker, Nobody, Purpose};
 pub use outcome::Outcome;
 pub use party::{CellParty, Work};
 pub use raw::RawCell;
+pub use resting::Resting;
 pub use side::Side;

@@ -3,8 +3,8 @@
 ghost use Rattle.std.specs.Prelude.{◌≡◌, Bool, Some, false};
 ghost use Rattle.futures.specs.Task.{Keeps};
 ghost use Rattle.once_cell_driver.specs.Parties.{EndsAt, EndsSo, IfPending, IsTiedTo, OnOutcome, Receipt, Rests, Stands, having, having_of, no};
-ghost use Rattle.once_cell_driver.specs.Purposes.{IsFirst, OnMaking};
-ghost use Rattle.once_cell_driver.specs.Table.{CanPoll, Where};
+ghost use Rattle.once_cell_driver.specs.Purposes.{OnMaking};
+ghost use Rattle.once_cell_driver.specs.Table.{CanPoll};
 ghost use Rattle.lock_program.specs.declared.end.End.TheVariants as ends;
 ghost use Rattle.lock_program.specs.declared.refusal.Refusal.TheVariants as refusals;
 ghost use Rattle.sync_program.specs.declared.once_cell.Left.TheVariants as left;
@@ -14,8 +14,6 @@ use crate::maker::Maker;
 use crate::outcome::Outcome;
 use crate::party::{CellParty, Work};
 use crate::raw::RawCell;
-use crate::side::Side;
-use crate::straight::first_rows;
 use async_driver::Carries;
 use futures::task::Context;
 use lock_program::End;
@@ -25,26 +23,6 @@ use std::time::Clock;
 use sync_program::once_cell::{CellCall, Got, Left};
 
 impl<'a, T: Drop, E: Drop, M: Maker<T, E>> CellParty<'a, T, E, M> {
-    /// A party that was never polled, with nothing but its maker.
-    pub fn new(cell: &'a RawCell<T>, maker: M) -> CellParty<'a, T, E, M>
-        requires { OnMaking M.purpose (M.is_new maker) }
-        ensures maker { result.work.maker ≡ maker }
-        ensures stands { (w : Where) → IsFirst M.purpose w → Rests M.purpose M.is_new cell.now result w }
-    {
-        first_rows();
-        CellParty {
-            seat: cell.words.sit(),
-            active: Side::new(),
-            passive: Side::new(),
-            work: Work {
-                maker,
-                made: None,
-                failed: None,
-            },
-            got: None,
-        }
-    }
-
     /// Ends a party that has nothing at the cell: what it made, and the cell's value if it found it.
     pub fn end(self, cell: &RawCell<T>) -> (Work<T, E, M>, Option<&'a T>)
         requires tied { IsTiedTo cell.now self }

@@ -38,6 +38,18 @@ impl Side {
         nothing(owed);
     }
 
+    // The entry of a side that has nothing to pass on.
+    pub(crate) fn into_entry(self) -> Option<Listed>
+        requires { is_some self.owed ≡ false }
+        ensures { self ≡ record { entry = result; owed = None } }
+    {
+        let Side { entry, owed } = self;
+        match owed {
+            None => entry,
+            Some(_) => unreachable!(),
+        }
+    }
+
     // Joins the list: whether there was memory.
     pub(crate) fn join<R: Wait>(&mut self, list: &WaitingList<Waker>, rt: &R) -> bool
         requires tied { IsTied list.now.name.id self.old }

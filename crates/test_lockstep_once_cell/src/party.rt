@@ -7,7 +7,7 @@ use futures::test::MockTask;
 use lock_event::EntryId;
 use lock_program::End;
 use lockstep::{Acted, Bench, Walker};
-use once_cell_driver::{CellParty, Maker, Origin, Polling, RawCell};
+use once_cell_driver::{Maker, Origin, Polling, RawCell, Resting};
 use std::sync::{Arc, Wait};
 use sync_program::once_cell::{CellCall, Got, Left, ListName, Place, Position};
 use world_base::Made;
@@ -25,10 +25,10 @@ pub(crate) fn new_party<'a, E: Drop, M: Maker<u64, E>, O: Origin<M>>(
     requires ready { M.can_make maker }
 {
     let cell: &'a RawCell<u64> = *shared;
-    let place = M::first_place();
+    let (party, place) = Resting::first(cell, &maker).resume(maker);
     Walker {
         shared,
-        party: Polling::new(CellParty::new(cell, maker)),
+        party: Polling::new(party),
         place,
     }
 }
