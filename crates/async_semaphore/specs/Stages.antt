@@ -1,5 +1,5 @@
 -- How far a future is, what it has meanwhile, and what its polls answer.
-use Rattle.std.specs.Prelude.{◌≡◌, ℕ, Bool, true, false, ⊤, IfSome, Option, None}
+use Rattle.std.specs.Prelude.{◌≡◌, ℕ, Bool, true, false, ⊤, IsNone, Option, None}
 use Rattle.async_driver.specs.declared.turn.Turn.{Turn}
 use Rattle.async_driver.specs.declared.turn.Turn.TheVariants.{Pending, Ready, Refused}
 use Rattle.async_semaphore.specs.Guards.{Held}
@@ -14,7 +14,6 @@ use Rattle.semaphore_driver.specs.Semaphores.{Has}
 use Rattle.semaphore_driver.specs.declared.waiting.Outcome.{Outcome}
 use Rattle.semaphore_driver.specs.declared.waiting.Outcome.TheVariants as outcome
 use Rattle.semaphore_driver.specs.declared.waiting.Waiting.{Waiting}
-use Rattle.sync_program.specs.declared.permits.Position.TheVariants.{Unlisted}
 use Rattle.words_semaphore.specs.declared.view.Seat.{Seat}
 
 -- what contracts see of a future: how far it is, for how many permits it is, and its party at the semaphore, with its entry
@@ -60,10 +59,6 @@ abbrev pub HasReceiptAt : {O R : Type 0} → (O → Semaphore R) → Stage O →
 HasReceiptAt semaphore_of (Waits owner) k cx waiting = HasReceipt (semaphore_of owner).raw k cx waiting
 HasReceiptAt semaphore_of _ k cx waiting = ⊥
 
--- it has no more than when it was made
-abbrev pub IsAsMade : ℕ → Option Waiting → Type 0
-IsAsMade k waiting = IfSome waiting (λ w. w.position ≡ Unlisted k)
-
 -- a seat got the permits that it is for
 abbrev pub GotAt : {O R : Type 0} → (O → Semaphore R) → Stage O → ℕ → Seat → Type 0
 GotAt semaphore_of (Waits owner) k seat = Has (semaphore_of owner).raw k seat
@@ -73,7 +68,7 @@ GotAt semaphore_of _ k seat = ⊥
 abbrev pub OnPolled : {O R : Type 0} → (O → Semaphore R) → Stage O → ℕ → Context → Outcome → Option Waiting → Type 0
 OnPolled semaphore_of stage k cx (outcome.Got seat) rest = GotAt semaphore_of stage k seat × (rest ≡ None)
 OnPolled semaphore_of stage k cx outcome.Waits rest = HasReceiptAt semaphore_of stage k cx rest
-OnPolled semaphore_of stage k cx (outcome.Refused refusal) rest = (refusal ≡ Memory) × IsAsMade k rest
+OnPolled semaphore_of stage k cx (outcome.Refused refusal) rest = (refusal ≡ Memory) × IsNone rest
 
 -- Ready, what was got is this and the future is over. One that is over is refused as finished and stays so; no other is, and none for
 -- another reason than memory.

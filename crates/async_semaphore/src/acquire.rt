@@ -1,9 +1,9 @@
 //! The future of permits.
 
-ghost use Rattle.std.specs.Prelude.{◌≡◌, false, None};
+ghost use Rattle.std.specs.Prelude.{◌≡◌, false, IsNone, None};
 ghost use Rattle.futures.specs.Task.{Covers, Keeps};
 ghost use Rattle.async_driver.specs.Turns.{OnPending};
-ghost use Rattle.async_semaphore.specs.Stages.{Gives, HasReceiptAt, IsAsMade, IsTurn, OnRefused, WaitsAt, future, is_finished};
+ghost use Rattle.async_semaphore.specs.Stages.{Gives, HasReceiptAt, IsTurn, OnRefused, WaitsAt, future, is_finished};
 
 use crate::guard::PermitGuard;
 use crate::owns::Owns;
@@ -25,7 +25,7 @@ use std::{fmt, mem};
 pub struct AcquireFuture<R: Wait, O: Owns<R>> {
     stage: Stage<O>,
     permits: u64,
-    // `None` before the first poll that didn't get the permits, and once it was ready.
+    // What it has there while it waits, and `None` else.
     waiting: Option<Waiting>,
     runtime: PhantomData<R>,
 }
@@ -78,35 +78,23 @@ impl<R: Wait + Clock, O: Owns<R>> AcquireFuture<R, O> {
         ensures turn { IsTurn (Gives O.semaphore_of self.old.stage self.old.permits) (is_finished self.old.stage) result (is_finished self.new.stage) }
         ensures permits { self.new.permits ≡ self.old.permits }
         ensures share { is_finished self.new.stage ≡ false → self.new.stage ≡ self.old.stage }
-        ensures refused { OnRefused result (IsAsMade self.old.permits self.new.waiting) }
+        ensures refused { OnRefused result (IsNone self.new.waiting) }
         ensures receipt { OnPending result (HasReceiptAt O.semaphore_of self.old.stage self.old.permits cx.new self.new.waiting) }
         ensures registered { OnPending result (Covers cx.new (WaitsAt O.semaphore_of self.old.stage)) }
         ensures kept { Keeps cx.old cx.new }
     {
         if self.waiting.is_none() {
-            if let Some(seat) = take::<R, O>(&self.stage, self.permits) {
-                let stage = mem::replace(&mut self.stage, Stage::Finished);
-                return Turn::Ready(into_guard(stage, seat, self.permits));
+            // The stage is out meanwhile, so that who got the permits needn't be read again from memory.
+            let permits = self.permits;
+            let stage = mem::replace(&mut self.stage, Stage::Finished);
+            if let Some(seat) = take::<R, O>(&stage, permits) {
+                return Turn::Ready(into_guard(stage, seat, permits));
             }
+            self.stage = stage;
         }
         if let Stage::Finished = self.stage {
             return Turn::Refused(Refusal::Finished);
         }
-        self.go_on(cx)
-    }
-
-    // A poll that doesn't get the permits at once. It stands apart, since what it takes room for would be cleared at each poll.
-    #[inline(never)]
-    fn go_on(&mut self, cx: &mut Context<'_>) -> Turn<PermitGuard<R, O>>
-        requires { is_finished self.old.stage ≡ false }
-        ensures turn { IsTurn (Gives O.semaphore_of self.old.stage self.old.permits) false result (is_finished self.new.stage) }
-        ensures permits { self.new.permits ≡ self.old.permits }
-        ensures share { is_finished self.new.stage ≡ false → self.new.stage ≡ self.old.stage }
-        ensures refused { OnRefused result (IsAsMade self.old.permits self.new.waiting) }
-        ensures receipt { OnPending result (HasReceiptAt O.semaphore_of self.old.stage self.old.permits cx.new self.new.waiting) }
-        ensures registered { OnPending result (Covers cx.new (WaitsAt O.semaphore_of self.old.stage)) }
-        ensures kept { Keeps cx.old cx.new }
-    {
         match poll_stage::<R, O>(&self.stage, self.permits, &mut self.waiting, cx) {
             Outcome::Got(seat) => {
                 let stage = mem::replace(&mut self.stage, Stage::Finished);

@@ -69,7 +69,9 @@ pub(crate) fn into_guard<R: Wait, O: Owns<R>>(
     }
 }
 
-/// One poll by who has the semaphore.
+/// One poll by who has the semaphore. It stands apart, since what it takes room for would be cleared at each poll that is ready
+/// without it.
+#[inline(never)]
 pub(crate) fn poll_stage<R: Wait + Clock, O: Owns<R>>(
     stage: &Stage<O>,
     permits: u64,
@@ -117,7 +119,9 @@ fn leave<R: Wait, O: Owns<R>>(owner: O, permits: u64, waiting: Option<Waiting>)
 {
     if let Some(waiting) = waiting {
         let semaphore = owner.semaphore();
-        semaphore.raw.cancel(&semaphore.rt, permits, waiting);
+        semaphore
+            .raw
+            .cancel_waiting(&semaphore.rt, permits, waiting);
     }
     drop(owner);
 }

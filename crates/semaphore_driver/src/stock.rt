@@ -320,7 +320,8 @@ impl Stock {
     }
 
     /// Notifies the first waiter for whom the available permits are enough, if nobody is notified and there is such a one. It
-    /// needs how many the seat found last, since the duty arose.
+    /// needs how many the seat found last, since the duty arose. If there were none, the list isn't looked through: nobody
+    /// waits for 0, which is always had at once.
     #[inline]
     pub fn fit<R: Wait>(&self, rt: &R, seat: &Seat, available: u64, duty: Duty)
         requires seat { seat.now.inner.table_id ≡ self.now.word.table }
@@ -328,8 +329,11 @@ impl Stock {
         requires list { duty.owed.list.id ≡ self.now.list }
         requires seen { duty.seen ≡ Some available }
     {
-        let _ = seat;
         let Duty { owed, seen: _ } = duty;
+        if available == 0 {
+            self.nothing_left(owed, seat);
+            return;
+        }
         self.list.fit(rt, available, owed);
     }
 }

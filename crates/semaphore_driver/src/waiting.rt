@@ -1,11 +1,12 @@
 //! Polls of a future of a semaphore, and what a dropped one gives back.
 
-ghost use Rattle.std.specs.Prelude.{◌≡◌, ℕ, Some, None, IfSome, IsSome, IsSomeAnd};
+ghost use Rattle.std.specs.Prelude.{◌≡◌, ℕ, Some, None, IfSome};
 ghost use Rattle.futures.specs.Task.{Keeps};
 ghost use Rattle.lock_program.specs.declared.end.End.TheVariants as ends;
 ghost use Rattle.lock_program.specs.declared.end.Next.TheVariants as next;
 ghost use Rattle.semaphore_driver.specs.Parties.{EndsAt, IfPending, IsReceipt, Stands};
-ghost use Rattle.semaphore_driver.specs.Polls.{OnOutcome, Polled, WaitsFor};
+ghost use Rattle.lock_program.specs.declared.refusal.Refusal.TheVariants as refusals;
+ghost use Rattle.semaphore_driver.specs.Polls.{OnOutcome, WaitsFor};
 ghost use Rattle.semaphore_driver.specs.Semaphores.{Has};
 ghost use Rattle.semaphore_driver.specs.Table.{CanPoll};
 ghost use Rattle.sync_program.specs.Permits.{action_of, next_of, start_of};
@@ -18,7 +19,7 @@ ghost use Rattle.sync_program.specs.declared.permits.SemaphoreCall.TheVariants a
 use crate::carries::PollFor;
 use crate::party::PermitParty;
 use crate::raw::RawSemaphore;
-use async_driver::{Carries, nothing, put};
+use async_driver::{Carries, WeightedListed, nothing, put};
 use futures::task::Context;
 use lock_program::{End, Refusal};
 use std::sync::Wait;
@@ -26,12 +27,30 @@ use std::time::Clock;
 use sync_program::permits::Position;
 use words_semaphore::Seat;
 
-/// A party between two polls. It has no `Drop`: a poll goes on with it, or a cancel ends it.
+/// What a party keeps that waits between two polls: its entry, and its seat, which has nothing. It has no `Drop`: a poll goes on
+/// with it, or a cancel ends it.
+///
+/// A party has room for all that it comes to have inside a call. This is less, and so is a future that has it.
 pub struct Waiting {
-    /// What it has.
-    pub party: PermitParty,
-    /// Where it stands.
-    pub position: Position,
+    /// Steps on the semaphore's words.
+    pub seat: Seat,
+    /// Its entry in the list, for the permits that it waits for.
+    pub entry: WeightedListed,
+}
+
+impl Waiting {
+    // The party that goes on, for so many permits.
+    fn into_party(self, permits: u64) -> PermitParty
+        ensures { result ≡ record { permits = permits; seat = self.seat; entry = Some self.entry; duty = None } }
+    {
+        let Waiting { seat, entry } = self;
+        PermitParty {
+            permits,
+            seat,
+            entry: Some(entry),
+            duty: None,
+        }
+    }
 }
 
 /// How a poll went.
@@ -46,17 +65,15 @@ pub enum Outcome {
 
 impl RawSemaphore {
     /// A party that waits to be polled for the first time, for so many permits.
-    pub fn first(&self, permits: u64) -> Waiting
-        ensures { WaitsFor self.now permits result }
+    pub fn first(&self, permits: u64) -> PermitParty
+        ensures stands { Stands self.now result (stands.Unlisted permits) }
+        ensures permits { result.permits ≡ permits }
     {
-        Waiting {
-            party: PermitParty {
-                permits,
-                seat: self.stock.sit(),
-                entry: None,
-                duty: None,
-            },
-            position: Position::Unlisted(permits),
+        PermitParty {
+            permits,
+            seat: self.stock.sit(),
+            entry: None,
+            duty: None,
         }
     }
 
@@ -87,8 +104,8 @@ impl RawSemaphore {
         (end, party.pass_on(self, rt, position))
     }
 
-    /// Polls in place a future for so many permits: there is no party before the first poll and after the last. By the contract
-    /// the party has what its position says whenever there is one.
+    /// Polls a future for so many permits, with what its party keeps while it waits: nothing before the first poll, after one
+    /// that was refused, and after the last.
     pub fn poll_waiting<R: Wait + Clock>(
         &self,
         rt: &R,
@@ -101,59 +118,92 @@ impl RawSemaphore {
         ensures outcome { OnOutcome self.now permits cx.new result waiting.new }
         ensures kept { Keeps cx.old cx.new }
     {
-        match self.poll_in_place(rt, cx, permits, waiting) {
-            End::Pending => Outcome::Waits,
-            End::Got => Outcome::Got(self.seat_of(permits, taken(waiting))),
-            End::Refused(refusal) => Outcome::Refused(refusal),
+        let (mut party, position) = match waiting.take() {
+            Some(waiting) => (waiting.into_party(permits), Position::Waiting(permits)),
+            None => (self.first(permits), Position::Unlisted(permits)),
+        };
+        let (end, position) = self.poll(rt, cx, &mut party, position);
+        match end {
+            End::Pending => {
+                put(waiting, self.kept(permits, party, position));
+                Outcome::Waits
+            }
+            End::Got => Outcome::Got(self.seat_of(permits, party, position)),
+            End::Refused(refusal) => {
+                self.end(party, position);
+                Outcome::Refused(refusal)
+            }
             End::Granted | End::Waiting | End::NotFree | End::GivenBack => unreachable!(),
         }
     }
 
-    // One poll, from where the party stands: how it ends.
-    fn poll_in_place<R: Wait + Clock>(
-        &self,
-        rt: &R,
-        cx: &mut Context<'_>,
-        permits: u64,
-        waiting: &mut Option<Waiting>,
-    ) -> End
-        requires { IfSome waiting.old (WaitsFor self.now permits) }
-        ensures polled { IsSomeAnd waiting.new (Polled self.now permits cx.new result) }
-        ensures kept { Keeps cx.old cx.new }
+    // What a party keeps that waits.
+    fn kept(&self, permits: u64, party: PermitParty, position: Position) -> Waiting
+        requires stands { Stands self.now party position }
+        requires permits { party.permits ≡ permits }
+        requires pending { EndsAt ends.Pending position }
+        ensures waits { WaitsFor self.now permits result }
+        ensures entry { party.entry ≡ Some result.entry }
     {
-        if waiting.is_none() {
-            put(waiting, self.first(permits));
-        }
-        match waiting {
-            Some(inside) => {
-                let (end, position) = self.poll(rt, cx, &mut inside.party, inside.position);
-                inside.position = position;
-                end
-            }
+        let _ = permits;
+        let _ = position;
+        let PermitParty {
+            permits: _,
+            seat,
+            entry,
+            duty,
+        } = party;
+        nothing(duty);
+        match entry {
+            Some(entry) => Waiting { seat, entry },
             None => unreachable!(),
         }
     }
 
     // The seat of a party that got what its future is for. Nothing else is left of the party.
-    fn seat_of(&self, permits: u64, waiting: Waiting) -> Seat
-        requires stands { Stands self.now waiting.party waiting.position }
-        requires permits { waiting.party.permits ≡ permits }
-        requires got { EndsAt ends.Got waiting.position }
+    fn seat_of(&self, permits: u64, party: PermitParty, position: Position) -> Seat
+        requires stands { Stands self.now party position }
+        requires permits { party.permits ≡ permits }
+        requires got { EndsAt ends.Got position }
         ensures { Has self.now permits result }
     {
-        let Waiting { party, position: _ } = waiting;
+        let _ = position;
         party.into_seat(self, permits)
     }
 
-    /// Gives back what a future has that is dropped while it waits: its entry, and a notification that it was given. Its
-    /// program has one branch, and so its actions stand here in their order; that they are the table's is proved
-    /// (`cancel_rows`).
-    pub fn cancel<R: Wait>(&self, rt: &R, permits: u64, waiting: Waiting)
+    // Ends a party that gave up, which has nothing.
+    fn end(&self, party: PermitParty, position: Position)
+        requires stands { Stands self.now party position }
+        requires refused { EndsAt (ends.Refused refusals.Memory) position }
+    {
+        let _ = position;
+        let PermitParty {
+            permits: _,
+            seat,
+            entry,
+            duty,
+        } = party;
+        nothing(entry);
+        nothing(duty);
+        self.stock.rise(seat);
+    }
+
+    /// Gives back what a future for so many permits has that is dropped while it waits, as [`RawSemaphore::cancel`].
+    pub fn cancel_waiting<R: Wait>(&self, rt: &R, permits: u64, waiting: Waiting)
         requires { WaitsFor self.now permits waiting }
     {
+        self.cancel(rt, waiting.into_party(permits), Position::Waiting(permits));
+    }
+
+    /// Gives back what a party has that waits between two polls: its entry, and a notification that it was given. Its
+    /// program has one branch, and so its actions stand here in their order. Which rows of the table they are,
+    /// `cancel_rows` says.
+    pub fn cancel<R: Wait>(&self, rt: &R, party: PermitParty, position: Position)
+        requires stands { Stands self.now party position }
+        requires rests { CanPoll position }
+    {
         cancel_rows();
-        let _ = permits;
-        let Waiting { party, position: _ } = waiting;
+        let _ = position;
         let PermitParty {
             permits: _,
             seat,
@@ -172,18 +222,6 @@ impl RawSemaphore {
         }
         nothing(duty);
         self.stock.rise(seat);
-    }
-}
-
-// The party of a call that is over.
-fn taken(waiting: &mut Option<Waiting>) -> Waiting
-    requires { IsSome waiting.old }
-    ensures party { IfSome waiting.old (λ w. result ≡ w) }
-    ensures none { waiting.new ≡ None }
-{
-    match waiting.take() {
-        Some(waiting) => waiting,
-        None => unreachable!(),
     }
 }
 

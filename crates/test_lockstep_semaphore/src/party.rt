@@ -4,7 +4,7 @@ ghost use Rattle.std.specs.Prelude.{◌≡◌};
 
 use async_driver::WeightedListed;
 use lockstep::{Bench, Walker};
-use semaphore_driver::{PermitParty, RawSemaphore, Waiting};
+use semaphore_driver::{PermitParty, RawSemaphore};
 use std::marker::Model;
 use std::sync::{Arc, Wait};
 use sync_program::permits::{Place, Position};
@@ -83,11 +83,11 @@ pub(crate) enum Having {
 
 /// A future of so many permits.
 pub(crate) fn new_future(shared: Arc<RawSemaphore>, permits: u64) -> Party {
-    let Waiting { party, position } = shared.first(permits);
+    let party = shared.first(permits);
     Walker {
         shared,
         party,
-        place: position,
+        place: Position::Unlisted(permits),
     }
 }
 
@@ -161,16 +161,7 @@ pub(crate) fn cancel<R: Wait>(walker: Party, bench: &Bench<R>) {
         place,
     } = walker;
     match place {
-        Position::Unlisted(permits) | Position::Waiting(permits) => {
-            shared.cancel(
-                bench,
-                permits,
-                Waiting {
-                    party,
-                    position: place,
-                },
-            );
-        }
+        Position::Unlisted(_) | Position::Waiting(_) => shared.cancel(bench, party, place),
         _ => {
             for _ in bench.forever() {}
             unreachable!()
