@@ -128,21 +128,28 @@ where
     let Ok(lock) = RwLock::new(*rt, 0_u64) else {
         return Err(io::Error::other("no memory for a lock"));
     };
-    let Ok(lock) = Arc::new(rt.alloc(), lock) else {
+    let Ok(owned) = Arc::new(rt.alloc(), lock) else {
         return Err(io::Error::other("no memory for a lock"));
     };
-    let lock = &lock;
+    let owned = &owned;
+    let lock = &**owned;
     for (name, of) in USES {
-        print(rt, name, &Pair { lock, task, of }, OFTEN)?;
+        let row = Pair {
+            lock,
+            owned,
+            task,
+            of,
+        };
+        print(rt, name, &row, OFTEN)?;
     }
     let beside = lock.try_read();
-    let of = Use::Read;
-    print(
-        rt,
-        "read ready and drop, beside another",
-        &Pair { lock, task, of },
-        OFTEN,
-    )?;
+    let row = Pair {
+        lock,
+        owned,
+        task,
+        of: Use::Read,
+    };
+    print(rt, "read ready and drop, beside another", &row, OFTEN)?;
     drop(beside);
     Ok(())
 }
@@ -172,13 +179,15 @@ where
     let Ok(semaphore) = Semaphore::new(*rt, 5) else {
         return Err(io::Error::other("no memory for a semaphore"));
     };
-    let Ok(semaphore) = Arc::new(rt.alloc(), semaphore) else {
+    let Ok(owned) = Arc::new(rt.alloc(), semaphore) else {
         return Err(io::Error::other("no memory for a semaphore"));
     };
-    let semaphore = &semaphore;
+    let owned = &owned;
+    let semaphore = &**owned;
     for (name, of) in ACQUIRES {
         let row = semaphore::Pair {
             semaphore,
+            owned,
             task,
             of,
         };

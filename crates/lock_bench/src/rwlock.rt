@@ -23,7 +23,8 @@ pub(crate) enum Use {
 /// One such use, and the drop of its guard.
 #[derive(Drop)]
 pub(crate) struct Pair<'a, 'b, R: Wait> {
-    pub lock: &'a Arc<RwLock<u64, R>>,
+    pub lock: &'a RwLock<u64, R>,
+    pub owned: &'a Arc<RwLock<u64, R>>,
     pub task: &'b MockTask,
     pub of: Use,
 }
@@ -97,10 +98,10 @@ impl<R: Wait + Clock + Drop> Pair<'_, '_, R> {
     }
 
     fn read_arc(&self, times: u64) {
-        let lock = self.lock;
+        let owned = self.owned;
         self.task.enter(|cx| {
             for _ in 0..times {
-                if let Turn::Ready(guard) = RwLock::read_arc(black_box(lock)).poll(cx) {
+                if let Turn::Ready(guard) = RwLock::read_arc(black_box(owned)).poll(cx) {
                     black_box(*guard);
                 }
             }
@@ -108,10 +109,10 @@ impl<R: Wait + Clock + Drop> Pair<'_, '_, R> {
     }
 
     fn write_arc(&self, times: u64) {
-        let lock = self.lock;
+        let owned = self.owned;
         self.task.enter(|cx| {
             for _ in 0..times {
-                if let Turn::Ready(mut guard) = RwLock::write_arc(black_box(lock)).poll(cx) {
+                if let Turn::Ready(mut guard) = RwLock::write_arc(black_box(owned)).poll(cx) {
                     *guard = guard.wrapping_add(1);
                 }
             }

@@ -25,7 +25,8 @@ pub(crate) enum Use {
 /// One such use, and the drop of its guard.
 #[derive(Drop)]
 pub(crate) struct Pair<'a, 'b, R: Wait> {
-    pub semaphore: &'a Arc<Semaphore<R>>,
+    pub semaphore: &'a Semaphore<R>,
+    pub owned: &'a Arc<Semaphore<R>>,
     pub task: &'b MockTask,
     pub of: Use,
 }
@@ -70,10 +71,10 @@ impl<R: Wait + Clock + Drop> Pair<'_, '_, R> {
     }
 
     fn acquire_arc(&self, times: u64) {
-        let semaphore = self.semaphore;
+        let owned = self.owned;
         self.task.enter(|cx| {
             for _ in 0..times {
-                if let Turn::Ready(guard) = Semaphore::acquire_arc(black_box(semaphore)).poll(cx) {
+                if let Turn::Ready(guard) = Semaphore::acquire_arc(black_box(owned)).poll(cx) {
                     black_box(guard.permits());
                 }
             }
