@@ -157,8 +157,8 @@ impl RawBarrier {
         party.call(self, rt, cx, call, standing)
     }
 
-    /// Gives back what a party has that waits between two polls. The program of it has no branch, and so its actions stand here;
-    /// that they are the table's is proved (`cancel_rows`).
+    /// Gives back what a party has that waits between two polls. The program of it has no branch, and so its actions stand here.
+    /// Which rows of the table they are, `cancel_rows` says.
     pub fn cancel<R: Wait>(&self, rt: &R, party: BarrierParty, standing: Left)
         requires stands { Stands self.now party standing }
         requires waits { CanPoll standing }

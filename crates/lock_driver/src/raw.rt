@@ -129,7 +129,7 @@ impl<T> RawMutex<T> {
 
 impl<T> RawMutex<T> {
     /// Gives the lock back by the seat that holds it, with the right to its value. The program of a release has no
-    /// branch, and so its two actions stand here in their order; that they are the table's is proved (`straight_rows`).
+    /// branch, and so its two actions stand here in their order. Which rows of the table they are, `straight_rows` says.
     ///
     /// By their types the seat can't end before it has given the lock back, nor the call before somebody who waits is
     /// notified.

@@ -1,7 +1,8 @@
 //! A party between two polls, and one poll of it.
 //!
-//! What most polls come to are few rows of the program's table. They stand here in their order, and by contract they are the
-//! table's (`first_rows`, `told_rows`, `cancel_rows`); all else goes on by the driver.
+//! What most polls come to are few rows of the program's table, and their actions stand here in order. Which rows they are,
+//! `first_rows`, `told_rows` and `cancel_rows` say by contract; that they are carried out so, duties and places say in part,
+//! and tests for the rest. Whatever else a poll comes to goes on by the driver.
 
 ghost use Rattle.std.specs.Prelude.{◌≡◌, true, false, IfSome, IfNone, IsSomeAnd, Some, None};
 ghost use Rattle.futures.specs.Task.{Keeps};
@@ -241,7 +242,7 @@ fn drive<W: MutexWord, R: Wait + Clock>(
 }
 
 /// Gives back what a party has that waits between two polls: its seat, which has nothing. The program of it has no branch, and
-/// so its actions stand here in their order; that they are the table's is proved (`cancel_rows`).
+/// so its actions stand here in their order. Which rows of the table they are, `cancel_rows` says.
 #[inline(always)]
 pub fn cancel<W: MutexWord, R: Wait>(word: &W, rt: &R, waiting: Waiting<W>) -> W::Seat
     requires { Waits W.MutexWord word.now waiting }

@@ -33,8 +33,8 @@ struct Entered<T> {
 impl<T: Drop> RawCell<T> {
     /// Puts this value in at once if the cell is empty, and else gives it back: also while another makes the value.
     ///
-    /// The program of a try has one branch, and so its actions stand here in their order; that they are the table's is proved
-    /// (`try_rows`). By their types the cell can't stay being made, nor the call end before both lists are notified.
+    /// The program of a try has one branch, and so its actions stand here in their order. Which rows of the table they are,
+    /// `try_rows` says. By their types the cell can't stay being made, nor the call end before both lists are notified.
     pub fn try_set<R: Wait>(&self, rt: &R, value: T) -> Result<(), T>
         ensures { IfErr result (λ back. back ≡ value) }
     {
@@ -84,7 +84,7 @@ impl<T: Drop> RawCell<T> {
     }
 
     /// Gives back what a party has that waits between two polls. The program of it has no branch, and so its actions stand here in
-    /// their order; that they are the table's is proved (`cancel_rows`). What made the value is dropped first.
+    /// their order. Which rows of the table they are, `cancel_rows` says. What made the value is dropped first.
     pub fn cancel<'a, E: Drop, M: Drop, R: Wait>(
         cell: &'a RawCell<T>,
         rt: &R,

@@ -140,8 +140,8 @@ impl RawRwLock {
     /// Polls in place: there is no party before the first poll and after the last. By the contract the party has what its place
     /// says whenever there is one.
     ///
-    /// A first poll begins with the actions that get a free right, carried out straight; that they are the table's is proved
-    /// (`first_rows`). One that they don't end goes on by the driver.
+    /// A first poll begins with the actions that get a free right, carried out straight. Which rows of the table
+    /// they are, `first_rows` says. One that they don't end goes on by the driver.
     #[inline]
     pub fn poll_waiting<R: Wait + Clock>(
         &self,
@@ -413,7 +413,7 @@ impl RawRwLock {
 
     /// Gives back what a party has that waits between two polls: its entry, a notification that it was given, its count as
     /// starved, and, once it has set it, the writer's bit and the turn. Its program has no branch, and so its actions stand
-    /// here in their order; that they are the table's is proved (`cancel_rows`).
+    /// here in their order. Which rows of the table they are, `cancel_rows` says.
     pub fn cancel<R: Wait>(&self, rt: &R, aim: Aim, waiting: Waiting)
         requires { WaitsFor self.now aim waiting }
     {

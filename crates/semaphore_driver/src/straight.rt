@@ -1,7 +1,7 @@
 //! The calls whose programs are short, carried out straight on a seat: a try, what ends a guard, and an addition.
 //!
-//! By their types a seat can't end with permits, nor a call before whoever the permits are enough for is notified. That the
-//! actions are the table's, in its order, is proved beside them.
+//! By their types a seat can't end with permits, nor a call before whoever the permits are enough for is notified. Which
+//! rows of the table the actions are, is said by contract beside them.
 
 ghost use Rattle.std.specs.Prelude.{◌≡◌, ℕ, Some, false, IfErr, IfOk, IfSome, MatchBool};
 ghost use Rattle.lock_program.specs.declared.end.End.TheVariants as ends;
