@@ -40,8 +40,8 @@ impl Keys {
 }
 
 impl Stock {
-    /// Ends the duty of a party that took the last permit: a waiter could be notified of nothing. Who gives permits next
-    /// notifies.
+    /// Ends the duty of a party that took the last permit, or found none available: a waiter could be notified of nothing. Who
+    /// gives permits next notifies.
     #[inline]
     pub fn nothing_left(&self, owed: Owed, seat: &Seat)
         requires list { owed.list.id ≡ self.now.list }
