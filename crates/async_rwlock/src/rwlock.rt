@@ -27,8 +27,11 @@ pub struct RwLock<T, R> {
 
 impl<T: Drop, R: AllocGlobal + Drop> RwLock<T, R> {
     /// Creates a free lock over a value. If memory is refused, it returns [`Refusal::Memory`] and drops the value.
+    ///
+    /// By the contract it has the greatest limits (`limits`), and no other refusal is returned (`memory`).
     pub fn new(rt: R, value: T) -> Result<RwLock<T, R>, Refusal>
-        ensures { IfErr result (λ refusal. refusal ≡ Refusal.Memory) }
+        ensures memory { IfErr result (λ refusal. refusal ≡ Refusal.Memory) }
+        ensures limits { IfOk result (λ lock. (lock.raw.words.starved ≡ 1073741823) × (lock.raw.words.readers ≡ 1073741823)) }
     {
         RwLock::with_limits(rt, value, STARVED_LIMIT, READERS_LIMIT)
     }

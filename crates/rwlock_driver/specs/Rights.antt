@@ -1,5 +1,5 @@
 -- What a seat has on a read-write lock.
-use Rattle.std.specs.Prelude.{◌≡◌, Bool, true, false, []}
+use Rattle.std.specs.Prelude.{◌≡◌, ◌≤◌, ◌/◌, ◌%◌, ◌⊎◌, Bool, true, false, []}
 use Rattle.words_rwlock.specs.declared.view.Seat.{Seat}
 use Rattle.words_rwlock.specs.declared.view.View.{View}
 use Rattle.rwlock_driver.specs.declared.raw.RawRwLock.{RawRwLock}
@@ -41,3 +41,11 @@ writer = flags true false true false true
 -- the seat is the lock's, and has this right
 abbrev pub Has : RawRwLock → Flags → Seat → Type 0
 Has raw right seat = (seat.inner.table_id ≡ raw.words.table) × (seat.inner.me.1 ≡ []) × Shows seat.inner.me.0 right
+
+-- its last look at the state word found as many readers as may be
+abbrev pub IsFull : RawRwLock → Seat → Type 0
+IsFull raw seat = raw.words.readers ≤ seat.inner.me.0.found / 2
+
+-- its last look found a writer's bit, or as many readers as may be
+abbrev pub IsClosed : RawRwLock → Seat → Type 0
+IsClosed raw seat = (seat.inner.me.0.found % 2 ≡ 1) ⊎ IsFull raw seat

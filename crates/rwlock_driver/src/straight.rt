@@ -1,11 +1,24 @@
 //! The calls whose programs are short, carried out straight on a seat: the tries, and what gives a right back or changes it.
 //!
 //! Each gives back what it gives back by the types' force: a seat can't end before it has nothing, nor a call before those
-//! whom it has to notify were notified.
+//! whom it has to notify were notified. Which rows of the table they carry out, `try_rows`, `drop_rows` and `change_rows` say.
 
-ghost use Rattle.std.specs.Prelude.{◌≡◌, true, false, IfSome, MatchBool};
-ghost use Rattle.rwlock_driver.specs.Rights.{Has, idle, passing, reader, upgradable, awaits, writer};
-ghost use Rattle.words_rwlock.specs.Steps.{without_turn};
+ghost use Rattle.std.specs.Prelude.{◌≡◌, true, false, Bool, Some, IfSome, MatchBool};
+ghost use Rattle.lock_program.specs.ReadWrite.{start_of, action_of, next_of};
+ghost use Rattle.lock_program.specs.declared.end.End.TheVariants as ends;
+ghost use Rattle.lock_program.specs.declared.end.Next.TheVariants as next;
+ghost use Rattle.lock_program.specs.declared.mutex.LockCall.TheVariants as turn_calls;
+ghost use Rattle.lock_program.specs.declared.mutex.Step.TheVariants as turn_step;
+ghost use Rattle.lock_program.specs.declared.rwlock.Action.TheVariants as does;
+ghost use Rattle.lock_program.specs.declared.rwlock.Ending.{Ending};
+ghost use Rattle.lock_program.specs.declared.rwlock.Ending.TheVariants as over;
+ghost use Rattle.lock_program.specs.declared.rwlock.Found.TheVariants as finds;
+ghost use Rattle.lock_program.specs.declared.rwlock.Place.TheVariants as at;
+ghost use Rattle.lock_program.specs.declared.rwlock.Purpose.{Purpose};
+ghost use Rattle.lock_program.specs.declared.rwlock.Purpose.TheVariants as purpose;
+ghost use Rattle.lock_program.specs.declared.rwlock.RwLockCall.TheVariants as calls;
+ghost use Rattle.rwlock_driver.specs.Rights.{Has, IsClosed, IsFull, idle, passing, reader, upgradable, awaits, writer};
+ghost use Rattle.words_rwlock.specs.Steps.{downgraded, upgraded, without_turn};
 
 use crate::raw::RawRwLock;
 use std::sync::Wait;
@@ -17,6 +30,7 @@ impl RawRwLock {
     pub fn try_read<R: Wait>(&self, rt: &R) -> Option<Seat>
         ensures { IfSome result (Has self.now reader) }
     {
+        try_rows();
         let mut seat = self.words.sit();
         if self.read(rt, &mut seat) {
             return Some(seat);
@@ -29,6 +43,7 @@ impl RawRwLock {
     pub fn try_upgradable_read<R: Wait>(&self, rt: &R) -> Option<Seat>
         ensures { IfSome result (Has self.now upgradable) }
     {
+        try_rows();
         let mut seat = self.try_turn()?;
         if self.add(rt, &mut seat) {
             return Some(seat);
@@ -42,6 +57,7 @@ impl RawRwLock {
     pub fn try_write<R: Wait>(&self, rt: &R) -> Option<Seat>
         ensures { IfSome result (Has self.now writer) }
     {
+        try_rows();
         let mut seat = self.try_turn()?;
         if self.words.try_write(&mut seat) {
             return Some(seat);
@@ -68,7 +84,7 @@ impl RawRwLock {
     // Reads, if no writer's bit is set and there are fewer readers than may be, however often the word changes meanwhile.
     fn read<R: Wait>(&self, rt: &R, seat: &mut Seat) -> bool
         requires { Has self.now idle seat.old }
-        ensures { MatchBool result (Has self.now reader seat.new) (Has self.now idle seat.new) }
+        ensures { MatchBool result (Has self.now reader seat.new) (Has self.now idle seat.new × IsClosed self.now seat.new) }
     {
         for _ in rt.forever() {
             match self.words.read(seat) {
@@ -83,7 +99,7 @@ impl RawRwLock {
     // Reads with the turn, if there are fewer readers than may be, however often the word changes meanwhile.
     pub(crate) fn add<R: Wait>(&self, rt: &R, seat: &mut Seat) -> bool
         requires { Has self.now passing seat.old }
-        ensures { MatchBool result (Has self.now upgradable seat.new) (Has self.now passing seat.new) }
+        ensures { MatchBool result (Has self.now upgradable seat.new) (Has self.now passing seat.new × IsFull self.now seat.new) }
     {
         for _ in rt.forever() {
             match self.words.add(seat) {
@@ -99,7 +115,7 @@ impl RawRwLock {
     fn release_turn<R: Wait>(&self, rt: &R, seat: &mut Seat)
         requires table { seat.old.inner.table_id ≡ self.now.words.table }
         requires turn { (seat.old.inner.me.0.holds ≡ true) × (seat.old.inner.me.0.marks ≡ false) }
-        ensures table { seat.new.inner.table_id ≡ seat.old.inner.table_id }
+        ensures same { (seat.new.inner.table_id ≡ seat.old.inner.table_id) × (seat.new.inner.id ≡ seat.old.inner.id) }
         ensures step { seat.new.inner.me ≡ (without_turn seat.old.inner.me.0, seat.old.inner.me.1) }
     {
         let owed = self.words.clear(seat);
@@ -110,6 +126,7 @@ impl RawRwLock {
     pub fn drop_read<R: Wait>(&self, rt: &R, seat: Seat)
         requires { Has self.now reader seat }
     {
+        drop_rows();
         let mut seat = seat;
         if let Some(owed) = self.words.off(&mut seat) {
             self.no_readers.notify(rt, 1, owed);
@@ -121,6 +138,7 @@ impl RawRwLock {
     pub fn drop_upgradable<R: Wait>(&self, rt: &R, seat: Seat)
         requires { Has self.now upgradable seat }
     {
+        drop_rows();
         let mut seat = seat;
         if let Some(owed) = self.words.off(&mut seat) {
             self.no_readers.notify(rt, 1, owed);
@@ -133,6 +151,7 @@ impl RawRwLock {
     pub fn drop_write<R: Wait>(&self, rt: &R, seat: Seat)
         requires { Has self.now writer seat }
     {
+        drop_rows();
         self.unlock(rt, seat);
     }
 
@@ -149,21 +168,26 @@ impl RawRwLock {
         self.words.rise(seat);
     }
 
-    /// Reads on without the turn.
+    /// Reads on without the turn. It is the same seat, and no step of it but that one (`same`).
     pub fn downgrade_upgradable<R: Wait>(&self, rt: &R, seat: Seat) -> Seat
         requires { Has self.now upgradable seat }
-        ensures { Has self.now reader result }
+        ensures reads { Has self.now reader result }
+        ensures same { (result.inner.id ≡ seat.inner.id) × (result.inner.me ≡ (without_turn seat.inner.me.0, seat.inner.me.1)) }
     {
+        change_rows();
         let mut seat = seat;
         self.release_turn(rt, &mut seat);
         seat
     }
 
-    /// Reads in place of writing, and gives the turn back. Readers that wait are notified.
+    /// Reads in place of writing, and gives the turn back. Readers that wait are notified. It is the same seat, which at no time has
+    /// neither right (`same`): nobody writes in between.
     pub fn downgrade_write<R: Wait>(&self, rt: &R, seat: Seat) -> Seat
         requires { Has self.now writer seat }
-        ensures { Has self.now reader result }
+        ensures reads { Has self.now reader result }
+        ensures same { (result.inner.id ≡ seat.inner.id) × (result.inner.me ≡ (without_turn (downgraded seat.inner.me.0), seat.inner.me.1)) }
     {
+        change_rows();
         let mut seat = seat;
         let later = self.words.down(&mut seat);
         self.release_turn(rt, &mut seat);
@@ -171,11 +195,14 @@ impl RawRwLock {
         seat
     }
 
-    /// Reads in place of writing, and keeps the turn. Readers that wait are notified.
+    /// Reads in place of writing, and keeps the turn. Readers that wait are notified. It is the same seat, by that one step
+    /// (`same`).
     pub fn downgrade_to_upgradable<R: Wait>(&self, rt: &R, seat: Seat) -> Seat
         requires { Has self.now writer seat }
-        ensures { Has self.now upgradable result }
+        ensures reads { Has self.now upgradable result }
+        ensures same { (result.inner.id ≡ seat.inner.id) × (result.inner.me ≡ (downgraded seat.inner.me.0, seat.inner.me.1)) }
     {
+        change_rows();
         let mut seat = seat;
         let owed = self.words.down(&mut seat);
         self.no_writer.notify(rt, 1, owed);
@@ -187,17 +214,52 @@ impl RawRwLock {
         requires { Has self.now upgradable seat.old }
         ensures { MatchBool result (Has self.now writer seat.new) (Has self.now upgradable seat.new) }
     {
+        change_rows();
         self.words.try_upgrade(seat)
     }
 
-    /// Waits to write in place of reading with the turn: from now on nobody begins to read.
+    /// Waits to write in place of reading with the turn: from now on nobody begins to read. It is the same seat, by that one step
+    /// (`same`).
     #[inline]
     pub fn upgrade(&self, seat: Seat) -> Seat
         requires { Has self.now upgradable seat }
-        ensures { Has self.now awaits result }
+        ensures awaits { Has self.now awaits result }
+        ensures same { (result.inner.id ≡ seat.inner.id) × (result.inner.me ≡ (upgraded seat.inner.me.0, seat.inner.me.1)) }
     {
+        change_rows();
         let mut seat = seat;
         self.words.upgrade(&mut seat);
         seat
     }
 }
+
+// The rows of the program's table that the tries carry out.
+#[inline]
+fn try_rows()
+    ensures reads { (start_of calls.TryRead at.Out ≡ Some at.TryRead) × (action_of at.TryRead ≡ does.Read) × (next_of at.TryRead finds.Done ≡ next.End ends.Granted at.Reading) × (next_of at.TryRead finds.Writer ≡ next.End ends.NotFree at.Out) × (next_of at.TryRead finds.Full ≡ next.End ends.NotFree at.Out) }
+    ensures turns { (p : Purpose) → (action_of (at.TryTurn p) ≡ does.Begin turn_calls.Try) × (next_of (at.TryTurn p) (finds.Turn (turn_step.End ends.NotFree)) ≡ next.End ends.NotFree at.Out) }
+    ensures adds { (start_of calls.TryUpgradableRead at.Out ≡ Some (at.TryTurn purpose.UpgradableRead)) × (next_of (at.TryTurn purpose.UpgradableRead) (finds.Turn (turn_step.End ends.Got)) ≡ next.Do (at.Add true)) × (action_of (at.Add true) ≡ does.Add) × (next_of (at.Add true) finds.Done ≡ next.End ends.Granted at.Upgradable) × (next_of (at.Add true) finds.Full ≡ next.Do (at.ReleaseTurn (over.NotFree purpose.UpgradableRead))) }
+    ensures writes { (start_of calls.TryWrite at.Out ≡ Some (at.TryTurn purpose.Write)) × (next_of (at.TryTurn purpose.Write) (finds.Turn (turn_step.End ends.Got)) ≡ next.Do at.TryWrite) × (action_of at.TryWrite ≡ does.TryWrite) × (next_of at.TryWrite finds.Done ≡ next.End ends.Granted at.Writing) × (next_of at.TryWrite finds.NotFree ≡ next.Do (at.ReleaseTurn (over.NotFree purpose.Write))) }
+    ensures releases { (e : Ending) → action_of (at.ReleaseTurn e) ≡ does.Begin turn_calls.Release }
+{}
+
+// Those that the drops of guards carry out.
+#[inline]
+fn drop_rows()
+    ensures reads { (start_of calls.Drop at.Reading ≡ Some at.DropRead) × (action_of at.DropRead ≡ does.Off) × (next_of at.DropRead finds.SomeLeft ≡ next.End ends.GivenBack at.Out) × (next_of at.DropRead finds.NoneLeft ≡ next.Do at.DropReadNotify) × (action_of at.DropReadNotify ≡ does.NotifyNoReaders) × (next_of at.DropReadNotify finds.Done ≡ next.End ends.GivenBack at.Out) }
+    ensures upgradable { (start_of calls.Drop at.Upgradable ≡ Some at.DropUpgradable) × (action_of at.DropUpgradable ≡ does.Off) × (next_of at.DropUpgradable finds.SomeLeft ≡ next.Do (at.ReleaseTurn over.GivenBack)) × (next_of at.DropUpgradable finds.NoneLeft ≡ next.Do at.DropUpgradableNotify) × (action_of at.DropUpgradableNotify ≡ does.NotifyNoReaders) × (next_of at.DropUpgradableNotify finds.Done ≡ next.Do (at.ReleaseTurn over.GivenBack)) }
+    ensures writes { (start_of calls.Drop at.Writing ≡ Some at.DropWrite) × (action_of at.DropWrite ≡ does.Unmark) × (next_of at.DropWrite finds.Done ≡ next.Do (at.UnmarkNotify false)) × (action_of (at.UnmarkNotify false) ≡ does.NotifyNoWriter) × (next_of (at.UnmarkNotify false) finds.Done ≡ next.Do (at.ReleaseTurn over.GivenBack)) }
+    ensures releases { (e : Ending) → action_of (at.ReleaseTurn e) ≡ does.Begin turn_calls.Release }
+{}
+
+// Those that a downgrade and an upgrade carry out.
+#[inline]
+fn change_rows()
+    ensures upgradable { (start_of calls.Downgrade at.Upgradable ≡ Some (at.ReleaseTurn over.Reading)) × (next_of (at.ReleaseTurn over.Reading) (finds.Turn (turn_step.End ends.GivenBack)) ≡ next.End ends.GivenBack at.Reading) }
+    ensures downs { (keeps : Bool) → action_of (at.Down keeps) ≡ does.Down }
+    ensures writes { (start_of calls.Downgrade at.Writing ≡ Some (at.Down false)) × (next_of (at.Down false) finds.Done ≡ next.Do (at.ReleaseTurn over.NotifyReaders)) × (next_of (at.ReleaseTurn over.NotifyReaders) (finds.Turn (turn_step.End ends.GivenBack)) ≡ next.Do at.DowngradeNotify) × (action_of at.DowngradeNotify ≡ does.NotifyNoWriter) × (next_of at.DowngradeNotify finds.Done ≡ next.End ends.GivenBack at.Reading) }
+    ensures keeps { (start_of calls.DowngradeToUpgradable at.Writing ≡ Some (at.Down true)) × (next_of (at.Down true) finds.Done ≡ next.Do at.DownNotify) × (action_of at.DownNotify ≡ does.NotifyNoWriter) × (next_of at.DownNotify finds.Done ≡ next.End ends.GivenBack at.Upgradable) }
+    ensures tries { (start_of calls.TryUpgrade at.Upgradable ≡ Some at.TryUpgrade) × (action_of at.TryUpgrade ≡ does.TryUpgrade) × (next_of at.TryUpgrade finds.Done ≡ next.End ends.Granted at.Writing) × (next_of at.TryUpgrade finds.NotFree ≡ next.End ends.NotFree at.Upgradable) }
+    ensures upgrades { (start_of calls.Upgrade at.Upgradable ≡ Some at.Upgrade) × (action_of at.Upgrade ≡ does.Upgrade) × (next_of at.Upgrade finds.Done ≡ next.End ends.Waiting (at.LookUnlisted true)) }
+    ensures releases { (e : Ending) → action_of (at.ReleaseTurn e) ≡ does.Begin turn_calls.Release }
+{}

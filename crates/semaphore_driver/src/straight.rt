@@ -3,7 +3,7 @@
 //! By their types a seat can't end with permits, nor a call before whoever the permits are enough for is notified. Which
 //! rows of the table the actions are, is said by contract beside them.
 
-ghost use Rattle.std.specs.Prelude.{◌≡◌, ℕ, Some, false, IfErr, IfOk, IfSome, MatchBool};
+ghost use Rattle.std.specs.Prelude.{◌≡◌, ◌<◌, ℕ, Some, false, IfErr, IfOk, IfSome, MatchBool};
 ghost use Rattle.lock_program.specs.declared.end.End.TheVariants as ends;
 ghost use Rattle.lock_program.specs.declared.end.Next.TheVariants as next;
 ghost use Rattle.lock_program.specs.declared.refusal.Refusal.{Refusal};
@@ -41,11 +41,12 @@ impl RawSemaphore {
         None
     }
 
-    // Takes this many permits, if as many are available, however often the word changes meanwhile.
+    // Takes this many permits, if as many are available, however often the word changes meanwhile: in vain only where its last look
+    // found fewer.
     #[inline]
     fn take<R: Wait>(&self, rt: &R, seat: &mut Seat, permits: u64) -> bool
         requires { Has self.now 0 seat.old }
-        ensures { MatchBool result (Has self.now permits seat.new) (Has self.now 0 seat.new) }
+        ensures { MatchBool result (Has self.now permits seat.new) (Has self.now 0 seat.new × (seat.new.inner.me.0.found < permits)) }
     {
         for _ in rt.forever() {
             let mut duty = None;
