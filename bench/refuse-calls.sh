@@ -44,7 +44,11 @@ for call in Mutex::new Mutex::lock Mutex::lock_arc RwLock::new 'RwLock::read, a 
     Semaphore::new Semaphore::acquire 'Semaphore::acquire_many, first' Semaphore::acquire_arc \
     'Semaphore::acquire_many_arc, first' OnceCell::new OnceCell::with_value OnceCell::wait OnceCell::set \
     'OnceCell::get_or_init, first' 'OnceCell::get_or_try_init, first' OnceCell::set_blocking OnceCell::get_or_init_blocking \
-    'OnceCell::get_or_try_init_blocking, failing' Barrier::new 'Barrier::wait, the first' Barrier::wait_blocking; do
+    'OnceCell::get_or_try_init_blocking, failing' 'Semaphore::acquire_blocking, none left' \
+    'Semaphore::acquire_many_blocking, none left' 'Semaphore::acquire_arc_blocking, none left' \
+    'Semaphore::acquire_many_arc_blocking, none left' 'OnceCell::wait_blocking, an empty cell' \
+    'RwLock::read_blocking, a writer' 'RwLock::upgradable_read_blocking, a writer' 'RwLock::write_blocking, a writer' \
+    RwLockUpgradableReadGuard::upgrade_blocking Barrier::new 'Barrier::wait, the first' Barrier::wait_blocking; do
     grep -qxF "refused: $call" "$work/log" || {
         echo "never refused: $call" >&2
         exit 1

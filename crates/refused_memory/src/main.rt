@@ -13,8 +13,9 @@ mod rwlock;
 mod semaphore;
 mod threads;
 mod token;
+mod waits;
 
-use async_lock::{Barrier, Mutex, RwLock, Semaphore};
+use async_lock::{Barrier, Mutex, OnceCell, RwLock, Semaphore};
 use book::{Book, Runtime, twice};
 use mutex::new_mutex;
 use once_cell::new_cell;
@@ -102,7 +103,19 @@ fn in_threads<R: Runtime + Threads + Sync>(book: &Book<R>) -> Option<(u64, u64, 
     threads::added(book, &mutex, &lock, &semaphore)
 }
 
-fn print_all<R: Runtime + Print + Threads + Sync>(
+// What blocking calls get that have to wait for another thread.
+fn blocked<R: Runtime + Threads + Send + Sync>(book: &Book<R>) -> Option<(usize, u64, u64, u64)> {
+    let rt = book.rt();
+    let semaphore = twice!(book, "Semaphore::new", Semaphore::new(rt, 0))?;
+    let permits = waits::permits(book, &book.shared(semaphore)?)?;
+    let cell = twice!(book, "OnceCell::new", OnceCell::new(rt))?;
+    let value = waits::value(book, &cell)?;
+    let lock = twice!(book, "RwLock::new", RwLock::new(rt, 0u64))?;
+    let written = waits::written(book, &lock)?;
+    Some((permits, value, written, waits::upgraded(book, &lock)?))
+}
+
+fn print_all<R: Runtime + Print + Threads + Send + Sync>(
     rt: R,
     book: &Book<R>,
     counts: &Counts,
@@ -113,6 +126,7 @@ fn print_all<R: Runtime + Print + Threads + Sync>(
     println!(rt; "once-cell: {:?}", book.found(cells(book, counts)))?;
     println!(rt; "barrier: {:?}", book.found(barriers(book)))?;
     println!(rt; "two threads: {:?}", book.found(in_threads(book)))?;
+    println!(rt; "waits: {:?}", book.found(blocked(book)))?;
     println!(rt; "values left: {}", counts.alive())
 }
 
