@@ -14,6 +14,8 @@ mod same;
 #[cfg(test)]
 mod scene;
 #[cfg(test)]
+mod shares;
+#[cfg(test)]
 mod stories;
 #[cfg(test)]
 mod surface;

@@ -3,7 +3,7 @@
 use crate::forms::{Form, owned};
 use crate::party::{Answer, Deed};
 use crate::same::assert_same;
-use crate::scene::{NOBODY, Name, Row, TWO, of_borrowed, of_both, of_owned};
+use crate::scene::{NOBODY, Name, ONE, Row, TWO, of_borrowed, of_both, of_owned};
 use crate::threads::{assert_none_counted, assert_none_refused, holds_beside};
 use async_semaphore::{Semaphore, Settled};
 use futures::executor::block_on;
@@ -217,4 +217,18 @@ fn add_permits(rt: HostRuntime) {
     if let Ok(semaphore) = Semaphore::new(rt, 0) {
         fifty_forget_what_is_added(&rt, &semaphore);
     }
+}
+
+// Two wait, and one permit is added: the first of them gets it, and the second goes on waiting.
+const ADD_PERMITS_2: [Row; 5] = [
+    (Name::One, Deed::Acquire(1), Answer::Pending, 0, NOBODY),
+    (Name::Two, Deed::Acquire(1), Answer::Pending, 0, NOBODY),
+    (Name::Three, Deed::Add(1), Answer::Added, 1, ONE),
+    (Name::One, Deed::Poll, Answer::Ready(1), 0, NOBODY),
+    (Name::Two, Deed::Poll, Answer::Pending, 0, NOBODY),
+];
+
+#[test]
+fn add_permits_2(rt: HostRuntime) {
+    of_both(rt, 0, &ADD_PERMITS_2);
 }

@@ -2,12 +2,12 @@
 
 use crate::same::assert_same;
 use crate::scene::task;
-use async_semaphore::{Semaphore, Settled};
+use async_semaphore::{Refusal, Semaphore, Settled};
 use futures::task::Poll;
 use std::alloc::AllocGlobal;
-use std::fmt;
 use std::process::Abort;
 use std::sync::Arc;
+use std::{fmt, mem};
 
 // Why a test here stops where memory is refused.
 const AMPLE: &str = "memory is ample";
@@ -50,6 +50,19 @@ fn an_owned_future_keeps_the_semaphore(rt: HostRuntime) {
     };
     drop(future);
     assert_same(&rt, guard.permits(), 1);
+}
+
+// A guard that is lost gives nothing back, and its permits count within the limit still.
+#[test]
+fn a_guard_that_is_lost_stays_counted(rt: HostRuntime) {
+    let semaphore = Semaphore::new(rt, 3).expect(&rt, AMPLE);
+    let guard = semaphore.try_acquire_many(2).expect(&rt, "they are there");
+    mem::forget(guard);
+    assert_same(&rt, semaphore.available_permits(), 1);
+    assert_same(&rt, semaphore.try_acquire_many(2).is_none(), true);
+    assert_same(&rt, semaphore.add_permits(usize::MAX - 3), Ok(()));
+    assert_same(&rt, semaphore.available_permits(), usize::MAX - 2);
+    assert_same(&rt, semaphore.add_permits(1), Err(Refusal::Permits));
 }
 
 #[test]

@@ -135,6 +135,52 @@ fn fifty_threads_forget_what_is_added(rt: HostRuntime) {
     }
 }
 
+// Adds a permit, takes one and forgets it, so often: how often an addition was refused, or no permit was found. Each thread
+// takes no more than it has added before, so one is there at every moment of each try, whatever the others do.
+fn add_and_take_often<R, O>(semaphore: &O, rounds: u32) -> u64
+where
+    R: Wait + Clock + RandomSource + AllocGlobal,
+    O: Form<R>,
+{
+    let mut failed = 0u64;
+    for _ in 0..rounds {
+        if semaphore.add(1).is_err() {
+            failed = failed.saturating_add(1);
+        }
+        match semaphore.take(1) {
+            Some(guard) => guard.forget(),
+            None => failed = failed.saturating_add(1),
+        }
+    }
+    failed
+}
+
+// Eight threads that each add a permit, take one and forget it. None is left.
+fn eight_add_and_take<R, O>(rt: &R, semaphore: &O)
+where
+    R: Wait + Clock + RandomSource + AllocGlobal + Threads + Abort + Sync,
+    O: Form<R> + Sync,
+{
+    let often = |_| add_and_take_often(semaphore, 10_000);
+    let failed = thread::map_indices(rt, rt.alloc(), 8, &often);
+    assert_none_counted(rt, failed);
+    assert_same(rt, semaphore.available(), 0);
+}
+
+#[test]
+fn what_each_thread_adds_it_can_take(rt: HostRuntime) {
+    if let Ok(semaphore) = Semaphore::new(rt, 0) {
+        eight_add_and_take(&rt, &&semaphore);
+    }
+}
+
+#[test]
+fn what_each_thread_adds_it_can_take_by_shares(rt: HostRuntime) {
+    if let Some(semaphore) = owned(rt, 0) {
+        eight_add_and_take(&rt, &semaphore);
+    }
+}
+
 const PERMITS: u64 = 10;
 
 // The next of a sequence of numbers without order.
@@ -190,17 +236,16 @@ fn never_more_are_out_than_there_are(rt: HostRuntime) {
     }
 }
 
-/// Holds a permit, and sees the other's flag meanwhile: whether it did, or had no memory.
+/// Holds a permit, and sees the other's flag meanwhile: whether it did. One that was refused its permit didn't.
 pub(crate) fn holds_beside<R, O>(semaphore: &O, mine: &AtomicBool, other: &AtomicBool) -> bool
 where
     R: Wait + Clock + RandomSource + AllocGlobal,
     O: Form<R>,
 {
-    let guard = semaphore.block(1);
+    let Ok(_guard) = semaphore.block(1) else {
+        return false;
+    };
     mine.store(true, Ordering::SeqCst);
-    if guard.is_err() {
-        return true;
-    }
     for _ in 0..10_000_000u32 {
         if other.load(Ordering::SeqCst) {
             return true;
