@@ -9,3 +9,7 @@ mod party;
 mod semaphore;
 #[cfg(test)]
 mod semaphore_tests;
+#[cfg(test)]
+mod setting;
+#[cfg(test)]
+mod whole;

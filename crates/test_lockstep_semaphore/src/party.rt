@@ -1,5 +1,7 @@
 //! What a party of a shared semaphore has, driven by single actions.
 
+ghost use Rattle.semaphore_driver.specs.Semaphores.{Has};
+ghost use Rattle.std.specs.Arc.{arc_value};
 ghost use Rattle.std.specs.Prelude.{◌≡◌};
 
 use async_driver::WeightedListed;
@@ -33,6 +35,17 @@ impl Model for Held {
 }
 
 impl Held {
+    /// What the seat has, which is exactly so many permits.
+    pub(crate) fn new(shared: Arc<RawSemaphore>, seat: Seat, permits: u64) -> Held
+        requires { Has (arc_value shared) permits seat }
+    {
+        Held {
+            shared,
+            seat,
+            permits,
+        }
+    }
+
     /// So many permits, if they are available.
     pub(crate) fn try_take<R: Wait>(
         shared: Arc<RawSemaphore>,
@@ -166,5 +179,14 @@ pub(crate) fn cancel<R: Wait>(walker: Party, bench: &Bench<R>) {
             for _ in bench.forever() {}
             unreachable!()
         }
+    }
+}
+
+/// Ends what a party has.
+pub(crate) fn end_having<R: Wait>(having: Having, bench: &Bench<R>, party: usize) {
+    match having {
+        Having::Nothing => {}
+        Having::Permits(held) => held.give(bench),
+        Having::Future(walker) => end_future(walker, bench, party),
     }
 }

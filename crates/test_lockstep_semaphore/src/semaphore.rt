@@ -2,10 +2,12 @@
 
 use crate::codes::code_of_position;
 use crate::party::{
-    Having, Held, Party, cancel, end_future, entry_of, is_passing_on, new_future, pass_on, settled,
+    Having, Held, Party, cancel, end_having, entry_of, is_passing_on, new_future, pass_on, settled,
 };
-use lock_program::End;
-use lockstep::{Acted, Bench, Beside, Dids, Shell, moved};
+use crate::setting::{Setting, Table, Ways};
+use crate::whole::{leave, poll};
+use lock_program::{End, Refusal};
+use lockstep::{Acted, Bench, Beside, Did, Dids, Shell, moved};
 use semaphore_driver::{PollFor, RawSemaphore};
 use std::alloc::{AllocFailed, Global};
 use std::mem;
@@ -23,8 +25,15 @@ pub(crate) enum Deed {
     Take(u64),
     /// A try to take so many permits, whole.
     Try(u64),
-    /// An addition of one permit, whole.
-    Add,
+    /// An addition of so many permits, whole.
+    Add(u64),
+    /// The first poll of a future of so many permits, whole, as the public type makes it: a straight try, and where that gets
+    /// nothing, a poll past the driver.
+    Whole(u64),
+    /// A later poll, whole, as the public type makes it.
+    PollWhole,
+    /// The drop of a future that waits, whole, as the public type makes it.
+    Leave,
     /// A later poll.
     Poll,
     /// The next action of a poll.
@@ -33,19 +42,6 @@ pub(crate) enum Deed {
     Drop,
     /// Permits are forgotten.
     Forget,
-}
-
-/// By what a semaphore and its World are made.
-#[derive(Clone, Copy)]
-pub(crate) struct Setting {
-    pub(crate) alloc: Global,
-    pub(crate) parties: u32,
-    /// How many permits there are to begin with.
-    pub(crate) permits: u64,
-    /// For how many permits futures and tries are.
-    pub(crate) sizes: (u64, u64),
-    /// A permit is added where there are fewer than so many.
-    pub(crate) most: u64,
 }
 
 /// A party, and whether it has done nothing yet. It has no `Drop`, since what it has has none.
@@ -60,20 +56,57 @@ struct Member {
 pub(crate) struct SemaphoreShell {
     raw: Arc<RawSemaphore>,
     members: Vec<Member>,
+    ways: Ways,
     sizes: (u64, u64),
     most: u64,
+    least: u64,
     joins: u64,
 }
 
-/// A semaphore's World.
+/// A semaphore's World, which may go by another table than its own.
 #[derive(Drop)]
 pub(crate) struct SemaphoreTwin {
     world: World,
+    table: Table,
 }
 
 impl Beside for SemaphoreTwin {
     fn follow(&mut self, m: Move) -> Answer {
-        self.world.step(&m)
+        let Move { party, what } = m;
+        self.world.step(&Move {
+            party,
+            what: exchanged(self.table, what),
+        })
+    }
+}
+
+// The move by which a World takes the row of another table.
+fn exchanged(table: Table, what: What) -> What {
+    match what {
+        What::Begin(call, inputs) => {
+            What::Begin(other_call(table, call), other_inputs(table, inputs))
+        }
+        What::Go(inputs) => What::Go(other_inputs(table, inputs)),
+    }
+}
+
+fn other_call(table: Table, call: Call) -> Call {
+    match (table, call) {
+        (Table::EndsExchanged, Call::Drop) => Call::Forget,
+        (Table::EndsExchanged, Call::Forget) => Call::Drop,
+        (Table::AdditionsExchanged, Call::AddPermits(1)) => Call::AddPermits(2),
+        (Table::AdditionsExchanged, Call::AddPermits(2)) => Call::AddPermits(1),
+        _ => call,
+    }
+}
+
+fn other_inputs(table: Table, inputs: Inputs) -> Inputs {
+    match table {
+        Table::JoinsExchanged => Inputs {
+            memory: !inputs.memory,
+            ..inputs
+        },
+        Table::Own | Table::EndsExchanged | Table::AdditionsExchanged => inputs,
     }
 }
 
@@ -245,15 +278,77 @@ fn taken<R: Wait>(
     (settled(walker), dids)
 }
 
-// An addition of one permit.
-fn added<R: Wait>(raw: &RawSemaphore, bench: &Bench<R>) -> Dids {
-    match raw.add(bench, 1) {
-        Ok(_) => three(Call::AddPermits(1), Answer::Granted(Got::Plain)),
+// An addition of so many permits.
+fn added<R: Wait>(raw: &RawSemaphore, bench: &Bench<R>, permits: u64) -> Dids {
+    let call = Call::AddPermits(permits);
+    match raw.add(bench, permits) {
+        Ok(_) => three(call, Answer::Granted(Got::Plain)),
         Err(refusal) => one(
-            What::Begin(Call::AddPermits(1), inputs(true)),
+            What::Begin(call, inputs(true)),
             Answer::Refused(refusal.number()),
         ),
     }
+}
+
+// A whole poll of a future, and the call that it is. What the allocator did is an input of the World's, and the shell is asked
+// for it.
+fn whole<R: Wait>(having: &mut Having, bench: &Bench<R>, party: usize, call: Call) -> Did {
+    let Some(task) = bench.task(party) else {
+        return moved(What::Begin(call, inputs(true)), Answer::NotPossible);
+    };
+    let answer = match task.enter(|cx| poll(having, bench, cx)) {
+        Some(End::Got) => Answer::Ready(Got::Plain),
+        Some(End::Pending) => Answer::Pending,
+        Some(End::Refused(refusal)) => Answer::Refused(refusal.number()),
+        _ => Answer::NotPossible,
+    };
+    let memory = answer != Answer::Refused(Refusal::Memory.number());
+    moved(What::Begin(call, inputs(memory)), answer)
+}
+
+// The first poll of a party that has nothing, whole. A straight look in vain is a try that got nothing.
+fn whole_first<R: Wait>(
+    shared: Arc<RawSemaphore>,
+    bench: &Bench<R>,
+    party: usize,
+    permits: u64,
+) -> (Having, Dids) {
+    let call = Call::Acquire(permits);
+    let Ok(again) = Arc::try_clone(&shared) else {
+        let what = What::Begin(call, inputs(true));
+        return (Having::Nothing, one(what, Answer::NotPossible));
+    };
+    if let Some(held) = Held::try_take(shared, bench, permits) {
+        let what = What::Begin(call, inputs(true));
+        return (Having::Permits(held), one(what, Answer::Ready(Got::Plain)));
+    }
+    let failed = What::Begin(Call::TryAcquire(permits), inputs(true));
+    let mut having = Having::Future(new_future(again, permits));
+    let did = whole(&mut having, bench, party, call);
+    let dids = Dids {
+        moves: [Some(moved(failed, Answer::None)), Some(did), None],
+    };
+    (having, dids)
+}
+
+// A later poll of a future, whole.
+fn whole_later<R: Wait>(having: Having, bench: &Bench<R>, party: usize) -> (Having, Dids) {
+    let mut having = having;
+    let did = whole(&mut having, bench, party, Call::Poll);
+    let dids = Dids {
+        moves: [Some(did), None, None],
+    };
+    (having, dids)
+}
+
+// The drop of a future that waits, whole.
+fn left<R: Wait>(having: Having, bench: &Bench<R>) -> (Having, Dids) {
+    let mut having = having;
+    let answer = match leave(&mut having, bench) {
+        Some(_) => Answer::GivenBack,
+        None => Answer::NotPossible,
+    };
+    (having, one(What::Begin(Call::Drop, inputs(true)), answer))
 }
 
 impl Member {
@@ -273,7 +368,12 @@ impl Member {
             }
             Deed::Take(permits) => taken(shared, bench, party, permits),
             Deed::Try(permits) => tried(shared, bench, permits),
-            _ => (Having::Nothing, added(&shared, bench)),
+            Deed::Whole(permits) => whole_first(shared, bench, party, permits),
+            Deed::Add(permits) => (Having::Nothing, added(&shared, bench, permits)),
+            _ => (
+                Having::Nothing,
+                one(What::Go(inputs(true)), Answer::NotPossible),
+            ),
         };
         match mem::replace(&mut self.having, having) {
             Having::Nothing => {}
@@ -295,6 +395,8 @@ impl Member {
                 (settled(walker), dids)
             }
             (having, Deed::Forget) => forgotten(having),
+            (having, Deed::PollWhole) => whole_later(having, bench, party),
+            (having, Deed::Leave) => left(having, bench),
             (having, _) => (Having::Nothing, dropped(having, bench)),
         };
         match mem::replace(&mut self.having, next) {
@@ -332,15 +434,6 @@ fn permits_at(position: Position) -> u64 {
             Place::Remove { permits, .. } | Place::Load(permits) | Place::HandOn { permits, .. },
         ) => permits,
         _ => 0,
-    }
-}
-
-// Ends what a party has.
-fn end_having<R: Wait>(having: Having, bench: &Bench<R>, party: usize) {
-    match having {
-        Having::Nothing => {}
-        Having::Permits(held) => held.give(bench),
-        Having::Future(walker) => end_future(walker, bench, party),
     }
 }
 
@@ -391,7 +484,67 @@ fn new_members<R: Wait>(bench: &Bench<R>, alloc: Global, parties: u32) -> Option
     Some(members)
 }
 
+// Whether a party that stands in the list has joined it by this deed. One that was notified there leaves the list by a whole poll,
+// and where that is in vain, joins it again.
+fn has_joined(before: Option<bool>, deed: Deed) -> bool {
+    match before {
+        None => true,
+        Some(is_told) => is_told && deed == Deed::PollWhole,
+    }
+}
+
 impl SemaphoreShell {
+    // Whether an addition of so many permits is made.
+    fn is_added(&self, permits: u64) -> bool {
+        self.most == u64::MAX || self.limit().saturating_add(permits) <= self.most
+    }
+
+    // The deed of this number of a party that has nothing.
+    fn first_deed(&self, number: usize) -> Option<Deed> {
+        let (small, large) = self.sizes;
+        match (self.ways, number) {
+            (_, 0) => Some(Deed::Acquire(small)),
+            (_, 1) => Some(Deed::Acquire(large)),
+            (Ways::Driver, _) => None,
+            (_, 2) => Some(Deed::Try(small)),
+            (_, 3) => Some(Deed::Try(large)),
+            (Ways::All, 4) => Some(Deed::Take(small)),
+            (Ways::All, 5) => Some(Deed::Take(large)),
+            (Ways::Whole, 4) => Some(Deed::Whole(small)),
+            (Ways::Whole, 5) => Some(Deed::Whole(large)),
+            (_, 6) if self.is_added(1) => Some(Deed::Add(1)),
+            (_, 7) if self.is_added(2) => Some(Deed::Add(2)),
+            _ => None,
+        }
+    }
+
+    // The deed of this number of a party that has permits.
+    fn last_deed(&self, held: &Held, number: usize) -> Option<Deed> {
+        match number {
+            0 => Some(Deed::Drop),
+            1
+                if self.ways != Ways::Driver
+                    && self.limit().saturating_sub(held.permits()) >= self.least => {
+                Some(Deed::Forget)
+            }
+            _ => None,
+        }
+    }
+
+    // The deed of this number of a party that has a future, which stands here.
+    fn next_deed(&self, position: Position, number: usize) -> Option<Deed> {
+        match (position, number) {
+            (Position::At(_), 0) => Some(Deed::Go),
+            (Position::Unlisted(_) | Position::Waiting(_), 0) => Some(Deed::Poll),
+            (Position::Unlisted(_) | Position::Waiting(_), 1) => Some(Deed::Drop),
+            (Position::Unlisted(_) | Position::Waiting(_), 2) if self.ways == Ways::Whole => {
+                Some(Deed::PollWhole)
+            }
+            (Position::Waiting(_), 3) if self.ways == Ways::Whole => Some(Deed::Leave),
+            _ => None,
+        }
+    }
+
     // Whether the entry at this place of the World's list is the party's, with its mark, and whoever was notified between two
     // polls was woken; and the number of the party's join.
     fn entry_agrees<R: Wait>(&self, bench: &Bench<R>, world: &World, index: usize) -> Option<u64> {
@@ -485,9 +638,12 @@ impl Shell for SemaphoreShell {
         let Setting {
             alloc,
             parties,
+            ways,
             permits,
             sizes,
             most,
+            least,
+            table,
         } = setting;
         let world = World::new(alloc, parties, permits).ok()?;
         let raw = RawSemaphore::new(alloc, permits).ok()?;
@@ -496,19 +652,23 @@ impl Shell for SemaphoreShell {
         let shell = SemaphoreShell {
             raw,
             members,
+            ways,
             sizes,
             most,
+            least,
             joins: 0,
         };
-        Some((shell, SemaphoreTwin { world }))
+        Some((shell, SemaphoreTwin { world, table }))
     }
 
     fn end<R: Wait>(self, bench: &Bench<R>) {
         let SemaphoreShell {
             raw,
             members,
+            ways: _,
             sizes: _,
             most: _,
+            least: _,
             joins: _,
         } = self;
         end_all(members, bench);
@@ -528,24 +688,15 @@ impl Shell for SemaphoreShell {
 
     fn deed(&self, party: usize, number: usize) -> Option<Deed> {
         let member = self.members.get(party)?;
-        match (&member.having, number) {
-            (Having::Nothing, 0) => Some(Deed::Acquire(self.sizes.0)),
-            (Having::Nothing, 1) => Some(Deed::Acquire(self.sizes.1)),
-            (Having::Nothing, 2) => Some(Deed::Try(self.sizes.0)),
-            (Having::Nothing, 3) => Some(Deed::Try(self.sizes.1)),
-            (Having::Nothing, 4) => Some(Deed::Take(self.sizes.0)),
-            (Having::Nothing, 5) => Some(Deed::Take(self.sizes.1)),
-            (Having::Nothing, 6) if self.limit() < self.most => Some(Deed::Add),
-            (Having::Permits(_), 0) => Some(Deed::Drop),
-            (Having::Permits(_), 1) => Some(Deed::Forget),
-            (Having::Future(walker), number) => match (walker.place, number) {
-                (Position::At(_), 0) => Some(Deed::Go),
-                (Position::Unlisted(_) | Position::Waiting(_), 0) => Some(Deed::Poll),
-                (Position::Unlisted(_) | Position::Waiting(_), 1) => Some(Deed::Drop),
-                _ => None,
-            },
-            _ => None,
+        match &member.having {
+            Having::Nothing => self.first_deed(number),
+            Having::Permits(held) => self.last_deed(held, number),
+            Having::Future(walker) => self.next_deed(walker.place, number),
         }
+    }
+
+    fn is_whole(deed: Deed) -> bool {
+        matches!(deed, Deed::Whole(_) | Deed::PollWhole | Deed::Leave)
     }
 
     fn carry_out<R: Wait>(&mut self, bench: &Bench<R>, party: usize, deed: Deed) -> Dids {
@@ -559,14 +710,15 @@ impl Shell for SemaphoreShell {
             return none;
         };
         member.is_fresh = false;
-        let was_listed = member.mark(bench).is_some();
+        let before = member.mark(bench);
         let dids = match deed {
-            Deed::Acquire(_) | Deed::Take(_) | Deed::Try(_) | Deed::Add => {
+            Deed::Acquire(_) | Deed::Take(_) | Deed::Try(_) | Deed::Add(_) | Deed::Whole(_) => {
                 member.start(shared, bench, party, deed)
             }
-            Deed::Poll | Deed::Go | Deed::Drop | Deed::Forget => member.go_on(bench, party, deed),
+            Deed::Poll | Deed::Go | Deed::Drop | Deed::Forget | Deed::PollWhole | Deed::Leave =>
+                member.go_on(bench, party, deed),
         };
-        if !was_listed && member.mark(bench).is_some() {
+        if member.mark(bench).is_some() && has_joined(before, deed) {
             self.joins = self.joins.wrapping_add(1);
             member.joined = self.joins;
         }

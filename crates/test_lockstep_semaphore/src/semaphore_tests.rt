@@ -1,6 +1,7 @@
 //! The semaphore's parties beside their World.
 
-use crate::semaphore::{SemaphoreShell, Setting};
+use crate::semaphore::SemaphoreShell;
+use crate::setting::{Setting, Table, Ways};
 use lockstep::{Bench, Order, Walk, walk_by_chance, walk_schedules, walk_states};
 use std::alloc::AllocGlobal;
 use std::process::Abort;
@@ -12,24 +13,27 @@ fn setting<R: AllocGlobal>(rt: &R, parties: u32, permits: u64) -> Setting {
     Setting {
         alloc: rt.alloc(),
         parties,
+        ways: Ways::All,
         permits,
         sizes: (1, 2),
         most: 0,
+        least: 0,
+        table: Table::Own,
     }
 }
 
 // Each walk that was refused memory, and so is none, is begun once more.
 
-fn through_states<R: Wait>(bench: &Bench<R>, setting: Setting) -> Option<Walk> {
-    match walk_states::<SemaphoreShell, R>(bench, setting, Order::Far, MANY) {
-        None => walk_states::<SemaphoreShell, R>(bench, setting, Order::Far, MANY),
+fn through_states<R: Wait>(bench: &Bench<R>, setting: Setting, order: Order) -> Option<Walk> {
+    match walk_states::<SemaphoreShell, R>(bench, setting, order, MANY) {
+        None => walk_states::<SemaphoreShell, R>(bench, setting, order, MANY),
         walk => walk,
     }
 }
 
-fn through_schedules<R: Wait>(bench: &Bench<R>, setting: Setting) -> Option<Walk> {
-    match walk_schedules::<SemaphoreShell, R>(bench, setting, 7) {
-        None => walk_schedules::<SemaphoreShell, R>(bench, setting, 7),
+fn through_schedules<R: Wait>(bench: &Bench<R>, setting: Setting, length: usize) -> Option<Walk> {
+    match walk_schedules::<SemaphoreShell, R>(bench, setting, length) {
+        None => walk_schedules::<SemaphoreShell, R>(bench, setting, length),
         walk => walk,
     }
 }
@@ -48,7 +52,7 @@ fn expect_alike<R: Abort>(bench: &Bench<R>, walk: Option<Walk>) {
 }
 
 fn in_each_state<R: Wait + Abort>(bench: &Bench<R>, setting: Setting) {
-    let walk = through_states(bench, setting);
+    let walk = through_states(bench, setting, Order::Far);
     let states = match &walk {
         Some(walk) => walk.states,
         None => 0,
@@ -93,11 +97,61 @@ fn three_parties_go_on_alike_in_each_state(rt: HostRuntime) {
     }
 }
 
+// Each poll and each drop of a future that waits goes whole past the driver, while others may be inside a call.
+#[test]
+fn whole_polls_go_alike_in_each_state(rt: HostRuntime) {
+    let of_three = Setting {
+        ways: Ways::Whole,
+        most: 3,
+        ..setting(&rt, 3, 2)
+    };
+    if let Some(bench) = Bench::new(rt, 3) {
+        for parties in [2, 3] {
+            in_each_state(
+                &bench,
+                Setting {
+                    parties,
+                    ..of_three
+                },
+            );
+        }
+    }
+}
+
+// The limit stands at the greatest number, or just below it.
+#[test]
+fn additions_are_refused_alike(rt: HostRuntime) {
+    let of_two = setting(&rt, 2, u64::MAX);
+    if let Some(bench) = Bench::new(rt, 2) {
+        for sizes in [(1, 2), (1, u64::MAX)] {
+            let of_these = Setting {
+                sizes,
+                most: u64::MAX,
+                least: u64::MAX - 3,
+                ..of_two
+            };
+            in_each_state(&bench, of_these);
+        }
+    }
+}
+
 #[test]
 fn three_parties_go_alike_by_each_schedule(rt: HostRuntime) {
     let of_three = setting(&rt, 3, 2);
     if let Some(bench) = Bench::new(rt, 3) {
-        expect_alike(&bench, through_schedules(&bench, of_three));
+        expect_alike(&bench, through_schedules(&bench, of_three, 7));
+    }
+}
+
+#[test]
+fn three_futures_go_alike_by_each_schedule(rt: HostRuntime) {
+    let of_three = setting(&rt, 3, 2);
+    if let Some(bench) = Bench::new(rt, 3) {
+        let of_futures = Setting {
+            ways: Ways::Driver,
+            ..of_three
+        };
+        expect_alike(&bench, through_schedules(&bench, of_futures, 10));
     }
 }
 
@@ -113,5 +167,55 @@ fn three_parties_go_alike_by_chance(rt: HostRuntime) {
             };
             expect_alike(&bench, by_chance(&bench, of_these));
         }
+    }
+}
+
+#[test]
+fn four_parties_go_alike_by_chance(rt: HostRuntime) {
+    let of_four = setting(&rt, 4, 2);
+    if let Some(bench) = Bench::new(rt, 4) {
+        for ways in [Ways::Driver, Ways::All, Ways::Whole] {
+            for most in [0, 4] {
+                let of_these = Setting {
+                    ways,
+                    most,
+                    ..of_four
+                };
+                expect_alike(&bench, by_chance(&bench, of_these));
+            }
+        }
+    }
+}
+
+// A walk beside a World of another table, by as few deeds as may be: how many moves show it.
+fn shown_by<R: Wait + Abort>(bench: &Bench<R>, setting: Setting, table: Table) -> usize {
+    let other = Setting { table, ..setting };
+    let walk = through_states(bench, other, Order::Near);
+    match walk.expect(bench.rt(), "memory for a walk").difference {
+        Some(moves) => moves.len(),
+        None => 0,
+    }
+}
+
+#[test]
+fn a_row_that_is_exchanged_is_seen(rt: HostRuntime) {
+    let of_two = Setting {
+        most: 2,
+        ..setting(&rt, 2, 0)
+    };
+    if let Some(bench) = Bench::new(rt, 2) {
+        // One finds no permit, and joins the list.
+        let joins = shown_by(&bench, of_two, Table::JoinsExchanged);
+        assert_eq!(bench.rt(); joins, 2, "moves show an exchanged join");
+        // One permit is added, by three actions.
+        let additions = shown_by(&bench, of_two, Table::AdditionsExchanged);
+        assert_eq!(bench.rt(); additions, 3, "moves show an exchanged addition");
+        // One gets a permit, and drops it, by two actions.
+        let of_one = Setting {
+            permits: 1,
+            ..of_two
+        };
+        let ends = shown_by(&bench, of_one, Table::EndsExchanged);
+        assert_eq!(bench.rt(); ends, 3, "moves show an exchanged drop");
     }
 }
