@@ -19,6 +19,14 @@ pub(crate) fn fresh<T: Drop, R: AllocGlobal + Abort + Copy + Drop>(rt: R) -> Onc
     OnceCell::new(rt).expect(&rt, AMPLE)
 }
 
+/// A cell that has this value.
+pub(crate) fn full<T: Drop, R: AllocGlobal + Abort + Copy + Drop>(
+    rt: R,
+    value: T,
+) -> OnceCell<T, R> {
+    OnceCell::with_value(rt, value).expect(&rt, AMPLE)
+}
+
 /// A task that counts as not woken before its first poll.
 pub(crate) fn task<R: RandomSource + AllocGlobal + Abort>(rt: &R) -> MockTask {
     let task = MockTask::new(rt).expect(rt, AMPLE);
