@@ -2,9 +2,9 @@
 
 ghost use Rattle.std.specs.Prelude.{◌≡◌, true};
 
-use async_once_cell::OnceCell;
+use async_once_cell::{OnceCell, Polled, Turn};
 use futures::Future;
-use futures::task::Poll;
+use futures::task::{Context, Poll};
 use futures::test::MockTask;
 use std::alloc::AllocGlobal;
 use std::fmt::Debug;
@@ -42,6 +42,22 @@ pub(crate) fn pends<F: Future<Output: Drop>>(task: &MockTask, future: &mut F) ->
     match task.poll(future) {
         Poll::Pending => true,
         Poll::Ready(_) => false,
+    }
+}
+
+/// A future that is ready at once, with what two polls of this one answer.
+#[derive(Drop)]
+pub(crate) struct Twice<F>(pub(crate) F);
+
+impl<F: Polled> Future for Twice<F> {
+    type Output = (Turn<F::Got>, Turn<F::Got>);
+
+    ghost can_poll = { λ t. F.can_poll t.0 };
+
+    fn poll(&mut self, cx: &mut Context<'_>) -> Poll<(Turn<F::Got>, Turn<F::Got>)> {
+        let first = self.0.poll_turn(cx);
+        let second = self.0.poll_turn(cx);
+        Poll::Ready((first, second))
     }
 }
 

@@ -1,8 +1,8 @@
 //! What each call answers, by futures and by blocking calls.
 
-use crate::polls::{assert_same, fresh, pends, task};
+use crate::polls::{Twice, assert_same, fresh, full, pends, task};
 use crate::steered::{Step, Sure};
-use async_once_cell::{InitFault, OnceCell, Refusal, SetFault, Settled};
+use async_once_cell::{InitFault, Refusal, SetFault, Settled, Turn};
 use futures::executor::block_on;
 use futures::future;
 use futures::task::Poll;
@@ -109,9 +109,7 @@ fn a_try_fills_an_empty_cell(rt: HostRuntime) {
 
 #[test]
 fn a_cell_with_a_value_is_full(rt: HostRuntime) {
-    let Ok(cell) = OnceCell::with_value(rt, 1u64) else {
-        return;
-    };
+    let cell = full(rt, 1u64);
     assert!(rt; cell.is_initialized());
     assert_same(&rt, cell.get(), Some(&1));
     assert_same(&rt, cell.try_set(2), Err(2));
@@ -134,6 +132,39 @@ fn a_future_that_was_ready_is_finished(rt: HostRuntime) {
         Poll::Ready(Err(Refusal::Finished)),
     );
     assert_same(&rt, cell.get(), Some(&1));
+}
+
+// So is an initialisation, of either kind: one that failed, one that made the value, and those that found a full cell.
+#[test]
+fn an_initialisation_that_was_ready_is_finished(rt: HostRuntime) {
+    let one = task(&rt);
+    let cell = fresh::<u64, _>(rt);
+    let mut failing = Twice(cell.get_or_try_init(|| future::err::<u64, ()>(())));
+    assert_same(
+        &rt,
+        one.poll(&mut failing),
+        Poll::Ready((Turn::Ready(Err(())), Turn::Refused(Refusal::Finished))),
+    );
+    assert!(rt; !cell.is_initialized());
+    let mut making = Twice(cell.get_or_init(|| future::ready(3u64)));
+    assert_same(
+        &rt,
+        one.poll(&mut making),
+        Poll::Ready((Turn::Ready(&3), Turn::Refused(Refusal::Finished))),
+    );
+    let mut finding = Twice(cell.get_or_init(|| future::ready(4u64)));
+    assert_same(
+        &rt,
+        one.poll(&mut finding),
+        Poll::Ready((Turn::Ready(&3), Turn::Refused(Refusal::Finished))),
+    );
+    let mut trying = Twice(cell.get_or_try_init(|| future::err::<u64, ()>(())));
+    assert_same(
+        &rt,
+        one.poll(&mut trying),
+        Poll::Ready((Turn::Ready(Ok(&3)), Turn::Refused(Refusal::Finished))),
+    );
+    assert_same(&rt, cell.get(), Some(&3));
 }
 
 // An initialisation by a future that can't fail.

@@ -1,7 +1,7 @@
 //! How cells and their futures are shown.
 
 use crate::polls::{assert_same, fresh, pends, task};
-use crate::steered::Step;
+use crate::steered::{Step, Sure};
 use async_once_cell::Settled;
 use std::alloc::AllocGlobal;
 use std::fmt;
@@ -41,5 +41,10 @@ fn each_future_shows_its_name(rt: HostRuntime) {
         &rt,
         &cell.get_or_try_init(|| step.future()),
         "GetOrTryInit { .. }",
+    );
+    assert_text(
+        &rt,
+        &cell.get_or_init(|| Sure(step.future())),
+        "GetOrInit { .. }",
     );
 }

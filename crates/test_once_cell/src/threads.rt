@@ -1,7 +1,7 @@
 //! Threads that would all make the value of one cell.
 
 use crate::polls::{assert_same, fresh};
-use async_once_cell::OnceCell;
+use async_once_cell::{InitFault, OnceCell};
 use std::alloc::{AllocGlobal, Global};
 use std::process::Abort;
 use std::random::RandomSource;
@@ -14,8 +14,35 @@ use words_once_cell::State;
 
 const THREADS: usize = 16;
 
-// What each of the threads got: the value, or none where its call was refused.
-fn got_by_all<R>(rt: &R, alloc: Global, cell: &OnceCell<u64, R>, called: &AtomicU64) -> Vec<u64>
+/// A value that counts who has got it.
+struct Made {
+    by: u64,
+    got: AtomicU64,
+}
+
+impl Drop for Made {
+    fn drop(self) {
+        let Made { by: _, got: _ } = self;
+    }
+}
+
+impl Made {
+    fn new(by: usize) -> Made {
+        Made {
+            by: by as u64,
+            got: AtomicU64::new(0),
+        }
+    }
+
+    // One more has got it. Returns who made it.
+    fn meet(&self) -> u64 {
+        self.got.fetch_add(1, Ordering::SeqCst);
+        self.by
+    }
+}
+
+// Whose value each of the threads got, which it met there; or none where its call was refused.
+fn got_by_all<R>(rt: &R, alloc: Global, cell: &OnceCell<Made, R>, called: &AtomicU64) -> Vec<u64>
 where
     R: Wait + Clock + RandomSource + AllocGlobal + Threads + Sync + Send + Abort,
 {
@@ -26,10 +53,10 @@ where
         &|index| {
             let made = cell.get_or_init_blocking(|| {
                 called.fetch_add(1, Ordering::SeqCst);
-                index as u64
+                Made::new(index)
             });
             match made {
-                Ok(value) => *value,
+                Ok(value) => value.meet(),
                 Err(_) => u64::MAX,
             }
         },
@@ -37,15 +64,18 @@ where
     got.expect(rt, "memory is ample")
 }
 
-// One closure is called, and all see its value.
+// One closure is called, and all get a reference to its value, and to no copy: the value in the cell has met them all.
 #[test]
 fn one_of_many_threads_makes_the_value(rt: HostRuntime) {
     for _ in 0..1_000u32 {
         let called = AtomicU64::new(0);
-        let cell = fresh::<u64, _>(rt);
+        let cell = fresh::<Made, _>(rt);
         let got = got_by_all(&rt, rt.alloc(), &cell, &called);
-        let first = cell.into_inner().unwrap_or(u64::MAX);
-        assert_same(&rt, called.load(Ordering::SeqCst), 1);
+        let (first, met) = match cell.into_inner() {
+            Some(made) => (made.by, made.got.load(Ordering::SeqCst)),
+            None => (u64::MAX, 0),
+        };
+        assert_same(&rt, (called.load(Ordering::SeqCst), met), (1, 16));
         assert!(rt; first < 16);
         assert!(rt; got.iter().all(|value| *value == first));
     }
@@ -86,7 +116,7 @@ fn one_value_enters_where_half_of_the_makers_fail(rt: HostRuntime) {
         let got = tried_by_all(&rt, rt.alloc(), &cell, &made);
         let first = cell.into_inner().unwrap_or(u64::MAX);
         assert_same(&rt, made.load(Ordering::SeqCst), 1);
-        assert!(rt; first % 2 == 1);
+        assert!(rt; first % 2 == 1 && first < 16);
         assert!(rt;
             got.iter()
                 .all(|value| *value == first || *value == u64::MAX)
@@ -125,21 +155,23 @@ fn a_blocking_wait_stands_in_the_list_until_the_value_is_set(rt: HostRuntime) {
 #[test]
 fn a_blocking_set_stands_in_the_list_until_the_maker_fails(rt: HostRuntime) {
     let cell = fresh::<u64, _>(rt);
+    // The failure is whether the set came to stand in the list.
     let fails = || {
-        let tried = cell.get_or_try_init_blocking(|| {
-            let _ = comes(|| cell.raw().active().is_listed());
-            Err(())
-        });
-        tried.is_err()
+        let tried = cell.get_or_try_init_blocking(|| Err(comes(|| cell
+            .raw()
+            .active()
+            .is_listed())));
+        matches!(tried, Err(InitFault::Closure(true)))
     };
     let sets = || {
-        let _ = comes(|| cell.raw().state() == State::Making);
+        let is_making = comes(|| cell.raw().state() == State::Making);
         match cell.set_blocking(7) {
-            Ok(value) => *value,
-            Err(_) => u64::MAX,
+            Ok(value) => (is_making, *value),
+            Err(_) => (is_making, u64::MAX),
         }
     };
-    let (failed, got) = thread::join(&rt, &fails, &sets);
-    assert!(rt; failed);
+    let (listed, (is_making, got)) = thread::join(&rt, &fails, &sets);
+    assert!(rt; is_making);
+    assert!(rt; listed);
     assert_same(&rt, got, 7);
 }
