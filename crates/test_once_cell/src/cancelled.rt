@@ -5,6 +5,7 @@ use crate::steered::Step;
 use async_once_cell::{OnceCell, Settled};
 use futures::Future;
 use futures::task::{Context, Poll};
+use std::mem;
 use std::sync::Wait;
 use std::sync::atomic::{AtomicBool, Ordering};
 
@@ -65,6 +66,31 @@ fn a_notification_of_a_dropped_future_goes_on(rt: HostRuntime) {
     assert_same(&rt, (second.counts(), third.counts()), ((0, 0), (1, 1)));
 }
 
+// One that was notified, and makes now, and is dropped while its maker is pending: the next is woken and makes.
+#[test]
+fn a_dropped_future_that_makes_in_its_turn_notifies_the_next(rt: HostRuntime) {
+    let (one, two, three) = (task(&rt), task(&rt), task(&rt));
+    let (first, second, third) = (Step::new(), Step::new(), Step::new());
+    let cell = fresh::<u64, _>(rt);
+    let mut making = Settled(cell.get_or_try_init(|| first.future()));
+    let mut told = Settled(cell.get_or_try_init(|| second.future()));
+    let mut behind = Settled(cell.get_or_try_init(|| third.future()));
+    assert!(rt; pends(&one, &mut making));
+    assert!(rt; pends(&two, &mut told));
+    assert!(rt; pends(&three, &mut behind));
+    drop(making);
+    assert!(rt; two.is_woken() && !three.is_woken());
+    assert!(rt; pends(&two, &mut told));
+    assert_same(&rt, (second.counts(), third.counts()), ((1, 0), (0, 0)));
+    assert!(rt; !three.is_woken());
+    drop(told);
+    assert_same(&rt, second.counts(), (1, 1));
+    assert!(rt; three.is_woken() && !cell.is_initialized());
+    third.gives(3);
+    assert_same(&rt, three.poll(&mut behind), Poll::Ready(Ok(Ok(&3))));
+    assert_same(&rt, (second.counts(), third.counts()), ((1, 1), (1, 1)));
+}
+
 // After a maker was dropped the cell is filled at once, before the one that was notified looks: all who would make are woken.
 #[test]
 fn a_try_that_fills_the_cell_wakes_all_who_would_make(rt: HostRuntime) {
@@ -122,6 +148,45 @@ fn a_dropped_wait_leaves_its_list(rt: HostRuntime) {
     assert!(rt; two.is_woken() && three.is_woken());
     drop(told);
     assert_same(&rt, three.poll(&mut behind), Poll::Ready(Ok(&1)));
+}
+
+// A set that wasn't notified: the one behind it is the next.
+#[test]
+fn a_dropped_set_that_was_not_notified_leaves_its_list(rt: HostRuntime) {
+    let (one, two, three) = (task(&rt), task(&rt), task(&rt));
+    let step = Step::new();
+    let cell = fresh::<u64, _>(rt);
+    let mut making = Settled(cell.get_or_try_init(|| step.future()));
+    let mut untold = Settled(cell.set(1));
+    let mut behind = Settled(cell.set(2));
+    assert!(rt; pends(&one, &mut making));
+    assert!(rt; pends(&two, &mut untold));
+    assert!(rt; pends(&three, &mut behind));
+    drop(untold);
+    assert!(rt; !three.is_woken());
+    step.fails();
+    assert_same(&rt, one.poll(&mut making), Poll::Ready(Ok(Err(()))));
+    assert!(rt; three.is_woken());
+    assert_same(&rt, three.poll(&mut behind), Poll::Ready(Ok(Ok(&2))));
+    assert_same(&rt, cell.get(), Some(&2));
+}
+
+// A maker that is forgotten leaves the cell being made for good, and no value is found.
+#[test]
+fn a_forgotten_maker_leaves_no_value(rt: HostRuntime) {
+    let one = task(&rt);
+    let step = Step::new();
+    let mut cell = fresh::<u64, _>(rt);
+    let mut making = Settled(cell.get_or_try_init(|| step.future()));
+    assert!(rt; pends(&one, &mut making));
+    mem::forget(making);
+    assert_same(&rt, step.counts(), (1, 0));
+    assert_same(&rt, cell.try_set(1), Err(1));
+    assert_same(&rt, cell.get(), None);
+    assert_same(&rt, cell.get_mut(), None);
+    assert_same(&rt, cell.take(), None);
+    assert_same(&rt, cell.try_set(2), Err(2));
+    assert_same(&rt, cell.into_inner(), None);
 }
 
 // A set that waits and is dropped.
