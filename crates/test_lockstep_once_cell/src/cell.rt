@@ -247,6 +247,13 @@ impl<'a> Member<'a> {
         }
     }
 
+    // A later poll's first action, of a party that was put to rest after the one before.
+    fn poll<R: Wait>(&mut self, bench: &Bench<R>, task: &MockTask, made: Made) -> Dids {
+        let resumed = mem::replace(&mut self.having, Having::Nothing).rested();
+        self.put(bench, resumed);
+        self.begin(bench, task, Call::Poll, made)
+    }
+
     // The first action of a poll, which is this call in the World.
     fn begin<R: Wait>(
         &mut self,
@@ -543,7 +550,7 @@ impl<'a> Shell for CellShell<'a> {
                 member.put(bench, Having::new(shared, call));
                 member.begin(bench, task, call, Made::Pending)
             }
-            Deed::Poll(made) => member.begin(bench, task, Call::Poll, made),
+            Deed::Poll(made) => member.poll(bench, task, made),
             Deed::Go(made) => member.go(bench, task, made),
             Deed::Drop => member.drop(bench),
         }

@@ -3,7 +3,7 @@
 use crate::cell::CellShell;
 use crate::setting::{Setting, Table};
 use boxcar::Vec as Ground;
-use lockstep::{Bench, Order, Walk, walk_by_chance, walk_states};
+use lockstep::{Bench, Order, Walk, walk_by_chance, walk_schedules, walk_states};
 use once_cell_driver::RawCell;
 use std::alloc::{AllocGlobal, Global};
 use std::process::Abort;
@@ -29,6 +29,13 @@ fn through_states<R: Wait>(bench: &Bench<R>, setting: Setting<'_>, order: Order)
     }
 }
 
+fn by_schedules<R: Wait>(bench: &Bench<R>, setting: Setting<'_>, deeds: usize) -> Option<Walk> {
+    match walk_schedules::<CellShell<'_>, R>(bench, setting, deeds) {
+        None => walk_schedules::<CellShell<'_>, R>(bench, setting, deeds),
+        walk => walk,
+    }
+}
+
 fn by_chance<R: Wait>(bench: &Bench<R>, setting: Setting<'_>) -> Option<Walk> {
     match walk_by_chance::<CellShell<'_>, R>(bench, setting, 17, 1000, 100) {
         None => walk_by_chance::<CellShell<'_>, R>(bench, setting, 17, 1000, 100),
@@ -42,12 +49,26 @@ fn expect_alike<R: Abort>(bench: &Bench<R>, walk: Option<Walk>) {
     assert_eq!(bench.rt(); walk.difference, None);
 }
 
+// Each deed in each state, of which there are no more than were reached.
+fn in_each_state<R: Wait + Abort>(bench: &Bench<R>, setting: Setting<'_>) {
+    let walk = through_states(bench, setting, Order::Far);
+    let states = match &walk {
+        Some(walk) => walk.states,
+        None => 0,
+    };
+    expect_alike(bench, walk);
+    assert!(bench.rt();
+        states <= MANY,
+        "{states} states are not all that there are"
+    );
+}
+
 #[test]
 fn two_parties_go_on_alike_in_each_state(rt: HostRuntime) {
     let alloc = rt.alloc();
     if let (Ok(ground), Some(bench)) = (Ground::new(alloc), Bench::new(rt, 2)) {
         let of_two = setting(alloc, &ground, 2);
-        expect_alike(&bench, through_states(&bench, of_two, Order::Far));
+        in_each_state(&bench, of_two);
     }
 }
 
@@ -56,7 +77,25 @@ fn three_parties_go_on_alike_in_each_state(rt: HostRuntime) {
     let alloc = rt.alloc();
     if let (Ok(ground), Some(bench)) = (Ground::new(alloc), Bench::new(rt, 3)) {
         let of_three = setting(alloc, &ground, 3);
-        expect_alike(&bench, through_states(&bench, of_three, Order::Far));
+        in_each_state(&bench, of_three);
+    }
+}
+
+#[test]
+fn two_parties_go_alike_by_each_schedule(rt: HostRuntime) {
+    let alloc = rt.alloc();
+    if let (Ok(ground), Some(bench)) = (Ground::new(alloc), Bench::new(rt, 2)) {
+        let of_two = setting(alloc, &ground, 2);
+        expect_alike(&bench, by_schedules(&bench, of_two, 7));
+    }
+}
+
+#[test]
+fn three_parties_go_alike_by_each_schedule(rt: HostRuntime) {
+    let alloc = rt.alloc();
+    if let (Ok(ground), Some(bench)) = (Ground::new(alloc), Bench::new(rt, 3)) {
+        let of_three = setting(alloc, &ground, 3);
+        expect_alike(&bench, by_schedules(&bench, of_three, 6));
     }
 }
 

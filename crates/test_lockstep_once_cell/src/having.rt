@@ -2,8 +2,8 @@
 
 use crate::makers::{Alike, Fault, GIVEN, Giver, Steered};
 use crate::party::{
-    Party, Values, begin, end, end_whole, entry_of, go, new_party, position_of, ready_with, steer,
-    values_of,
+    Party, Values, begin, end, end_whole, entry_of, go, new_party, position_of, ready_with, rested,
+    steer, values_of,
 };
 use futures::test::MockTask;
 use lock_event::EntryId;
@@ -43,6 +43,16 @@ impl<'a> Having<'a> {
     pub(crate) fn steer(&mut self, made: Made) {
         if let Having::Makes(walker) = self {
             steer(walker, made);
+        }
+    }
+
+    /// The same, put to rest and resumed if it is pending.
+    pub(crate) fn rested(self) -> Having<'a> {
+        match self {
+            Having::Nothing => Having::Nothing,
+            Having::Waits(walker) => Having::Waits(rested(walker)),
+            Having::Makes(walker) => Having::Makes(rested(walker)),
+            Having::Sets(walker) => Having::Sets(rested(walker)),
         }
     }
 

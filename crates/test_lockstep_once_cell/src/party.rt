@@ -33,6 +33,34 @@ pub(crate) fn new_party<'a, E: Drop, M: Maker<u64, E>, O: Origin<M>>(
     }
 }
 
+/// The party goes on as a future's does: of one that is pending, what a future keeps between two polls is put together again.
+pub(crate) fn rested<'a, E: Drop, M: Maker<u64, E>, O: Origin<M>>(
+    walker: Party<'a, E, M, O>,
+) -> Party<'a, E, M, O> {
+    let Walker {
+        shared,
+        party,
+        place,
+    } = walker;
+    match place {
+        Left::Outside(Position::WaitingToMake(_) | Position::Making(_) | Position::Waiting) => {
+            let cell: &'a RawCell<u64> = *shared;
+            let (resting, maker) = party.into_party().rest(cell, place);
+            let (party, place) = resting.resume(maker);
+            Walker {
+                shared,
+                party: Polling::new(party),
+                place,
+            }
+        }
+        _ => Walker {
+            shared,
+            party,
+            place,
+        },
+    }
+}
+
 /// The first action of a poll.
 pub(crate) fn begin<E: Drop, M: Maker<u64, E>, O: Origin<M>, R: Wait>(
     walker: &mut Party<'_, E, M, O>,
