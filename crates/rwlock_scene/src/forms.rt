@@ -123,5 +123,14 @@ where
     R: AllocGlobal + Copy + Drop,
 {
     let lock = RwLock::new(rt, number).ok()?;
+    shared(&rt, lock)
+}
+
+/// This lock with an owner; none where memory is refused.
+pub fn shared<R, Q>(rt: &Q, lock: RwLock<u64, R>) -> Option<Arc<RwLock<u64, R>>>
+where
+    R: AllocGlobal + Drop,
+    Q: AllocGlobal,
+{
     Arc::new(rt.alloc(), lock).ok()
 }

@@ -10,6 +10,6 @@ mod party;
 mod scene;
 
 pub use fake::Fake;
-pub use forms::{Form, owned};
+pub use forms::{Form, owned, shared};
 pub use party::{Answer, Deed, Party};
 pub use scene::{NOBODY, Name, Row, Scene, Tasks, Woken};

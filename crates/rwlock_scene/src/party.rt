@@ -30,6 +30,10 @@ pub enum Deed {
     Read,
     UpgradableRead,
     Write,
+    /// Makes a future, which is to be polled.
+    AskToRead,
+    AskToReadUpgradably,
+    AskToWrite,
     TryRead,
     TryUpgradableRead,
     TryWrite,
@@ -49,6 +53,10 @@ pub enum Deed {
     Drop,
     /// Writes a number.
     Put(u64),
+    /// Adds to the number.
+    Add(u64),
+    /// Reads by its guard.
+    Look,
 }
 
 /// What a deed answers.
@@ -61,8 +69,10 @@ pub enum Answer {
     /// A try was in vain.
     Nothing,
     Pending,
-    /// An upgrade is to be polled.
+    /// A future is to be polled.
     Waiting,
+    /// Its guard reads this number.
+    Found(u64),
     GivenBack,
     Refused(Refusal),
     NotPossible,
@@ -150,12 +160,25 @@ where
     R: Wait + Clock + RandomSource + AllocGlobal,
     O: Form<R>,
 {
-    // A party that has nothing begins.
-    fn begins(lock: &O, deed: Deed, task: &MockTask) -> (Party<R, O>, Answer) {
+    // A party that has nothing begins, by a future.
+    fn asks(lock: &O, deed: Deed, task: &MockTask) -> (Party<R, O>, Answer) {
         match deed {
             Deed::Read => poll_read(Settled(lock.reads()), task),
             Deed::UpgradableRead => poll_upgradable(Settled(lock.reads_upgradably()), task),
             Deed::Write => poll_write(Settled(lock.writes()), task),
+            Deed::AskToRead => (Party::ToRead(Settled(lock.reads())), Answer::Waiting),
+            Deed::AskToReadUpgradably => {
+                let future = lock.reads_upgradably();
+                (Party::ToReadUpgradably(Settled(future)), Answer::Waiting)
+            }
+            Deed::AskToWrite => (Party::ToWrite(Settled(lock.writes())), Answer::Waiting),
+            _ => (Party::Nothing, Answer::NotPossible),
+        }
+    }
+
+    // A party that has nothing begins.
+    fn begins(lock: &O, deed: Deed, task: &MockTask) -> (Party<R, O>, Answer) {
+        match deed {
             Deed::TryRead => match lock.read_now() {
                 Some(guard) => reads(guard),
                 None => (Party::Nothing, Answer::Nothing),
@@ -180,7 +203,7 @@ where
                 Ok(guard) => writes(guard),
                 Err(refusal) => refused(refusal),
             },
-            _ => (Party::Nothing, Answer::NotPossible),
+            deed => Party::asks(lock, deed, task),
         }
     }
 
@@ -214,6 +237,10 @@ where
                 *guard = number;
                 writes(guard)
             }
+            Deed::Add(number) => {
+                *guard = guard.saturating_add(number);
+                writes(guard)
+            }
             Deed::Downgrade => {
                 let guard = WriteGuard::downgrade(guard);
                 (Party::Reads(guard), Answer::GivenBack)
@@ -223,6 +250,16 @@ where
                 (Party::Upgradable(guard), Answer::GivenBack)
             }
             _ => (Party::Writes(guard), Answer::NotPossible),
+        }
+    }
+
+    // Reads by its guard.
+    fn looks(&self) -> Answer {
+        match self {
+            Party::Reads(guard) => Answer::Found(**guard),
+            Party::Upgradable(guard) => Answer::Found(**guard),
+            Party::Writes(guard) => Answer::Found(**guard),
+            _ => Answer::NotPossible,
         }
     }
 
@@ -245,6 +282,10 @@ where
                 (Party::Nothing, Answer::GivenBack)
             }
             (party, Deed::Poll) => party.polled(task),
+            (party, Deed::Look) => {
+                let answer = party.looks();
+                (party, answer)
+            }
             (Party::Nothing, deed) => Party::begins(lock, deed, task),
             (Party::Upgradable(guard), deed) => Party::goes_on(guard, deed),
             (Party::Writes(guard), deed) => Party::writes_on(guard, deed),

@@ -1,7 +1,8 @@
 //! Tests of the public read-write lock, by its public calls. There is nothing else here, and no crate stands on it.
 //!
-//! A story is played row by row, round a borrowed and round an owned lock. Each also ends well where one allocation fails,
-//! whichever it is: what is refused memory is tried again, or the test is over.
+//! A story is played row by row, round a borrowed and round an owned lock. It has ample memory: where an allocation fails, it
+//! stops at the lock that could not be made, or at the row that answers otherwise. The tests of `values` are over where their lock
+//! is refused.
 #![tactic(auto)]
 
 #[cfg(test)]

@@ -2,7 +2,7 @@
 
 use crate::same::assert_same;
 use async_rwlock::RwLock;
-use rwlock_scene::{Fake, Form, Row, Scene, Tasks, owned};
+use rwlock_scene::{Fake, Form, Row, Scene, Tasks, owned, shared};
 use std::alloc::AllocGlobal;
 use std::process::Abort;
 use std::random::RandomSource;
@@ -38,8 +38,8 @@ where
     true
 }
 
-/// Plays these rows round a borrowed lock of this number, and says whether there was memory for that.
-pub(crate) fn of_borrowed<R>(rt: R, number: u64, rows: &[Row]) -> bool
+// Plays these rows round a borrowed lock of this number, and says whether there was memory for that.
+fn in_borrowed<R>(rt: R, number: u64, rows: &[Row]) -> bool
 where
     R: Wait + Clock + RandomSource + AllocGlobal + Abort + Copy + Drop,
 {
@@ -49,8 +49,8 @@ where
     }
 }
 
-/// As [`of_borrowed`], of an owned lock.
-pub(crate) fn of_owned<R>(rt: R, number: u64, rows: &[Row]) -> bool
+// As [`in_borrowed`], of an owned lock.
+fn in_owned<R>(rt: R, number: u64, rows: &[Row]) -> bool
 where
     R: Wait + Clock + RandomSource + AllocGlobal + Abort + Copy + Drop,
 {
@@ -60,7 +60,23 @@ where
     }
 }
 
-/// Plays these rows round a lock of this number in both forms.
+/// Plays these rows round a borrowed lock of this number, which has to be made.
+pub(crate) fn of_borrowed<R>(rt: R, number: u64, rows: &[Row])
+where
+    R: Wait + Clock + RandomSource + AllocGlobal + Abort + Copy + Drop,
+{
+    assert_same(&rt, in_borrowed(rt, number, rows), true);
+}
+
+/// As [`of_borrowed`], of an owned lock.
+pub(crate) fn of_owned<R>(rt: R, number: u64, rows: &[Row])
+where
+    R: Wait + Clock + RandomSource + AllocGlobal + Abort + Copy + Drop,
+{
+    assert_same(&rt, in_owned(rt, number, rows), true);
+}
+
+/// As [`of_borrowed`], of a lock in both forms.
 pub(crate) fn of_both<R>(rt: R, number: u64, rows: &[Row])
 where
     R: Wait + Clock + RandomSource + AllocGlobal + Abort + Copy + Drop,
@@ -69,8 +85,8 @@ where
     of_owned(rt, number, rows);
 }
 
-/// As [`of_borrowed`], of a lock that has at most so many readers.
-pub(crate) fn of_limited<R>(rt: R, number: u64, readers: u64, rows: &[Row]) -> bool
+// As [`in_borrowed`], of a lock that has at most so many readers.
+fn in_limited<R>(rt: R, number: u64, readers: u64, rows: &[Row]) -> bool
 where
     R: Wait + Clock + RandomSource + AllocGlobal + Abort + Copy + Drop,
 {
@@ -78,6 +94,29 @@ where
         Ok(lock) => play(&rt, &lock, rows),
         Err(_) => false,
     }
+}
+
+// As [`in_limited`], of an owned lock.
+fn in_owned_limited<R>(rt: R, number: u64, readers: u64, rows: &[Row]) -> bool
+where
+    R: Wait + Clock + RandomSource + AllocGlobal + Abort + Copy + Drop,
+{
+    let Ok(lock) = RwLock::with_limits(rt, number, 10, readers) else {
+        return false;
+    };
+    match shared(&rt, lock) {
+        Some(lock) => play(&rt, lock, rows),
+        None => false,
+    }
+}
+
+/// As [`of_both`], of a lock that has at most so many readers.
+pub(crate) fn of_limited<R>(rt: R, number: u64, readers: u64, rows: &[Row])
+where
+    R: Wait + Clock + RandomSource + AllocGlobal + Abort + Copy + Drop,
+{
+    assert_same(&rt, in_limited(rt, number, readers, rows), true);
+    assert_same(&rt, in_owned_limited(rt, number, readers, rows), true);
 }
 
 // As [`play`], each row at its time by this clock.
@@ -98,8 +137,8 @@ where
     true
 }
 
-/// As [`of_borrowed`], of a lock of 0 where at most so many may be starved for the turn, each row at its time, in microseconds.
-pub(crate) fn of_timed<R>(rt: R, starved: u64, rows: &[(u64, Row)]) -> bool
+// As [`in_borrowed`], of a lock of 0 where at most so many may be starved for the turn, each row at its time.
+fn in_timed<R>(rt: R, starved: u64, rows: &[(u64, Row)]) -> bool
 where
     R: Wait + Clock + RandomSource + AllocGlobal + Abort + Copy + Drop,
 {
@@ -108,4 +147,28 @@ where
         Ok(lock) => play_timed(&rt, &lock, &micros, rows),
         Err(_) => false,
     }
+}
+
+// As [`in_timed`], of an owned lock.
+fn in_owned_timed<R>(rt: R, starved: u64, rows: &[(u64, Row)]) -> bool
+where
+    R: Wait + Clock + RandomSource + AllocGlobal + Abort + Copy + Drop,
+{
+    let micros = AtomicU64::new(0);
+    let Ok(lock) = RwLock::with_limits(Fake::new(rt, &micros), 0, starved, 10) else {
+        return false;
+    };
+    match shared(&rt, lock) {
+        Some(lock) => play_timed(&rt, lock, &micros, rows),
+        None => false,
+    }
+}
+
+/// As [`of_both`], of a lock of 0 where at most so many may be starved for the turn, each row at its time, in microseconds.
+pub(crate) fn of_timed<R>(rt: R, starved: u64, rows: &[(u64, Row)])
+where
+    R: Wait + Clock + RandomSource + AllocGlobal + Abort + Copy + Drop,
+{
+    assert_same(&rt, in_timed(rt, starved, rows), true);
+    assert_same(&rt, in_owned_timed(rt, starved, rows), true);
 }

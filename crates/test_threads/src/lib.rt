@@ -2,7 +2,7 @@
 //! here, and no crate stands on it.
 //!
 //! Each test also ends well where one allocation fails, whichever it is: what is refused memory is tried again, counted as
-//! refused, or the test is over.
+//! refused, or the test is over. But a read-write lock has to be made: where it is refused memory, its test stops.
 #![tactic(auto)]
 
 #[cfg(test)]
