@@ -1,6 +1,6 @@
 //! The tests of the Rust crate, under their names.
 
-use crate::plays::of_both;
+use crate::plays::{of_borrowed, of_both, of_owned};
 use rwlock_scene::{Answer, Deed, NOBODY, Name, Row};
 
 const SMOKE: [Row; 10] = [
@@ -19,6 +19,38 @@ const SMOKE: [Row; 10] = [
 #[test]
 fn smoke(rt: HostRuntime) {
     of_both(rt, 0, &SMOKE);
+}
+
+const SMOKE_BLOCKING: [Row; 14] = [
+    (Name::One, Deed::BlockToRead, Answer::Granted(0), NOBODY),
+    (Name::One, Deed::Drop, Answer::GivenBack, NOBODY),
+    (Name::One, Deed::BlockToWrite, Answer::Granted(0), NOBODY),
+    (Name::One, Deed::Drop, Answer::GivenBack, NOBODY),
+    (Name::One, Deed::BlockToRead, Answer::Granted(0), NOBODY),
+    (Name::Two, Deed::BlockToRead, Answer::Granted(0), NOBODY),
+    (Name::One, Deed::Drop, Answer::GivenBack, NOBODY),
+    (Name::Two, Deed::Drop, Answer::GivenBack, NOBODY),
+    (Name::One, Deed::BlockToRead, Answer::Granted(0), NOBODY),
+    (
+        Name::Two,
+        Deed::BlockToReadUpgradably,
+        Answer::Granted(0),
+        NOBODY,
+    ),
+    (Name::One, Deed::Drop, Answer::GivenBack, NOBODY),
+    (Name::Two, Deed::BlockToUpgrade, Answer::Granted(0), NOBODY),
+    (Name::Two, Deed::Drop, Answer::GivenBack, NOBODY),
+    (Name::One, Deed::BlockToWrite, Answer::Granted(0), NOBODY),
+];
+
+#[test]
+fn smoke_blocking(rt: HostRuntime) {
+    of_borrowed(rt, 0, &SMOKE_BLOCKING);
+}
+
+#[test]
+fn smoke_arc_blocking(rt: HostRuntime) {
+    of_owned(rt, 0, &SMOKE_BLOCKING);
 }
 
 const TRY_WRITE: [Row; 4] = [
@@ -43,14 +75,19 @@ const UPGRADE: [Row; 12] = [
     (Name::Four, Deed::Drop, Answer::GivenBack, NOBODY),
     (Name::One, Deed::TryWrite, Answer::Nothing, NOBODY),
     (Name::Three, Deed::TryUpgrade, Answer::Granted(0), NOBODY),
-    (Name::Three, Deed::Put(1), Answer::Granted(1), NOBODY),
+    (Name::Three, Deed::Add(1), Answer::Granted(1), NOBODY),
     (Name::Three, Deed::Drop, Answer::GivenBack, NOBODY),
     (Name::One, Deed::Read, Answer::Ready(1), NOBODY),
 ];
 
 #[test]
 fn upgrade(rt: HostRuntime) {
-    of_both(rt, 0, &UPGRADE);
+    of_borrowed(rt, 0, &UPGRADE);
+}
+
+#[test]
+fn upgrade_arc(rt: HostRuntime) {
+    of_owned(rt, 0, &UPGRADE);
 }
 
 const NOT_UPGRADE: [Row; 14] = [
@@ -65,14 +102,19 @@ const NOT_UPGRADE: [Row; 14] = [
     (Name::One, Deed::Read, Answer::Ready(0), NOBODY),
     (Name::One, Deed::Drop, Answer::GivenBack, NOBODY),
     (Name::One, Deed::Write, Answer::Ready(0), NOBODY),
-    (Name::One, Deed::Put(1), Answer::Granted(1), NOBODY),
+    (Name::One, Deed::Add(1), Answer::Granted(1), NOBODY),
     (Name::One, Deed::Drop, Answer::GivenBack, NOBODY),
     (Name::One, Deed::Read, Answer::Ready(1), NOBODY),
 ];
 
 #[test]
 fn not_upgrade(rt: HostRuntime) {
-    of_both(rt, 0, &NOT_UPGRADE);
+    of_borrowed(rt, 0, &NOT_UPGRADE);
+}
+
+#[test]
+fn not_upgrade_arc(rt: HostRuntime) {
+    of_owned(rt, 0, &NOT_UPGRADE);
 }
 
 const CONCURRENT_WRITER: [Row; 10] = [
@@ -115,10 +157,26 @@ const CONCURRENT_WRITER: [Row; 10] = [
 
 #[test]
 fn upgradable_with_concurrent_writer(rt: HostRuntime) {
-    of_both(rt, 0, &CONCURRENT_WRITER);
+    of_borrowed(rt, 0, &CONCURRENT_WRITER);
 }
 
-const CANCELLATION: [Row; 14] = [
+#[test]
+fn upgradable_with_concurrent_writer_arc(rt: HostRuntime) {
+    of_owned(rt, 0, &CONCURRENT_WRITER);
+}
+
+const CANCELLATION: [Row; 20] = [
+    (Name::One, Deed::AskToRead, Answer::Waiting, NOBODY),
+    (Name::One, Deed::Drop, Answer::GivenBack, NOBODY),
+    (
+        Name::One,
+        Deed::AskToReadUpgradably,
+        Answer::Waiting,
+        NOBODY,
+    ),
+    (Name::One, Deed::Drop, Answer::GivenBack, NOBODY),
+    (Name::One, Deed::AskToWrite, Answer::Waiting, NOBODY),
+    (Name::One, Deed::Drop, Answer::GivenBack, NOBODY),
     (Name::One, Deed::Read, Answer::Ready(0), NOBODY),
     (Name::One, Deed::Drop, Answer::GivenBack, NOBODY),
     (Name::One, Deed::UpgradableRead, Answer::Ready(0), NOBODY),
@@ -241,13 +299,26 @@ const UPGRADE_BESIDE_READER: [Row; 6] = [
     (Name::One, Deed::Poll, Answer::Ready(0), NOBODY),
 ];
 
+const EACH_CONTENDED: [&[Row]; 7] = [
+    &READ_BESIDE_WRITER,
+    &UPGRADABLE_BESIDE_WRITER,
+    &WRITE_BESIDE_WRITER,
+    &WRITE_BESIDE_READER,
+    &WRITE_BESIDE_UPGRADABLE,
+    &UPGRADABLE_BESIDE_UPGRADABLE,
+    &UPGRADE_BESIDE_READER,
+];
+
 #[test]
 fn yields_when_contended(rt: HostRuntime) {
-    of_both(rt, 0, &READ_BESIDE_WRITER);
-    of_both(rt, 0, &UPGRADABLE_BESIDE_WRITER);
-    of_both(rt, 0, &WRITE_BESIDE_WRITER);
-    of_both(rt, 0, &WRITE_BESIDE_READER);
-    of_both(rt, 0, &WRITE_BESIDE_UPGRADABLE);
-    of_both(rt, 0, &UPGRADABLE_BESIDE_UPGRADABLE);
-    of_both(rt, 0, &UPGRADE_BESIDE_READER);
+    for rows in EACH_CONTENDED {
+        of_borrowed(rt, 0, rows);
+    }
+}
+
+#[test]
+fn yields_when_contended_arc(rt: HostRuntime) {
+    for rows in EACH_CONTENDED {
+        of_owned(rt, 0, rows);
+    }
 }
