@@ -98,6 +98,20 @@ fn a_writer_steps_down_to_a_reader(rt: HostRuntime) {
     of_both(rt, 1, &DOWNGRADE);
 }
 
+const READS_WHAT_IT_WROTE: [Row; 6] = [
+    (Name::One, Deed::Write, Answer::Ready(1), NOBODY),
+    (Name::One, Deed::Add(1), Answer::Granted(2), NOBODY),
+    (Name::Two, Deed::TryRead, Answer::Nothing, NOBODY),
+    (Name::One, Deed::Downgrade, Answer::GivenBack, NOBODY),
+    (Name::One, Deed::Look, Answer::Found(2), NOBODY),
+    (Name::Two, Deed::TryRead, Answer::Granted(2), NOBODY),
+];
+
+#[test]
+fn a_downgraded_writer_reads_what_it_wrote(rt: HostRuntime) {
+    of_both(rt, 1, &READS_WHAT_IT_WROTE);
+}
+
 const UPGRADABLE_DOWNGRADE: [Row; 6] = [
     (Name::One, Deed::UpgradableRead, Answer::Ready(1), NOBODY),
     (Name::Two, Deed::UpgradableRead, Answer::Pending, NOBODY),
@@ -221,6 +235,38 @@ const UPGRADE_BEFORE_WRITE: [Row; 9] = [
 #[test]
 fn an_upgrade_goes_before_a_write_that_waits(rt: HostRuntime) {
     of_both(rt, 0, &UPGRADE_BEFORE_WRITE);
+}
+
+const UPGRADE_BESIDE_A_WRITE: [Row; 8] = [
+    (Name::One, Deed::UpgradableRead, Answer::Ready(0), NOBODY),
+    (Name::Two, Deed::Write, Answer::Pending, NOBODY),
+    (Name::One, Deed::Upgrade, Answer::Waiting, NOBODY),
+    (Name::One, Deed::Poll, Answer::Ready(0), NOBODY),
+    (Name::One, Deed::Put(2), Answer::Granted(2), NOBODY),
+    (
+        Name::One,
+        Deed::Drop,
+        Answer::GivenBack,
+        (false, true, false, false),
+    ),
+    // The write never came to its turn.
+    (
+        Name::Two,
+        Deed::Drop,
+        Answer::GivenBack,
+        (false, true, false, false),
+    ),
+    (
+        Name::Three,
+        Deed::BlockToWrite,
+        Answer::Granted(2),
+        (false, true, false, false),
+    ),
+];
+
+#[test]
+fn an_upgrade_writes_before_a_write_that_is_cancelled(rt: HostRuntime) {
+    of_both(rt, 0, &UPGRADE_BESIDE_A_WRITE);
 }
 
 const UPGRADE_WAITS: [Row; 10] = [
