@@ -1,8 +1,8 @@
 //! The value: reached past forgotten guards, dropped exactly once on every way out, and shown.
 
 use crate::same::assert_same;
-use async_rwlock::lock_futures::WriteFuture;
-use async_rwlock::{Owns, Refusal, RwLock, Turn, UpgradableGuard, WriteGuard};
+use async_rwlock::lock_futures::{ReadFuture, UpgradableFuture, UpgradeFuture, WriteFuture};
+use async_rwlock::{Owns, ReadGuard, Refusal, RwLock, Turn, UpgradableGuard, WriteGuard};
 use futures::test::MockTask;
 use rwlock_scene::{Form, owned};
 use std::alloc::AllocGlobal;
@@ -95,6 +95,17 @@ fn assert_text(rt: &(impl AllocGlobal + Abort), shown: &impl fmt::Debug, text: &
     }
 }
 
+// Compares both texts of a guard, which is dropped.
+fn assert_shown<G, R: AllocGlobal + Abort>(rt: &R, guard: Option<G>, text: &str)
+where
+    G: fmt::Debug + fmt::Display + Drop,
+{
+    let guard = guard.expect(rt, "the lock is free");
+    if let Ok(found) = format!(in rt.alloc(); "{guard:?} {guard}") {
+        assert_same(rt, found.as_str(), text);
+    }
+}
+
 // Compares how a free lock of 7 and its guards are shown, and the lock while it is held to write.
 fn assert_guards_shown<R, O>(rt: &R, lock: &O)
 where
@@ -102,10 +113,11 @@ where
     O: Form<R> + fmt::Debug,
 {
     assert_text(rt, lock, "RwLock { value: 7 }");
-    assert_text(rt, &lock.read_now(), "Some(7)");
-    assert_text(rt, &lock.upgradable_now(), "Some(7)");
+    assert_shown(rt, lock.read_now(), "7 7");
+    assert_shown(rt, lock.upgradable_now(), "7 7");
+    assert_shown(rt, lock.write_now(), "7 7");
     let writer = lock.write_now();
-    assert_text(rt, &writer, "Some(7)");
+    assert_same(rt, writer.is_some(), true);
     assert_text(rt, lock, "RwLock { value: <locked> }");
 }
 
@@ -113,6 +125,13 @@ where
 fn locks_and_guards_are_shown(rt: HostRuntime) {
     if let Ok(lock) = RwLock::new(rt, 7u64) {
         assert_guards_shown(&rt, &&lock);
+    }
+}
+
+#[test]
+fn owned_locks_and_guards_are_shown(rt: HostRuntime) {
+    if let Some(lock) = owned(rt, 7) {
+        assert_guards_shown(&rt, &lock);
     }
 }
 
@@ -158,8 +177,11 @@ fn owned_futures_are_shown(rt: HostRuntime) {
     }
 }
 
-// One poll by the context of a task.
-fn turn<R, O>(task: &MockTask, future: &mut WriteFuture<u64, R, O>) -> Turn<WriteGuard<u64, R, O>>
+// One poll of a read by the context of a task.
+fn read_turn<R, O>(
+    task: &MockTask,
+    future: &mut ReadFuture<u64, R, O>,
+) -> Turn<ReadGuard<u64, R, O>>
 where
     R: Wait + Clock,
     O: Owns<u64, R>,
@@ -167,25 +189,131 @@ where
     task.enter(|cx| future.poll(cx))
 }
 
-// Whether a future of the lock to write is ready at once, and refuses to be polled again.
-fn is_ready_and_finished<R, O>(task: &MockTask, lock: &O) -> (bool, bool)
+// Whether a future of the lock to read is ready at once, and then refuses to be polled again.
+fn read_is_finished<R, O>(task: &MockTask, lock: &O) -> (bool, bool)
+where
+    R: Wait + Clock + RandomSource + AllocGlobal,
+    O: Form<R>,
+{
+    let mut future = lock.reads();
+    let first = matches!(read_turn(task, &mut future), Turn::Ready(_));
+    let second = matches!(
+        read_turn(task, &mut future),
+        Turn::Refused(Refusal::Finished)
+    );
+    (first, second)
+}
+
+// One poll of an upgradable read by the context of a task.
+fn upgradable_turn<R, O>(
+    task: &MockTask,
+    future: &mut UpgradableFuture<u64, R, O>,
+) -> Turn<UpgradableGuard<u64, R, O>>
+where
+    R: Wait + Clock,
+    O: Owns<u64, R>,
+{
+    task.enter(|cx| future.poll(cx))
+}
+
+// Whether a future of the lock to read upgradably is ready at once, and then refuses to be polled again.
+fn upgradable_is_finished<R, O>(task: &MockTask, lock: &O) -> (bool, bool)
+where
+    R: Wait + Clock + RandomSource + AllocGlobal,
+    O: Form<R>,
+{
+    let mut future = lock.reads_upgradably();
+    let first = matches!(upgradable_turn(task, &mut future), Turn::Ready(_));
+    let second = matches!(
+        upgradable_turn(task, &mut future),
+        Turn::Refused(Refusal::Finished)
+    );
+    (first, second)
+}
+
+// One poll of a write by the context of a task.
+fn write_turn<R, O>(
+    task: &MockTask,
+    future: &mut WriteFuture<u64, R, O>,
+) -> Turn<WriteGuard<u64, R, O>>
+where
+    R: Wait + Clock,
+    O: Owns<u64, R>,
+{
+    task.enter(|cx| future.poll(cx))
+}
+
+// Whether a future of the lock to write is ready at once, and then refuses to be polled again.
+fn write_is_finished<R, O>(task: &MockTask, lock: &O) -> (bool, bool)
 where
     R: Wait + Clock + RandomSource + AllocGlobal,
     O: Form<R>,
 {
     let mut future = lock.writes();
-    let first = matches!(turn(task, &mut future), Turn::Ready(_));
-    let second = matches!(turn(task, &mut future), Turn::Refused(Refusal::Finished));
+    let first = matches!(write_turn(task, &mut future), Turn::Ready(_));
+    let second = matches!(
+        write_turn(task, &mut future),
+        Turn::Refused(Refusal::Finished)
+    );
     (first, second)
+}
+
+// One poll of an upgrade by the context of a task.
+fn upgrade_turn<R, O>(
+    task: &MockTask,
+    future: &mut UpgradeFuture<u64, R, O>,
+) -> Turn<WriteGuard<u64, R, O>>
+where
+    R: Wait + Clock,
+    O: Owns<u64, R>,
+{
+    task.enter(|cx| future.poll(cx))
+}
+
+// Whether an upgrade with nobody else reading is ready at once, and then refuses to be polled again.
+fn upgrade_is_finished<R, O>(task: &MockTask, lock: &O) -> (bool, bool)
+where
+    R: Wait + Clock + RandomSource + AllocGlobal,
+    O: Form<R>,
+{
+    let Some(guard) = lock.upgradable_now() else {
+        return (false, false);
+    };
+    let mut future = UpgradableGuard::upgrade(guard);
+    let first = matches!(upgrade_turn(task, &mut future), Turn::Ready(_));
+    let second = matches!(
+        upgrade_turn(task, &mut future),
+        Turn::Refused(Refusal::Finished)
+    );
+    (first, second)
+}
+
+// Polls a future of each kind of a free lock until it refuses.
+fn assert_finished<R, O, Q>(rt: &Q, lock: &O)
+where
+    R: Wait + Clock + RandomSource + AllocGlobal,
+    O: Form<R>,
+    Q: RandomSource + AllocGlobal + Abort,
+{
+    let Ok(task) = MockTask::new(rt) else {
+        return;
+    };
+    assert_same(rt, read_is_finished(&task, lock), (true, true));
+    assert_same(rt, upgradable_is_finished(&task, lock), (true, true));
+    assert_same(rt, write_is_finished(&task, lock), (true, true));
+    assert_same(rt, upgrade_is_finished(&task, lock), (true, true));
 }
 
 #[test]
 fn a_future_that_was_ready_is_refused(rt: HostRuntime) {
-    let Ok(lock) = RwLock::new(rt, 7u64) else {
-        return;
-    };
-    if let Ok(task) = MockTask::new(&rt) {
-        let found = is_ready_and_finished(&task, &&lock);
-        assert_same(&rt, found, (true, true));
+    if let Ok(lock) = RwLock::new(rt, 7u64) {
+        assert_finished(&rt, &&lock);
+    }
+}
+
+#[test]
+fn an_owned_future_that_was_ready_is_refused(rt: HostRuntime) {
+    if let Some(lock) = owned(rt, 7) {
+        assert_finished(&rt, &lock);
     }
 }
