@@ -1,7 +1,8 @@
-//! The read-write lock as its users meet it: read by two threads at a time, upgraded without letting a writer in between, and
-//! owned by its guard. Each module is one example. The program runs them all, and prints a line for each.
+//! The read-write lock as its users meet it: read by two threads at a time, upgraded without letting a writer in between, owned by
+//! its guard, and round a cache that one refreshes. Each module is one example. The program runs them all, and prints a line for each.
 #![tactic(auto)]
 
+mod cache;
 mod owned;
 mod two_readers;
 mod upgraded;
@@ -19,6 +20,8 @@ struct Results {
     sum: u64,
     upgraded: u64,
     owned: u64,
+    degrees: u64,
+    asked: u64,
 }
 
 fn run_all<R>(rt: R) -> Result<Results, Refusal>
@@ -30,10 +33,13 @@ where
     let first = upgraded::add_if_even(&lock, 1)?;
     let second = upgraded::add_if_even(&lock, 1)?;
     let owned = owned::read(rt, 9)?;
+    let (degrees, asked) = cache::run(rt)?;
     Ok(Results {
         sum,
         upgraded: first.saturating_add(second),
         owned: *owned,
+        degrees,
+        asked,
     })
 }
 
@@ -43,12 +49,16 @@ fn main(rt: HostRuntime) -> ExitCode {
             sum,
             upgraded,
             owned,
-        },
+            degrees,
+            asked,
+            },
     ) = run_all(rt)
     else {
         return ExitCode::FAILURE;
     };
-    match println!(rt; "two readers: {sum}\nupgraded: {upgraded}\nowned: {owned}") {
+    match println!(rt;
+        "two readers: {sum}\nupgraded: {upgraded}\nowned: {owned}\ncache: {degrees}, refreshed {asked} time"
+    ) {
         Ok(()) => ExitCode::SUCCESS,
         Err(_) => ExitCode::FAILURE,
     }
