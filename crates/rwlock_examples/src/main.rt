@@ -1,8 +1,9 @@
 //! The read-write lock as its users meet it: read by two threads at a time, upgraded without letting a writer in between, owned by
-//! its guard, and round a cache that one refreshes. Each module is one example. The program runs them all, and prints a line for each.
+//! its guard, round a cache that one refreshes, and with what a user proves of the values that its guards lend. Each module is one example. The program runs them all, and prints a line for each.
 #![tactic(auto)]
 
 mod cache;
+mod lent;
 mod owned;
 mod two_readers;
 mod upgraded;
@@ -22,6 +23,7 @@ struct Results {
     owned: u64,
     degrees: u64,
     asked: u64,
+    read_again: u64,
 }
 
 fn run_all<R>(rt: R) -> Result<Results, Refusal>
@@ -34,12 +36,14 @@ where
     let second = upgraded::add_if_even(&lock, 1)?;
     let owned = owned::read(rt, 9)?;
     let (degrees, asked) = cache::run(rt)?;
+    let read_again = lent::run(rt, 5)?;
     Ok(Results {
         sum,
         upgraded: first.saturating_add(second),
         owned: *owned,
         degrees,
         asked,
+        read_again,
     })
 }
 
@@ -51,13 +55,14 @@ fn main(rt: HostRuntime) -> ExitCode {
             owned,
             degrees,
             asked,
-            },
+            read_again,
+        },
     ) = run_all(rt)
     else {
         return ExitCode::FAILURE;
     };
     match println!(rt;
-        "two readers: {sum}\nupgraded: {upgraded}\nowned: {owned}\ncache: {degrees}, refreshed {asked} time"
+        "two readers: {sum}\nupgraded: {upgraded}\nowned: {owned}\ncache: {degrees}, refreshed {asked} time\nread again: {read_again}"
     ) {
         Ok(()) => ExitCode::SUCCESS,
         Err(_) => ExitCode::FAILURE,

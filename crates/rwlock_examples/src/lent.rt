@@ -1,0 +1,134 @@
+//! What a user can prove of the values that guards lend, and of the locks that guards and futures are of.
+//!
+//! While a guard reads nobody writes, so that two reads agree; and what the writer writes it reads again. Each function's contract is
+//! about values or locks, and no file of proofs stands beside it.
+
+ghost use Rattle.std.specs.Prelude.{◌≡◌, true, IfOk, IfSome};
+ghost use Rattle.std.specs.Arc.{arc_value};
+ghost use Rattle.async_rwlock.specs.Stages.{IsFor};
+
+use async_lock::lock_futures::ReadArc;
+use async_lock::{Refusal, RwLock, RwLockReadGuard, RwLockUpgradableReadGuard, RwLockWriteGuard};
+use std::alloc::AllocGlobal;
+use std::random::RandomSource;
+use std::sync::{Arc, Wait};
+use std::time::Clock;
+
+/// Reads the value twice, and says whether both are the same: they are.
+fn reads_agree<R: Wait>(guard: &RwLockReadGuard<'_, u64, R>) -> bool
+    ensures { result ≡ true }
+{
+    **guard == **guard
+}
+
+/// As [`reads_agree`], by a guard that may be upgraded.
+fn upgradable_reads_agree<R: Wait>(guard: &RwLockUpgradableReadGuard<'_, u64, R>) -> bool
+    ensures { result ≡ true }
+{
+    **guard == **guard
+}
+
+/// As [`reads_agree`], by the writer.
+fn writers_reads_agree<R: Wait>(guard: &RwLockWriteGuard<'_, u64, R>) -> bool
+    ensures { result ≡ true }
+{
+    **guard == **guard
+}
+
+/// Writes a number and reads it again.
+fn written<R: Wait>(guard: &mut RwLockWriteGuard<'_, u64, R>, number: u64) -> u64
+    ensures { result ≡ number }
+{
+    **guard = number;
+    **guard
+}
+
+/// Writes a number under the lock and reads it again, if the lock is free.
+fn exchanged<R: Wait>(lock: &RwLock<u64, R>, number: u64) -> Option<u64>
+    ensures { IfSome result (λ read. read ≡ number) }
+{
+    let mut guard = lock.try_write()?;
+    Some(written(&mut guard, number))
+}
+
+/// Reads the first of two, and waits for it in this thread: the guard is of that one.
+fn first_to_read<'a, R: Wait + Clock + RandomSource + AllocGlobal>(
+    first: &'a RwLock<u64, R>,
+    second: &'a RwLock<u64, R>,
+) -> Result<RwLockReadGuard<'a, u64, R>, Refusal>
+    ensures { IfOk result (λ guard. guard.lock ≡ first.now) }
+{
+    let _ = second;
+    first.read_blocking()
+}
+
+/// As [`first_to_read`], with the right to upgrade.
+fn first_to_read_upgradably<'a, R: Wait + Clock + RandomSource + AllocGlobal>(
+    first: &'a RwLock<u64, R>,
+    second: &'a RwLock<u64, R>,
+) -> Result<RwLockUpgradableReadGuard<'a, u64, R>, Refusal>
+    ensures { IfOk result (λ guard. guard.lock ≡ first.now) }
+{
+    let _ = second;
+    first.upgradable_read_blocking()
+}
+
+/// As [`first_to_read`], to write.
+fn first_to_write<'a, R: Wait + Clock + RandomSource + AllocGlobal>(
+    first: &'a RwLock<u64, R>,
+    second: &'a RwLock<u64, R>,
+) -> Result<RwLockWriteGuard<'a, u64, R>, Refusal>
+    ensures { IfOk result (λ guard. guard.lock ≡ first.now) }
+{
+    let _ = second;
+    first.write_blocking()
+}
+
+/// A future that owns the first of two, and is for that one: if it has a share of a lock, it is that one's.
+fn future_of_first<R: Wait + Drop>(
+    first: &Arc<RwLock<u64, R>>,
+    second: &Arc<RwLock<u64, R>>,
+) -> ReadArc<u64, R>
+    ensures { IsFor arc_value result.stage (arc_value first.now) }
+{
+    let _ = second;
+    RwLock::read_arc(first)
+}
+
+// Whether two reads agree by each kind of guard.
+fn all_agree<R>(first: &RwLock<u64, R>, second: &RwLock<u64, R>) -> Result<bool, Refusal>
+where
+    R: Wait + Clock + RandomSource + AllocGlobal,
+{
+    let reader = first_to_read(first, second)?;
+    let upgradable = first_to_read_upgradably(first, second)?;
+    let readers_agree = reads_agree(&reader) && upgradable_reads_agree(&upgradable);
+    drop(reader);
+    drop(upgradable);
+    let writer = first_to_write(first, second)?;
+    Ok(readers_agree && writers_reads_agree(&writer))
+}
+
+fn owned<R>(rt: R, number: u64) -> Result<Arc<RwLock<u64, R>>, Refusal>
+where
+    R: AllocGlobal + Copy + Drop,
+{
+    match Arc::new(rt.alloc(), RwLock::new(rt, number)?) {
+        Ok(lock) => Ok(lock),
+        Err(_) => Err(Refusal::Memory),
+    }
+}
+
+/// Returns what is read again after it was written, or 0 if two reads differ.
+pub(crate) fn run<R>(rt: R, number: u64) -> Result<u64, Refusal>
+where
+    R: Wait + Clock + RandomSource + AllocGlobal + Copy + Drop,
+{
+    let first = owned(rt, 0)?;
+    let second = owned(rt, 1)?;
+    drop(future_of_first(&first, &second));
+    if !all_agree(&first, &second)? {
+        return Ok(0);
+    }
+    Ok(exchanged(&first, number).unwrap_or(0))
+}
