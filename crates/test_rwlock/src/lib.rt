@@ -1,8 +1,7 @@
 //! Tests of the public read-write lock, by its public calls. There is nothing else here, and no crate stands on it.
 //!
 //! A story is played row by row, round a borrowed and round an owned lock. It has ample memory: where an allocation fails, it
-//! stops at the lock that could not be made, or at the row that answers otherwise. The tests of `values` are over where their lock
-//! is refused.
+//! stops at the lock that could not be made, or at the row that answers otherwise.
 #![tactic(auto)]
 
 #[cfg(test)]
@@ -17,5 +16,3 @@ mod rust_tests;
 mod same;
 #[cfg(test)]
 mod stories;
-#[cfg(test)]
-mod values;

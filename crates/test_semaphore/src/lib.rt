@@ -14,8 +14,6 @@ mod same;
 #[cfg(test)]
 mod scene;
 #[cfg(test)]
-mod shares;
-#[cfg(test)]
 mod stories;
 #[cfg(test)]
 mod surface;

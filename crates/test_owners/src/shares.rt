@@ -1,17 +1,25 @@
 //! Which share of a semaphore an owned guard or future keeps, and that none is left when it has ended.
 
 use crate::same::assert_same;
-use crate::scene::task;
 use async_semaphore::{Semaphore, Settled};
 use futures::task::Poll;
+use futures::test::MockTask;
 use std::alloc::{Alloc, AllocGlobal, Global};
 use std::io;
+use std::random::RandomSource;
 use std::sync::atomic::{AtomicU64, Ordering};
 use std::sync::{Arc, Wait};
 use std::time::{Clock, Duration};
 
 // Why a test here stops where memory is refused.
 const AMPLE: &str = "memory is ample";
+
+// A task that counts as not woken before its first poll; none where memory is refused.
+fn task<R: RandomSource + AllocGlobal>(rt: &R) -> Option<MockTask> {
+    let task = MockTask::new(rt).ok()?;
+    task.enter(|_| ());
+    Some(task)
+}
 
 /// A runtime whose drops are counted: that of a semaphore's runtime is the semaphore's.
 struct Watched<'a, R> {

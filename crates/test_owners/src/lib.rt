@@ -1,0 +1,12 @@
+//! Tests of what guards and futures keep and lend, by public calls: the value of a read-write lock and how locks and guards are
+//! shown, and the shares of a semaphore. There is nothing else here, and no crate stands on it.
+//!
+//! The tests of `values` are over where their lock is refused.
+#![tactic(auto)]
+
+#[cfg(test)]
+mod same;
+#[cfg(test)]
+mod shares;
+#[cfg(test)]
+mod values;
