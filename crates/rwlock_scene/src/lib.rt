@@ -8,8 +8,10 @@ mod fake;
 mod forms;
 mod party;
 mod scene;
+mod turns;
 
 pub use fake::Fake;
 pub use forms::{Form, owned, shared};
 pub use party::{Answer, Deed, Party};
-pub use scene::{NOBODY, Name, Row, Scene, Tasks, Woken};
+pub use scene::{FOUR, NOBODY, Name, ONE, Row, Scene, THREE, TWO, TWO_AND_THREE, Tasks, Woken};
+pub use turns::{read_is_finished, upgradable_is_finished, upgrade_is_finished, write_is_finished};

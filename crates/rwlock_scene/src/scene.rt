@@ -30,6 +30,16 @@ pub type Woken = (bool, bool, bool, bool);
 
 pub const NOBODY: Woken = (false, false, false, false);
 
+pub const ONE: Woken = (true, false, false, false);
+
+pub const TWO: Woken = (false, true, false, false);
+
+pub const THREE: Woken = (false, false, true, false);
+
+pub const FOUR: Woken = (false, false, false, true);
+
+pub const TWO_AND_THREE: Woken = (false, true, true, false);
+
 /// The tasks of the parties.
 pub struct Tasks {
     one: MockTask,

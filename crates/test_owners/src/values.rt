@@ -1,10 +1,11 @@
 //! The value: reached past forgotten guards, dropped exactly once on every way out, and shown.
 
 use crate::same::assert_same;
-use async_rwlock::lock_futures::{ReadFuture, UpgradableFuture, UpgradeFuture, WriteFuture};
-use async_rwlock::{Owns, ReadGuard, Refusal, RwLock, Turn, UpgradableGuard, WriteGuard};
+use async_rwlock::{RwLock, UpgradableGuard};
 use futures::test::MockTask;
-use rwlock_scene::{Form, owned};
+use rwlock_scene::{
+    Form, owned, read_is_finished, upgradable_is_finished, upgrade_is_finished, write_is_finished,
+};
 use std::alloc::AllocGlobal;
 use std::process::Abort;
 use std::random::RandomSource;
@@ -175,117 +176,6 @@ fn owned_futures_are_shown(rt: HostRuntime) {
     if let Some(lock) = owned(rt, 7) {
         assert_futures_shown(&rt, &lock, OWNED_NAMES);
     }
-}
-
-// One poll of a read by the context of a task.
-fn read_turn<R, O>(
-    task: &MockTask,
-    future: &mut ReadFuture<u64, R, O>,
-) -> Turn<ReadGuard<u64, R, O>>
-where
-    R: Wait + Clock,
-    O: Owns<u64, R>,
-{
-    task.enter(|cx| future.poll(cx))
-}
-
-// Whether a future of the lock to read is ready at once, and then refuses to be polled again.
-fn read_is_finished<R, O>(task: &MockTask, lock: &O) -> (bool, bool)
-where
-    R: Wait + Clock + RandomSource + AllocGlobal,
-    O: Form<R>,
-{
-    let mut future = lock.reads();
-    let first = matches!(read_turn(task, &mut future), Turn::Ready(_));
-    let second = matches!(
-        read_turn(task, &mut future),
-        Turn::Refused(Refusal::Finished)
-    );
-    (first, second)
-}
-
-// One poll of an upgradable read by the context of a task.
-fn upgradable_turn<R, O>(
-    task: &MockTask,
-    future: &mut UpgradableFuture<u64, R, O>,
-) -> Turn<UpgradableGuard<u64, R, O>>
-where
-    R: Wait + Clock,
-    O: Owns<u64, R>,
-{
-    task.enter(|cx| future.poll(cx))
-}
-
-// Whether a future of the lock to read upgradably is ready at once, and then refuses to be polled again.
-fn upgradable_is_finished<R, O>(task: &MockTask, lock: &O) -> (bool, bool)
-where
-    R: Wait + Clock + RandomSource + AllocGlobal,
-    O: Form<R>,
-{
-    let mut future = lock.reads_upgradably();
-    let first = matches!(upgradable_turn(task, &mut future), Turn::Ready(_));
-    let second = matches!(
-        upgradable_turn(task, &mut future),
-        Turn::Refused(Refusal::Finished)
-    );
-    (first, second)
-}
-
-// One poll of a write by the context of a task.
-fn write_turn<R, O>(
-    task: &MockTask,
-    future: &mut WriteFuture<u64, R, O>,
-) -> Turn<WriteGuard<u64, R, O>>
-where
-    R: Wait + Clock,
-    O: Owns<u64, R>,
-{
-    task.enter(|cx| future.poll(cx))
-}
-
-// Whether a future of the lock to write is ready at once, and then refuses to be polled again.
-fn write_is_finished<R, O>(task: &MockTask, lock: &O) -> (bool, bool)
-where
-    R: Wait + Clock + RandomSource + AllocGlobal,
-    O: Form<R>,
-{
-    let mut future = lock.writes();
-    let first = matches!(write_turn(task, &mut future), Turn::Ready(_));
-    let second = matches!(
-        write_turn(task, &mut future),
-        Turn::Refused(Refusal::Finished)
-    );
-    (first, second)
-}
-
-// One poll of an upgrade by the context of a task.
-fn upgrade_turn<R, O>(
-    task: &MockTask,
-    future: &mut UpgradeFuture<u64, R, O>,
-) -> Turn<WriteGuard<u64, R, O>>
-where
-    R: Wait + Clock,
-    O: Owns<u64, R>,
-{
-    task.enter(|cx| future.poll(cx))
-}
-
-// Whether an upgrade with nobody else reading is ready at once, and then refuses to be polled again.
-fn upgrade_is_finished<R, O>(task: &MockTask, lock: &O) -> (bool, bool)
-where
-    R: Wait + Clock + RandomSource + AllocGlobal,
-    O: Form<R>,
-{
-    let Some(guard) = lock.upgradable_now() else {
-        return (false, false);
-    };
-    let mut future = UpgradableGuard::upgrade(guard);
-    let first = matches!(upgrade_turn(task, &mut future), Turn::Ready(_));
-    let second = matches!(
-        upgrade_turn(task, &mut future),
-        Turn::Refused(Refusal::Finished)
-    );
-    (first, second)
 }
 
 // Polls a future of each kind of a free lock until it refuses.

@@ -1,11 +1,11 @@
 //! Futures that are dropped at each place where they may wait, notified or not, with another behind them.
 
 use crate::plays::{of_both, of_timed};
-use rwlock_scene::{Answer, Deed, NOBODY, Name, Row, Woken};
+use rwlock_scene::{Answer, Deed, FOUR, NOBODY, Name, ONE, Row, TWO, TWO_AND_THREE, Woken};
 
-const TWO: Woken = (false, true, false, false);
+const ONE_AND_THREE: Woken = (true, false, true, false);
 
-const BOTH: Woken = (false, true, true, false);
+const TWO_AND_FOUR: Woken = (false, true, false, true);
 
 // Who has the lock, who waits for it first and is cancelled, who waits behind, and which tasks the end of what the first one has wakes.
 type Case = (Deed, Deed, Deed, Woken);
@@ -13,9 +13,9 @@ type Case = (Deed, Deed, Deed, Woken);
 // Where both wait in one list, the first one alone is notified; in two lists both are.
 const AT_A_LIST: [Case; 13] = [
     (Deed::Write, Deed::Read, Deed::Read, TWO),
-    (Deed::Write, Deed::Read, Deed::UpgradableRead, BOTH),
-    (Deed::Write, Deed::Read, Deed::Write, BOTH),
-    (Deed::Write, Deed::UpgradableRead, Deed::Read, BOTH),
+    (Deed::Write, Deed::Read, Deed::UpgradableRead, TWO_AND_THREE),
+    (Deed::Write, Deed::Read, Deed::Write, TWO_AND_THREE),
+    (Deed::Write, Deed::UpgradableRead, Deed::Read, TWO_AND_THREE),
     (Deed::Write, Deed::UpgradableRead, Deed::UpgradableRead, TWO),
     (Deed::Write, Deed::UpgradableRead, Deed::Write, TWO),
     (
@@ -25,7 +25,7 @@ const AT_A_LIST: [Case; 13] = [
         TWO,
     ),
     (Deed::UpgradableRead, Deed::UpgradableRead, Deed::Write, TWO),
-    (Deed::Write, Deed::Write, Deed::Read, BOTH),
+    (Deed::Write, Deed::Write, Deed::Read, TWO_AND_THREE),
     (Deed::Write, Deed::Write, Deed::UpgradableRead, TWO),
     (Deed::Write, Deed::Write, Deed::Write, TWO),
     (Deed::UpgradableRead, Deed::Write, Deed::UpgradableRead, TWO),
@@ -40,7 +40,7 @@ fn cancelled_untold(case: Case) -> [Row; 6] {
         (Name::Three, behind, Answer::Pending, NOBODY),
         // With its entry goes its waker, which wakes its own task.
         (Name::Two, Deed::Drop, Answer::GivenBack, TWO),
-        (Name::One, Deed::Drop, Answer::GivenBack, BOTH),
+        (Name::One, Deed::Drop, Answer::GivenBack, TWO_AND_THREE),
         (Name::Three, Deed::Poll, Answer::Ready(0), TWO),
     ]
 }
@@ -52,7 +52,7 @@ fn cancelled_told(case: Case) -> [Row; 6] {
         (Name::Two, first, Answer::Pending, NOBODY),
         (Name::Three, behind, Answer::Pending, NOBODY),
         (Name::One, Deed::Drop, Answer::GivenBack, told),
-        (Name::Two, Deed::Drop, Answer::GivenBack, BOTH),
+        (Name::Two, Deed::Drop, Answer::GivenBack, TWO_AND_THREE),
         (Name::Three, Deed::Poll, Answer::Ready(0), TWO),
     ]
 }
@@ -92,7 +92,10 @@ fn starved_untold(first: Deed, behind: Deed) -> [(u64, Row); 12] {
         (501, (Name::Four, Deed::Drop, Answer::GivenBack, TWO)),
         (501, (Name::Four, Deed::TryWrite, Answer::Granted(0), TWO)),
         (501, (Name::Three, behind, Answer::Pending, TWO)),
-        (501, (Name::Four, Deed::Drop, Answer::GivenBack, BOTH)),
+        (
+            501,
+            (Name::Four, Deed::Drop, Answer::GivenBack, TWO_AND_THREE),
+        ),
         (501, (Name::Three, Deed::Poll, Answer::Ready(0), TWO)),
         (501, (Name::Four, Deed::TryWrite, Answer::Nothing, TWO)),
     ]
@@ -110,8 +113,14 @@ fn starved_told(first: Deed, behind: Deed) -> [(u64, Row); 13] {
         (501, (Name::Three, behind, Answer::Pending, NOBODY)),
         (501, (Name::Four, Deed::Drop, Answer::GivenBack, TWO)),
         (501, (Name::Four, Deed::TryWrite, Answer::Nothing, TWO)),
-        (501, (Name::Two, Deed::Drop, Answer::GivenBack, BOTH)),
-        (501, (Name::Four, Deed::TryWrite, Answer::Nothing, BOTH)),
+        (
+            501,
+            (Name::Two, Deed::Drop, Answer::GivenBack, TWO_AND_THREE),
+        ),
+        (
+            501,
+            (Name::Four, Deed::TryWrite, Answer::Nothing, TWO_AND_THREE),
+        ),
         (501, (Name::Three, Deed::Poll, Answer::Ready(0), TWO)),
         (501, (Name::Three, Deed::Drop, Answer::GivenBack, TWO)),
         (501, (Name::Four, Deed::TryWrite, Answer::Granted(0), TWO)),
@@ -130,7 +139,7 @@ const CANCEL_WRITE_BEFORE_UPGRADABLE: [Row; 5] = [
     (Name::One, Deed::Read, Answer::Ready(0), NOBODY),
     (Name::Two, Deed::Write, Answer::Pending, NOBODY),
     (Name::Three, Deed::UpgradableRead, Answer::Pending, NOBODY),
-    (Name::Two, Deed::Drop, Answer::GivenBack, BOTH),
+    (Name::Two, Deed::Drop, Answer::GivenBack, TWO_AND_THREE),
     (Name::Three, Deed::Poll, Answer::Ready(0), TWO),
 ];
 
@@ -139,7 +148,7 @@ const CANCEL_TOLD_WRITE_BEFORE_UPGRADABLE: [Row; 6] = [
     (Name::Two, Deed::Write, Answer::Pending, NOBODY),
     (Name::Three, Deed::UpgradableRead, Answer::Pending, NOBODY),
     (Name::One, Deed::Drop, Answer::GivenBack, TWO),
-    (Name::Two, Deed::Drop, Answer::GivenBack, BOTH),
+    (Name::Two, Deed::Drop, Answer::GivenBack, TWO_AND_THREE),
     (Name::Three, Deed::Poll, Answer::Ready(0), TWO),
 ];
 
@@ -161,36 +170,11 @@ const CANCEL_WRITE_UNTOLD: [Row; 10] = [
         Answer::GivenBack,
         (false, true, true, true),
     ),
-    (
-        Name::Three,
-        Deed::Poll,
-        Answer::Ready(0),
-        (false, true, false, true),
-    ),
-    (
-        Name::Four,
-        Deed::Poll,
-        Answer::Pending,
-        (false, true, false, false),
-    ),
-    (
-        Name::Three,
-        Deed::Drop,
-        Answer::GivenBack,
-        (false, true, false, false),
-    ),
-    (
-        Name::One,
-        Deed::Drop,
-        Answer::GivenBack,
-        (false, true, false, true),
-    ),
-    (
-        Name::Four,
-        Deed::Poll,
-        Answer::Ready(0),
-        (false, true, false, false),
-    ),
+    (Name::Three, Deed::Poll, Answer::Ready(0), TWO_AND_FOUR),
+    (Name::Four, Deed::Poll, Answer::Pending, TWO),
+    (Name::Three, Deed::Drop, Answer::GivenBack, TWO),
+    (Name::One, Deed::Drop, Answer::GivenBack, TWO_AND_FOUR),
+    (Name::Four, Deed::Poll, Answer::Ready(0), TWO),
 ];
 
 #[test]
@@ -203,42 +187,17 @@ const CANCEL_WRITE_TOLD: [Row; 10] = [
     (Name::Two, Deed::Write, Answer::Pending, NOBODY),
     (Name::Three, Deed::Read, Answer::Pending, NOBODY),
     (Name::Four, Deed::Write, Answer::Pending, NOBODY),
-    (
-        Name::One,
-        Deed::Drop,
-        Answer::GivenBack,
-        (false, true, false, false),
-    ),
+    (Name::One, Deed::Drop, Answer::GivenBack, TWO),
     (
         Name::Two,
         Deed::Drop,
         Answer::GivenBack,
         (false, true, true, true),
     ),
-    (
-        Name::Three,
-        Deed::Poll,
-        Answer::Ready(0),
-        (false, true, false, true),
-    ),
-    (
-        Name::Four,
-        Deed::Poll,
-        Answer::Pending,
-        (false, true, false, false),
-    ),
-    (
-        Name::Three,
-        Deed::Drop,
-        Answer::GivenBack,
-        (false, true, false, true),
-    ),
-    (
-        Name::Four,
-        Deed::Poll,
-        Answer::Ready(0),
-        (false, true, false, false),
-    ),
+    (Name::Three, Deed::Poll, Answer::Ready(0), TWO_AND_FOUR),
+    (Name::Four, Deed::Poll, Answer::Pending, TWO),
+    (Name::Three, Deed::Drop, Answer::GivenBack, TWO_AND_FOUR),
+    (Name::Four, Deed::Poll, Answer::Ready(0), TWO),
 ];
 
 #[test]
@@ -265,12 +224,7 @@ const CANCEL_UPGRADE_UNTOLD: [Row; 9] = [
         Answer::Ready(0),
         (true, false, false, true),
     ),
-    (
-        Name::Four,
-        Deed::Poll,
-        Answer::Ready(0),
-        (true, false, false, false),
-    ),
+    (Name::Four, Deed::Poll, Answer::Ready(0), ONE),
 ];
 
 #[test]
@@ -285,12 +239,7 @@ const CANCEL_UPGRADE_TOLD: [Row; 10] = [
     (Name::One, Deed::Poll, Answer::Pending, NOBODY),
     (Name::Three, Deed::Read, Answer::Pending, NOBODY),
     (Name::Four, Deed::UpgradableRead, Answer::Pending, NOBODY),
-    (
-        Name::Two,
-        Deed::Drop,
-        Answer::GivenBack,
-        (true, false, false, false),
-    ),
+    (Name::Two, Deed::Drop, Answer::GivenBack, ONE),
     (
         Name::One,
         Deed::Drop,
@@ -303,12 +252,7 @@ const CANCEL_UPGRADE_TOLD: [Row; 10] = [
         Answer::Ready(0),
         (true, false, false, true),
     ),
-    (
-        Name::Four,
-        Deed::Poll,
-        Answer::Ready(0),
-        (true, false, false, false),
-    ),
+    (Name::Four, Deed::Poll, Answer::Ready(0), ONE),
 ];
 
 #[test]
@@ -316,28 +260,16 @@ fn a_notified_upgrade_gives_up_bit_and_turn(rt: HostRuntime) {
     of_both(rt, 0, &CANCEL_UPGRADE_TOLD);
 }
 
-const ONE: Woken = (true, false, false, false);
-
 const CANCEL_UPGRADE_BEFORE_WRITE: [Row; 9] = [
     (Name::One, Deed::UpgradableRead, Answer::Ready(0), NOBODY),
     (Name::Two, Deed::Read, Answer::Ready(0), NOBODY),
     (Name::One, Deed::Upgrade, Answer::Waiting, NOBODY),
     (Name::One, Deed::Poll, Answer::Pending, NOBODY),
     (Name::Three, Deed::Write, Answer::Pending, NOBODY),
-    (
-        Name::One,
-        Deed::Drop,
-        Answer::GivenBack,
-        (true, false, true, false),
-    ),
+    (Name::One, Deed::Drop, Answer::GivenBack, ONE_AND_THREE),
     // It has the turn, and waits for the reader.
     (Name::Three, Deed::Poll, Answer::Pending, ONE),
-    (
-        Name::Two,
-        Deed::Drop,
-        Answer::GivenBack,
-        (true, false, true, false),
-    ),
+    (Name::Two, Deed::Drop, Answer::GivenBack, ONE_AND_THREE),
     (Name::Three, Deed::Poll, Answer::Ready(0), ONE),
 ];
 
@@ -348,12 +280,7 @@ const CANCEL_TOLD_UPGRADE_BEFORE_WRITE: [Row; 8] = [
     (Name::One, Deed::Poll, Answer::Pending, NOBODY),
     (Name::Three, Deed::Write, Answer::Pending, NOBODY),
     (Name::Two, Deed::Drop, Answer::GivenBack, ONE),
-    (
-        Name::One,
-        Deed::Drop,
-        Answer::GivenBack,
-        (true, false, true, false),
-    ),
+    (Name::One, Deed::Drop, Answer::GivenBack, ONE_AND_THREE),
     (Name::Three, Deed::Poll, Answer::Ready(0), ONE),
 ];
 
@@ -376,12 +303,7 @@ fn never_polled(behind: Deed, answer: Answer) -> [Row; 7] {
             Answer::GivenBack,
             (false, false, true, true),
         ),
-        (
-            Name::Three,
-            Deed::Poll,
-            Answer::Ready(0),
-            (false, false, false, true),
-        ),
+        (Name::Three, Deed::Poll, Answer::Ready(0), FOUR),
         (Name::Four, Deed::Poll, answer, NOBODY),
     ]
 }

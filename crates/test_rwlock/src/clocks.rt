@@ -2,11 +2,7 @@
 
 use crate::plays::of_timed;
 use async_rwlock::Refusal;
-use rwlock_scene::{Answer, Deed, NOBODY, Name, Row, Woken};
-
-const TWO: Woken = (false, true, false, false);
-
-const THREE: Woken = (false, false, true, false);
+use rwlock_scene::{Answer, Deed, NOBODY, Name, Row, THREE, TWO};
 
 // So many may be starved.
 const SOME: u64 = 10;

@@ -1,7 +1,7 @@
 //! The tests of the Rust crate, under their names.
 
 use crate::plays::{of_borrowed, of_both, of_owned};
-use rwlock_scene::{Answer, Deed, NOBODY, Name, Row};
+use rwlock_scene::{Answer, Deed, NOBODY, Name, ONE, Row, TWO};
 
 const SMOKE: [Row; 10] = [
     (Name::One, Deed::Read, Answer::Ready(0), NOBODY),
@@ -123,36 +123,11 @@ const CONCURRENT_WRITER: [Row; 10] = [
     (Name::One, Deed::Upgrade, Answer::Waiting, NOBODY),
     (Name::One, Deed::Poll, Answer::Ready(0), NOBODY),
     (Name::One, Deed::Put(2), Answer::Granted(2), NOBODY),
-    (
-        Name::One,
-        Deed::Drop,
-        Answer::GivenBack,
-        (false, true, false, false),
-    ),
-    (
-        Name::Two,
-        Deed::Drop,
-        Answer::GivenBack,
-        (false, true, false, false),
-    ),
-    (
-        Name::Three,
-        Deed::Write,
-        Answer::Ready(2),
-        (false, true, false, false),
-    ),
-    (
-        Name::Three,
-        Deed::Drop,
-        Answer::GivenBack,
-        (false, true, false, false),
-    ),
-    (
-        Name::Three,
-        Deed::Read,
-        Answer::Ready(2),
-        (false, true, false, false),
-    ),
+    (Name::One, Deed::Drop, Answer::GivenBack, TWO),
+    (Name::Two, Deed::Drop, Answer::GivenBack, TWO),
+    (Name::Three, Deed::Write, Answer::Ready(2), TWO),
+    (Name::Three, Deed::Drop, Answer::GivenBack, TWO),
+    (Name::Three, Deed::Read, Answer::Ready(2), TWO),
 ];
 
 #[test]
@@ -201,48 +176,28 @@ fn cancellation(rt: HostRuntime) {
 const READ_BESIDE_WRITER: [Row; 4] = [
     (Name::One, Deed::TryWrite, Answer::Granted(0), NOBODY),
     (Name::Two, Deed::Read, Answer::Pending, NOBODY),
-    (
-        Name::One,
-        Deed::Drop,
-        Answer::GivenBack,
-        (false, true, false, false),
-    ),
+    (Name::One, Deed::Drop, Answer::GivenBack, TWO),
     (Name::Two, Deed::Poll, Answer::Ready(0), NOBODY),
 ];
 
 const UPGRADABLE_BESIDE_WRITER: [Row; 4] = [
     (Name::One, Deed::TryWrite, Answer::Granted(0), NOBODY),
     (Name::Two, Deed::UpgradableRead, Answer::Pending, NOBODY),
-    (
-        Name::One,
-        Deed::Drop,
-        Answer::GivenBack,
-        (false, true, false, false),
-    ),
+    (Name::One, Deed::Drop, Answer::GivenBack, TWO),
     (Name::Two, Deed::Poll, Answer::Ready(0), NOBODY),
 ];
 
 const WRITE_BESIDE_WRITER: [Row; 4] = [
     (Name::One, Deed::TryWrite, Answer::Granted(0), NOBODY),
     (Name::Two, Deed::Write, Answer::Pending, NOBODY),
-    (
-        Name::One,
-        Deed::Drop,
-        Answer::GivenBack,
-        (false, true, false, false),
-    ),
+    (Name::One, Deed::Drop, Answer::GivenBack, TWO),
     (Name::Two, Deed::Poll, Answer::Ready(0), NOBODY),
 ];
 
 const WRITE_BESIDE_READER: [Row; 4] = [
     (Name::One, Deed::TryRead, Answer::Granted(0), NOBODY),
     (Name::Two, Deed::Write, Answer::Pending, NOBODY),
-    (
-        Name::One,
-        Deed::Drop,
-        Answer::GivenBack,
-        (false, true, false, false),
-    ),
+    (Name::One, Deed::Drop, Answer::GivenBack, TWO),
     (Name::Two, Deed::Poll, Answer::Ready(0), NOBODY),
 ];
 
@@ -254,12 +209,7 @@ const WRITE_BESIDE_UPGRADABLE: [Row; 4] = [
         NOBODY,
     ),
     (Name::Two, Deed::Write, Answer::Pending, NOBODY),
-    (
-        Name::One,
-        Deed::Drop,
-        Answer::GivenBack,
-        (false, true, false, false),
-    ),
+    (Name::One, Deed::Drop, Answer::GivenBack, TWO),
     (Name::Two, Deed::Poll, Answer::Ready(0), NOBODY),
 ];
 
@@ -271,12 +221,7 @@ const UPGRADABLE_BESIDE_UPGRADABLE: [Row; 4] = [
         NOBODY,
     ),
     (Name::Two, Deed::UpgradableRead, Answer::Pending, NOBODY),
-    (
-        Name::One,
-        Deed::Drop,
-        Answer::GivenBack,
-        (false, true, false, false),
-    ),
+    (Name::One, Deed::Drop, Answer::GivenBack, TWO),
     (Name::Two, Deed::Poll, Answer::Ready(0), NOBODY),
 ];
 
@@ -290,12 +235,7 @@ const UPGRADE_BESIDE_READER: [Row; 6] = [
     (Name::Two, Deed::TryRead, Answer::Granted(0), NOBODY),
     (Name::One, Deed::Upgrade, Answer::Waiting, NOBODY),
     (Name::One, Deed::Poll, Answer::Pending, NOBODY),
-    (
-        Name::Two,
-        Deed::Drop,
-        Answer::GivenBack,
-        (true, false, false, false),
-    ),
+    (Name::Two, Deed::Drop, Answer::GivenBack, ONE),
     (Name::One, Deed::Poll, Answer::Ready(0), NOBODY),
 ];
 

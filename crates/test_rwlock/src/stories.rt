@@ -2,17 +2,12 @@
 
 use crate::plays::{of_both, of_limited};
 use async_rwlock::Refusal;
-use rwlock_scene::{Answer, Deed, NOBODY, Name, Row};
+use rwlock_scene::{Answer, Deed, NOBODY, Name, ONE, Row, THREE, TWO, TWO_AND_THREE};
 
 const WRITER_STEPS_DOWN: [Row; 6] = [
     (Name::One, Deed::Write, Answer::Ready(1), NOBODY),
     (Name::Two, Deed::Read, Answer::Pending, NOBODY),
-    (
-        Name::One,
-        Deed::ToUpgradable,
-        Answer::GivenBack,
-        (false, true, false, false),
-    ),
+    (Name::One, Deed::ToUpgradable, Answer::GivenBack, TWO),
     (Name::Two, Deed::Poll, Answer::Ready(1), NOBODY),
     (Name::One, Deed::Drop, Answer::GivenBack, NOBODY),
     (Name::Two, Deed::Drop, Answer::GivenBack, NOBODY),
@@ -27,24 +22,9 @@ const UPGRADABLE_BESIDE_READERS: [Row; 6] = [
     (Name::One, Deed::Read, Answer::Ready(0), NOBODY),
     (Name::Two, Deed::Write, Answer::Pending, NOBODY),
     (Name::Three, Deed::TryRead, Answer::Nothing, NOBODY),
-    (
-        Name::Two,
-        Deed::Drop,
-        Answer::GivenBack,
-        (false, true, false, false),
-    ),
-    (
-        Name::Three,
-        Deed::TryRead,
-        Answer::Granted(0),
-        (false, true, false, false),
-    ),
-    (
-        Name::Four,
-        Deed::TryUpgradableRead,
-        Answer::Granted(0),
-        (false, true, false, false),
-    ),
+    (Name::Two, Deed::Drop, Answer::GivenBack, TWO),
+    (Name::Three, Deed::TryRead, Answer::Granted(0), TWO),
+    (Name::Four, Deed::TryUpgradableRead, Answer::Granted(0), TWO),
 ];
 
 #[test]
@@ -121,12 +101,7 @@ const UPGRADABLE_DOWNGRADE: [Row; 6] = [
         Answer::Nothing,
         NOBODY,
     ),
-    (
-        Name::One,
-        Deed::Downgrade,
-        Answer::GivenBack,
-        (false, true, false, false),
-    ),
+    (Name::One, Deed::Downgrade, Answer::GivenBack, TWO),
     (Name::Two, Deed::Poll, Answer::Ready(1), NOBODY),
     (Name::Three, Deed::TryRead, Answer::Granted(1), NOBODY),
 ];
@@ -140,19 +115,9 @@ const READERS_ONE_AFTER_THE_OTHER: [Row; 6] = [
     (Name::One, Deed::Write, Answer::Ready(5), NOBODY),
     (Name::Two, Deed::Read, Answer::Pending, NOBODY),
     (Name::Three, Deed::Read, Answer::Pending, NOBODY),
-    (
-        Name::One,
-        Deed::Drop,
-        Answer::GivenBack,
-        (false, true, false, false),
-    ),
+    (Name::One, Deed::Drop, Answer::GivenBack, TWO),
     // Who reads has told the next.
-    (
-        Name::Two,
-        Deed::Poll,
-        Answer::Ready(5),
-        (false, false, true, false),
-    ),
+    (Name::Two, Deed::Poll, Answer::Ready(5), THREE),
     (Name::Three, Deed::Poll, Answer::Ready(5), NOBODY),
 ];
 
@@ -164,18 +129,8 @@ fn waiting_readers_tell_one_another(rt: HostRuntime) {
 const WRITER_WAITS_FOR_READERS: [Row; 5] = [
     (Name::One, Deed::Read, Answer::Ready(0), NOBODY),
     (Name::Two, Deed::Write, Answer::Pending, NOBODY),
-    (
-        Name::One,
-        Deed::Drop,
-        Answer::GivenBack,
-        (false, true, false, false),
-    ),
-    (
-        Name::Three,
-        Deed::TryRead,
-        Answer::Nothing,
-        (false, true, false, false),
-    ),
+    (Name::One, Deed::Drop, Answer::GivenBack, TWO),
+    (Name::Three, Deed::TryRead, Answer::Nothing, TWO),
     (Name::Two, Deed::Poll, Answer::Ready(0), NOBODY),
 ];
 
@@ -188,25 +143,10 @@ const WRITE_BEFORE_READ: [Row; 8] = [
     (Name::One, Deed::Write, Answer::Ready(0), NOBODY),
     (Name::Two, Deed::Read, Answer::Pending, NOBODY),
     (Name::Three, Deed::Write, Answer::Pending, NOBODY),
-    (
-        Name::One,
-        Deed::Drop,
-        Answer::GivenBack,
-        (false, true, true, false),
-    ),
-    (
-        Name::Three,
-        Deed::Poll,
-        Answer::Ready(0),
-        (false, true, false, false),
-    ),
+    (Name::One, Deed::Drop, Answer::GivenBack, TWO_AND_THREE),
+    (Name::Three, Deed::Poll, Answer::Ready(0), TWO),
     (Name::Two, Deed::Poll, Answer::Pending, NOBODY),
-    (
-        Name::Three,
-        Deed::Drop,
-        Answer::GivenBack,
-        (false, true, false, false),
-    ),
+    (Name::Three, Deed::Drop, Answer::GivenBack, TWO),
     (Name::Two, Deed::Poll, Answer::Ready(0), NOBODY),
 ];
 
@@ -221,12 +161,7 @@ const UPGRADE_BEFORE_WRITE: [Row; 9] = [
     (Name::One, Deed::Upgrade, Answer::Waiting, NOBODY),
     (Name::One, Deed::Poll, Answer::Ready(0), NOBODY),
     (Name::One, Deed::Put(2), Answer::Granted(2), NOBODY),
-    (
-        Name::One,
-        Deed::Drop,
-        Answer::GivenBack,
-        (false, true, false, false),
-    ),
+    (Name::One, Deed::Drop, Answer::GivenBack, TWO),
     (Name::Two, Deed::Poll, Answer::Ready(2), NOBODY),
     (Name::Two, Deed::Drop, Answer::GivenBack, NOBODY),
     (Name::Three, Deed::BlockToWrite, Answer::Granted(2), NOBODY),
@@ -243,25 +178,10 @@ const UPGRADE_BESIDE_A_WRITE: [Row; 8] = [
     (Name::One, Deed::Upgrade, Answer::Waiting, NOBODY),
     (Name::One, Deed::Poll, Answer::Ready(0), NOBODY),
     (Name::One, Deed::Put(2), Answer::Granted(2), NOBODY),
-    (
-        Name::One,
-        Deed::Drop,
-        Answer::GivenBack,
-        (false, true, false, false),
-    ),
+    (Name::One, Deed::Drop, Answer::GivenBack, TWO),
     // The write never came to its turn.
-    (
-        Name::Two,
-        Deed::Drop,
-        Answer::GivenBack,
-        (false, true, false, false),
-    ),
-    (
-        Name::Three,
-        Deed::BlockToWrite,
-        Answer::Granted(2),
-        (false, true, false, false),
-    ),
+    (Name::Two, Deed::Drop, Answer::GivenBack, TWO),
+    (Name::Three, Deed::BlockToWrite, Answer::Granted(2), TWO),
 ];
 
 #[test]
@@ -275,12 +195,7 @@ const UPGRADE_WAITS: [Row; 10] = [
     (Name::One, Deed::Upgrade, Answer::Waiting, NOBODY),
     (Name::One, Deed::Poll, Answer::Pending, NOBODY),
     (Name::Three, Deed::TryRead, Answer::Nothing, NOBODY),
-    (
-        Name::Two,
-        Deed::Drop,
-        Answer::GivenBack,
-        (true, false, false, false),
-    ),
+    (Name::Two, Deed::Drop, Answer::GivenBack, ONE),
     (Name::One, Deed::Poll, Answer::Ready(0), NOBODY),
     (Name::One, Deed::Put(1), Answer::Granted(1), NOBODY),
     (Name::One, Deed::Downgrade, Answer::GivenBack, NOBODY),
@@ -295,12 +210,7 @@ fn an_upgrade_waits_for_the_other_readers(rt: HostRuntime) {
 const WRITE_UPGRADABLE: [Row; 4] = [
     (Name::One, Deed::Write, Answer::Ready(0), NOBODY),
     (Name::Two, Deed::UpgradableRead, Answer::Pending, NOBODY),
-    (
-        Name::One,
-        Deed::Drop,
-        Answer::GivenBack,
-        (false, true, false, false),
-    ),
+    (Name::One, Deed::Drop, Answer::GivenBack, TWO),
     (Name::Two, Deed::Poll, Answer::Ready(0), NOBODY),
 ];
 
@@ -312,12 +222,7 @@ fn an_upgradable_read_waits_for_the_writer(rt: HostRuntime) {
 const UPGRADABLE_WRITE: [Row; 4] = [
     (Name::One, Deed::UpgradableRead, Answer::Ready(0), NOBODY),
     (Name::Two, Deed::Write, Answer::Pending, NOBODY),
-    (
-        Name::One,
-        Deed::Drop,
-        Answer::GivenBack,
-        (false, true, false, false),
-    ),
+    (Name::One, Deed::Drop, Answer::GivenBack, TWO),
     (Name::Two, Deed::Poll, Answer::Ready(0), NOBODY),
 ];
 
@@ -390,26 +295,11 @@ const DOWNGRADE_BEFORE_BOTH: [Row; 9] = [
     (Name::One, Deed::Write, Answer::Ready(0), NOBODY),
     (Name::Two, Deed::Read, Answer::Pending, NOBODY),
     (Name::Three, Deed::Write, Answer::Pending, NOBODY),
-    (
-        Name::One,
-        Deed::Downgrade,
-        Answer::GivenBack,
-        (false, true, true, false),
-    ),
-    (
-        Name::Two,
-        Deed::Poll,
-        Answer::Ready(0),
-        (false, false, true, false),
-    ),
+    (Name::One, Deed::Downgrade, Answer::GivenBack, TWO_AND_THREE),
+    (Name::Two, Deed::Poll, Answer::Ready(0), THREE),
     (Name::Three, Deed::Poll, Answer::Pending, NOBODY),
     (Name::One, Deed::Drop, Answer::GivenBack, NOBODY),
-    (
-        Name::Two,
-        Deed::Drop,
-        Answer::GivenBack,
-        (false, false, true, false),
-    ),
+    (Name::Two, Deed::Drop, Answer::GivenBack, THREE),
     (Name::Three, Deed::Poll, Answer::Ready(0), NOBODY),
 ];
 
