@@ -127,6 +127,18 @@ fn three_parties_go_alike_past_the_driver_in_each_state(rt: HostRuntime) {
     }
 }
 
+// Each call, as the public types go, where one may be starved and a second one is refused.
+#[test]
+fn three_parties_are_refused_alike_where_one_may_starve(rt: HostRuntime) {
+    let of_three = Setting {
+        ways: Ways::Public,
+        ..setting(&rt, 3, 1)
+    };
+    if let Some(bench) = Bench::new(rt, 3) {
+        in_each_state(&bench, of_three);
+    }
+}
+
 // Each action of reads that are refused, also such that were notified, beside writes.
 #[test]
 fn three_parties_are_refused_alike_where_one_or_nobody_may_read(rt: HostRuntime) {
