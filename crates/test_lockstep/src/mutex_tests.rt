@@ -37,7 +37,16 @@ fn expect_alike<R: Abort>(bench: &Bench<R>, walk: Option<Walk>) {
 }
 
 fn in_each_state<R: Wait + Abort>(bench: &Bench<R>, setting: Setting) {
-    expect_alike(bench, through_states(bench, setting, Order::Far));
+    let walk = through_states(bench, setting, Order::Far);
+    let states = match &walk {
+        Some(walk) => walk.states,
+        None => 0,
+    };
+    expect_alike(bench, walk);
+    assert!(bench.rt();
+        states <= MANY,
+        "{states} states are not all that there are"
+    );
 }
 
 #[test]
