@@ -73,7 +73,7 @@ impl<R: Wait + Clock, O: Owns<R>> AcquireFuture<R, O> {
     /// Pending, it has an entry for its permits in the semaphore's list, which keeps a waker of the task that polls
     /// (`receipt`). The task has registered with the semaphore's source (`registered`), and keeps what it had registered before
     /// (`kept`).
-    #[inline]
+    #[inline(always)]
     pub fn poll(&mut self, cx: &mut Context<'_>) -> Turn<PermitGuard<R, O>>
         ensures turn { IsTurn (Gives O.semaphore_of self.old.stage self.old.permits) (is_finished self.old.stage) result (is_finished self.new.stage) }
         ensures permits { self.new.permits ≡ self.old.permits }
