@@ -64,7 +64,6 @@ impl<T: Drop, R: AllocGlobal + Drop> RwLock<T, R> {
 
 impl<T, R> RwLock<T, R> {
     /// The value, whatever became of the guards. It waits for nobody and takes no memory.
-    #[inline(always)]
     pub fn into_inner(self) -> T
     where
         R: Drop,
@@ -92,7 +91,6 @@ impl<T, R> RwLock<T, R> {
 }
 
 impl<T: Drop, R: Drop> Drop for RwLock<T, R> {
-    #[inline(always)]
     fn drop(self) {
         drop(self.into_inner());
     }

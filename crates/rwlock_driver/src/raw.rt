@@ -29,10 +29,8 @@ pub struct RawRwLock {
     ghost no_readers_told: { words.no_readers ≡ no_readers.name.id },
 }
 
-// By hand, so that a drop is one call to prove, and not all of its parts again. It stands where it is called, since an `Arc`'s
-// drop would otherwise clear room for a whole lock each time, also where other owners are left.
+// By hand, so that a drop is one call to prove, and not all of its parts again.
 impl Drop for RawRwLock {
-    #[inline(always)]
     fn drop(self) {
         let RawRwLock {
             words: _,
