@@ -10,12 +10,13 @@ use Rattle.lock_driver.specs.declared.waiting.Outcome.TheVariants as driven
 use Rattle.lock_driver.specs.declared.raw.RawMutex.{RawMutex}
 use Rattle.lock_driver.specs.declared.waiting.Waiting.{Waiting}
 use Rattle.lock_place.specs.declared.room.Hold.{Hold}
+use Rattle.lock_words.specs.declared.look.Full.{Full}
 use Rattle.lock_words.specs.Lock.{Lock, Seated}
 use Rattle.lock_words.specs.Tries.{Holds}
 
 -- what a mutex's future keeps between two polls
 abbrev pub Kept : Type 0 → Type 0
-Kept T = Waiting (RawMutex T) Seated (Hold T)
+Kept T = Waiting (RawMutex T) Seated (Hold T) Full
 
 -- it waits at this mutex
 abbrev pub Waits : {T : Type 0} → RawMutex T → Kept T → Type 0
@@ -23,7 +24,7 @@ Waits raw q = driver.Waits of_mutex raw q
 
 -- the driver's outcome
 abbrev pub Driven : Type 0 → Type 0
-Driven T = DriverOutcome (RawMutex T) Seated (Hold T)
+Driven T = DriverOutcome (RawMutex T) Seated (Hold T) Full
 
 -- the seat of a poll that was refused has nothing
 abbrev pub CanRise : {T : Type 0} → Driven T → Type 0

@@ -34,8 +34,8 @@ on_start c p = tt
 pub begins : (c : LockCall) (p q : Place) → start_of c p ≡ Some q → (having_at p ≡ having_at q) × IsReached q
 begins c p q is = subst (λ o. OnStart o p) is (on_start c p)
 
-pub starts : {W S R : Type 0} (m : Ghosts W S R) (c : LockCall) (p : Place) (o : Option Place) → o ≡ start_of c p
-    → IfSome o (λ first. (word : W) (party : MutexParty W S R) → Stands m word party p → Stands m word party first)
+pub starts : {W S R F : Type 0} (m : Ghosts W S R F) (c : LockCall) (p : Place) (o : Option Place) → o ≡ start_of c p
+    → IfSome o (λ first. (word : W) (party : MutexParty W S R F) → Stands m word party p → Stands m word party first)
 starts m c p None is = tt
 starts m c p (Some q) is = λ word party s. let b = begins c p q (sym is) in (s.0, s.1 ∙ b.0, b.1, s.3)
 

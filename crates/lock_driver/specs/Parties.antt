@@ -130,7 +130,7 @@ CanDo _ h = ⊤
 abbrev pub IsTied : ℕ → Option Listed → Option Owed → Type 0
 IsTied list entry owed = IfSome entry (λ e. e.list.id ≡ list) × IfSome owed (λ o. o.list.id ≡ list)
 
-module _ {W S R : Type 0} (m : Ghosts W S R) where
+module _ {W S R F : Type 0} (m : Ghosts W S R F) where
   -- What a party has by its seat, its entry and its duty.
   abbrev pub having_of : S → Option Listed → Option Owed → Having
   having_of seat entry owed = having (m.holds seat) (m.starved seat) (is_some entry) (is_some owed)
@@ -140,7 +140,7 @@ module _ {W S R : Type 0} (m : Ghosts W S R) where
   IsSeated w seat hold = m.is_of w seat × (m.holds seat ≡ is_some hold) × IfSome hold (m.right_of w)
 
   -- The party has what it has at this place.
-  abbrev pub Stands : W → MutexParty W S R → Place → Type 0
+  abbrev pub Stands : W → MutexParty W S R F → Place → Type 0
   Stands w q p = IsSeated w q.seat q.hold × (having_of q.seat q.entry q.owed ≡ having_at p) × IsReached p × IsTied (m.list_id w) q.entry q.owed
 
 -- where a party stands by what comes next, and how its call has ended by that

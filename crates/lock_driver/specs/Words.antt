@@ -2,7 +2,8 @@
 use Rattle.lock_driver.specs.declared.word.Counting.{Counting}
 use Rattle.lock_driver.specs.declared.word.Counting.TheVariants.{Counted, AtLimit, Changed}
 
-abbrev pub OnCounting : Counting → Type 0 → Type 0 → Type 0
-OnCounting Counted counted not = counted
-OnCounting AtLimit counted not = not
-OnCounting Changed counted not = not
+-- It counts the seat, or changes nothing, and then shows that the limit is met where it says so.
+abbrev pub OnCounting : {F : Type 0} → Counting F → Type 0 → (F → Type 0) → Type 0 → Type 0
+OnCounting Counted counted full not = counted
+OnCounting (AtLimit shown) counted full not = full shown × not
+OnCounting Changed counted full not = not

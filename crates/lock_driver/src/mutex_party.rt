@@ -333,7 +333,7 @@ impl<W: MutexWord> MutexParty<W> {
                 self.is_counted(word);
                 Some(Found::Done)
             }
-            Counting::AtLimit => {
+            Counting::AtLimit(_) => {
                 if self.entry.is_none() {
                     owe(&mut self.owed, word.list().id());
                 }

@@ -1,6 +1,6 @@
 //! A mutex without its runtime.
 
-ghost use Rattle.std.specs.Prelude.{◌≡◌, false, [], Some, IfSome};
+ghost use Rattle.std.specs.Prelude.{◌≡◌, ◌≤◌, false, [], Some, IfSome};
 ghost use Rattle.lock_words.specs.Tries.{Holds};
 ghost use Rattle.lock_program.specs.Mutex.{start_of, action_of, next_of};
 ghost use Rattle.lock_program.specs.declared.mutex.Action.TheVariants as does;
@@ -13,7 +13,7 @@ ghost use Rattle.lock_program.specs.declared.mutex.Place.TheVariants as at;
 use crate::word::{Counting, MutexWord};
 use async_driver::{Listed, Owed, WaitingList, nothing};
 use futures::task::{Source, Waker};
-use lock_words::{Counting as CountingWord, Hold, Seat, Setting, Taking, TakingAlone, Words};
+use lock_words::{Counting as CountingWord, Full, Hold, Seat, Setting, Taking, TakingAlone, Words};
 use std::sync::Wait;
 
 /// A mutex without its runtime: its words, with the value, and its waiting list.
@@ -34,6 +34,8 @@ impl<T> MutexWord for RawMutex<T> {
 
     type Right = Hold<T>;
 
+    type Full = Full;
+
     ghost is_of = { λ raw seat. seat.lock ≡ raw.words.lock };
 
     ghost holds = { λ seat. seat.holds };
@@ -43,6 +45,8 @@ impl<T> MutexWord for RawMutex<T> {
     ghost beside = { λ seat. [] };
 
     ghost right_of = { λ raw hold. (hold.room_id ≡ raw.words.room) × (raw.words.room ≡ raw.words.lock.room) };
+
+    ghost is_full = { λ raw seat full. raw.words.limit ≤ full.starved };
 
     ghost list_id = { λ raw. raw.words.list };
 
@@ -61,10 +65,10 @@ impl<T> MutexWord for RawMutex<T> {
         self.words.set(seat)
     }
 
-    fn count(&self, seat: &mut Seat<T>) -> Counting {
+    fn count(&self, seat: &mut Seat<T>) -> Counting<Full> {
         match self.words.count(seat) {
             CountingWord::Counted => Counting::Counted,
-            CountingWord::AtLimit(_) => Counting::AtLimit,
+            CountingWord::AtLimit(full) => Counting::AtLimit(full),
             CountingWord::Changed => Counting::Changed,
         }
     }

@@ -11,11 +11,11 @@ use lock_words::{Setting, Taking, TakingAlone};
 
 /// What a try to count a seat as starved found.
 #[derive(Clone, Copy)]
-pub enum Counting {
+pub enum Counting<F> {
     /// The seat is counted as starved now.
     Counted,
-    /// As many are starved as may be.
-    AtLimit,
+    /// As many are starved as may be, as this shows.
+    AtLimit(F),
     /// The word changed meanwhile: try again.
     Changed,
 }
@@ -32,6 +32,9 @@ pub trait MutexWord {
     /// What a party that holds the lock has beside its seat.
     type Right;
 
+    /// What shows, with a seat that has looked, that as many waiters are starved as may be.
+    type Full: Copy;
+
     /// The seat is one of this word.
     ghost is_of: { Self → Self.Seat → Type 0 };
 
@@ -46,6 +49,9 @@ pub trait MutexWord {
 
     /// The right is the one to what the lock guards.
     ghost right_of: { Self → Self.Right → Type 0 };
+
+    /// As many are starved as may be.
+    ghost is_full: { Self → Self.Seat → Self.Full → Type 0 };
 
     /// The list of those that wait.
     ghost list_id: { Self → ℕ };
@@ -82,12 +88,12 @@ pub trait MutexWord {
         ensures took { OnSetting result (λ right. (holds seat.new ≡ true) × right_of self.now right) (holds seat.new ≡ false) }
         ensures same { (starved seat.new ≡ starved seat.old) × (beside seat.new ≡ beside seat.old) };
 
-    /// Counts the seat as starved, where fewer are counted than may be.
-    fn count(&self, seat: &mut Self::Seat) -> Counting
+    /// Counts the seat as starved, where fewer are counted than may be. That it found as many as may be, it shows (`counts`).
+    fn count(&self, seat: &mut Self::Seat) -> Counting<Self::Full>
         requires of { is_of self.now seat.old }
         requires one { starved seat.old ≡ false }
         ensures of { is_of self.now seat.new }
-        ensures counts { OnCounting result (starved seat.new ≡ true) (starved seat.new ≡ false) }
+        ensures counts { OnCounting result (starved seat.new ≡ true) (is_full self.now seat.new) (starved seat.new ≡ false) }
         ensures same { (holds seat.new ≡ holds seat.old) × (beside seat.new ≡ beside seat.old) };
 
     /// Takes the seat's count off.

@@ -1,6 +1,6 @@
 //! The lock's turn: a mutex's word and list, on which `lock_driver`'s party carries out a mutex's program.
 
-ghost use Rattle.std.specs.Prelude.{◌≡◌, ◌%◌, ⊤, false, [], ◌∷◌, None, IfSome, IfNone};
+ghost use Rattle.std.specs.Prelude.{◌≡◌, ◌≤◌, ◌%◌, ◌/◌, ⊤, false, [], ◌∷◌, None, IfSome, IfNone};
 ghost use Rattle.futures.specs.Task.{Keeps};
 ghost use Rattle.lock_driver.specs.Parties.{place_of};
 ghost use Rattle.lock_program.specs.Mutex.{next_of};
@@ -25,6 +25,8 @@ impl MutexWord for RawRwLock {
 
     type Right = ();
 
+    type Full = ();
+
     ghost is_of = { λ raw seat. (seat.inner.table_id ≡ raw.words.table) × (seat.inner.me.1 ≡ []) × (seat.inner.me.0.marks ≡ false) };
 
     ghost holds = { λ seat. seat.inner.me.0.holds };
@@ -34,6 +36,8 @@ impl MutexWord for RawRwLock {
     ghost beside = { λ seat. seat.inner.me.0.marks ∷ seat.inner.me.0.reads ∷ seat.inner.me.0.writes ∷ [] };
 
     ghost right_of = { λ raw right. ⊤ };
+
+    ghost is_full = { λ raw seat full. raw.words.starved ≤ seat.inner.me.0.seen / 2 };
 
     ghost list_id = { λ raw. raw.turn.name.id };
 
@@ -65,10 +69,10 @@ impl MutexWord for RawRwLock {
         self.words.set(seat)
     }
 
-    fn count(&self, seat: &mut Seat) -> Counting {
+    fn count(&self, seat: &mut Seat) -> Counting<()> {
         match self.words.count(seat) {
             CountingWord::Counted => Counting::Counted,
-            CountingWord::AtLimit => Counting::AtLimit,
+            CountingWord::AtLimit => Counting::AtLimit(()),
             CountingWord::Changed => Counting::Changed,
         }
     }

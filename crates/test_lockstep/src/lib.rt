@@ -2,6 +2,8 @@
 #![tactic(auto)]
 
 #[cfg(test)]
+mod changed;
+#[cfg(test)]
 mod mutex;
 #[cfg(test)]
 mod mutex_tests;
