@@ -26,14 +26,14 @@ module _ {F Fut : Type 0} where
   CanMake pre post can (makes.Future fut) = can fut
   CanMake pre post can makes.Asked = ⊥
 
-  -- the sources that its future waits for
+  -- The sources that its future waits for. One that has no future waits for every source, so none is pending without.
   abbrev pub TryNeeds : (Fut → ℕ → Type 0) → Trying F Fut → ℕ → Type 0
   TryNeeds needs (tries.Future fut) s = needs fut s
-  TryNeeds needs _ s = ⊥
+  TryNeeds needs _ s = ⊤
 
   abbrev pub MakeNeeds : (Fut → ℕ → Type 0) → Making F Fut → ℕ → Type 0
   MakeNeeds needs (makes.Future fut) s = needs fut s
-  MakeNeeds needs _ s = ⊥
+  MakeNeeds needs _ s = ⊤
 
 module _ {F Fut T E : Type 0} where
   -- what its future may give

@@ -1,6 +1,6 @@
 //! The once-cell.
 
-ghost use Rattle.std.specs.Prelude.{◌≡◌, Some, None, IfErr, IfOk, IsSome, IsSomeAnd, false, true};
+ghost use Rattle.std.specs.Prelude.{◌≡◌, Some, None, IfErr, IfOk, IfSome, IsSome, IsSomeAnd, false, true};
 ghost use Rattle.async_once_cell.specs.Faults.{FaultOf, HasBack};
 ghost use Rattle.lock_program.specs.declared.refusal.Refusal.{Refusal};
 ghost use Rattle.async_once_cell.specs.declared.makers.Trying.TheVariants as tries;
@@ -20,7 +20,7 @@ use std::alloc::AllocGlobal;
 use std::fmt;
 use std::marker::Brand;
 use std::random::RandomSource;
-use std::sync::Wait as Waits;
+use std::sync::{OnceToken, Wait as Waits};
 use std::time::Clock;
 use words_once_cell::State;
 
@@ -40,7 +40,9 @@ impl<T: Drop, R: Drop> Drop for OnceCell<T, R> {
 }
 
 impl<T: Drop, R: AllocGlobal + Drop> OnceCell<T, R> {
-    /// Creates an empty cell. If memory is refused, it returns [`Refusal::Memory`].
+    /// Creates an empty cell. If memory is refused, it returns [`Refusal::Memory`] (`memory`); of the runtime it asks memory alone.
+    ///
+    /// The Rust crate's call takes no runtime and can't fail.
     pub fn new(rt: R) -> Result<OnceCell<T, R>, Refusal>
         ensures memory { IfErr result (λ refusal. refusal ≡ Refusal.Memory) }
         ensures empty { IfOk result (λ cell. cell.raw.word.start ≡ false) }
@@ -51,7 +53,9 @@ impl<T: Drop, R: AllocGlobal + Drop> OnceCell<T, R> {
         Ok(OnceCell { raw, rt })
     }
 
-    /// Creates a cell that has this value. If memory is refused, it returns [`Refusal::Memory`] and drops the value.
+    /// Creates a cell that has this value. If memory is refused, it returns [`Refusal::Memory`] and drops the value (`memory`).
+    ///
+    /// The Rust crate has it as `From<T>`, which can't fail.
     pub fn with_value(rt: R, value: T) -> Result<OnceCell<T, R>, Refusal>
         ensures memory { IfErr result (λ refusal. refusal ≡ Refusal.Memory) }
         ensures full { IfOk result (λ cell. cell.raw.word.start ≡ true) }
@@ -64,22 +68,45 @@ impl<T: Drop, R: AllocGlobal + Drop> OnceCell<T, R> {
 }
 
 impl<T, R> OnceCell<T, R> {
-    /// Returns whether the cell had a value at some moment of the call. It waits for nobody and takes no memory.
+    /// Returns whether the cell had a value at some moment of the call. It waits for nobody and takes no memory. That it is so is
+    /// tested, and no clause says it.
     pub fn is_initialized(&self) -> bool {
         self.raw.is_full()
     }
 
     /// Returns the value, if there is one. It waits for nobody and takes no memory.
+    ///
+    /// No clause says which value a plain reference shows: [`OnceCell::witness`] does.
     pub fn get(&self) -> Option<&T> {
         self.raw.get()
     }
 
-    /// Returns the value to be written, if there is one. It waits for nobody and takes no memory.
+    /// Returns what shows the value, if there is one, to be read by [`OnceCell::value`]. It waits for nobody and takes no memory.
+    ///
+    /// Whatever shows the value of a cell shows the same value (`OnceToken::agrees`): by it a user proves that two reads agree.
+    /// The Rust crate has no such call.
+    pub fn witness(&self) -> Option<OnceToken<'_, T>>
+        ensures { IfSome result (λ token. token.of ≡ self.now.raw.word.store) }
+    {
+        self.raw.witness()
+    }
+
+    /// Returns the value that this shows. It waits for nobody and takes no memory.
+    pub fn value<'a>(&'a self, shown: &OnceToken<'a, T>) -> &'a T
+        requires { shown.now.of ≡ self.now.raw.word.store }
+        ensures { result.now ≡ shown.now.value }
+    {
+        self.raw.value(shown)
+    }
+
+    /// Returns the value to be written, if there is one. It waits for nobody and takes no memory. A cell whose maker was forgotten
+    /// (`mem::forget`) has none.
     pub fn get_mut(&mut self) -> Option<&mut T> {
         self.raw.get_mut()
     }
 
-    /// Takes the value out, if there is one; the cell is empty then. It waits for nobody and takes no memory.
+    /// Takes the value out, if there is one; the cell is empty then. It waits for nobody and takes no memory. A cell whose maker was
+    /// forgotten (`mem::forget`) has none, and stays being made.
     pub fn take(&mut self) -> Option<T> {
         self.raw.take()
     }
@@ -105,7 +132,8 @@ impl<T, R> OnceCell<T, R> {
 }
 
 impl<T: Drop, R: Waits> OnceCell<T, R> {
-    /// A future of the value, which only waits until the cell has one. It does nothing until it is polled.
+    /// A future of the value, which only waits until the cell has one. It does nothing until it is polled; its polls ask the runtime
+    /// for the clock, the lists' short locks and memory. In the Rust crate it is an `async fn`, as are the three below.
     pub fn wait(&self) -> Wait<'_, T, R>
         ensures { result ≡ record { cell = self.now; is_over = false; entry = None } }
     {
@@ -146,17 +174,30 @@ impl<T: Drop, R: Waits> OnceCell<T, R> {
         Set::new(self, value)
     }
 
-    /// Puts this value in at once if the cell is empty, and else gives it back: also while another task makes the value.
+    /// Puts this value in at once if the cell is empty, and else gives it back: also while another task makes the value. What it
+    /// gives back is what was handed in. It waits for nobody but for the lists' short locks, and takes no memory.
+    ///
+    /// The Rust crate has no such call.
     pub fn try_set(&self, value: T) -> Result<(), T>
         ensures { IfErr result (λ back. back ≡ value) }
     {
         self.raw.try_set(&self.rt, value)
     }
+
+    /// As [`OnceCell::try_set`]; a value that is put in is shown (`shown`), and is what each later read of the cell gives, as long
+    /// as it isn't taken out. The Rust crate has no such call.
+    pub fn try_set_shown(&self, value: T) -> Result<OnceToken<'_, T>, T>
+        ensures shown { IfOk result (λ token. (token.of ≡ self.now.raw.word.store) × (token.value ≡ value)) }
+        ensures back { IfErr result (λ back. back ≡ value) }
+    {
+        self.raw.try_set_shown(&self.rt, value)
+    }
 }
 
 impl<T: Drop, R: Waits + Clock + RandomSource + AllocGlobal> OnceCell<T, R> {
-    /// Waits for the value, blocking the calling thread until the cell has one. Any error of `block_on` is
-    /// [`Refusal::Memory`]; a cell that is full gives its value without.
+    /// Waits for the value, blocking the calling thread until the cell has one. It is refused for memory alone (`memory`), and any
+    /// error of `block_on` is [`Refusal::Memory`]; a cell that is full gives its value without. A refused call leaves nothing in the
+    /// cell. In an async context it may deadlock: use [`OnceCell::wait`] there.
     pub fn wait_blocking(&self) -> Result<&T, Refusal>
         ensures memory { IfErr result (λ refusal. refusal ≡ Refusal.Memory) }
     {
@@ -171,7 +212,7 @@ impl<T: Drop, R: Waits + Clock + RandomSource + AllocGlobal> OnceCell<T, R> {
     }
 
     /// Puts this value in if the cell is empty, and else gives it back. It blocks the calling thread while another makes the value. Any
-    /// error of `block_on` is [`Refusal::Memory`].
+    /// error of `block_on` is [`Refusal::Memory`], and a refused call gives the value back too. In an async context it may deadlock.
     ///
     /// What it gives is the value that was handed in (`value`), and so is what it gives back (`back`).
     pub fn set_blocking(&self, value: T) -> Result<&T, SetFault<T>>
@@ -182,7 +223,8 @@ impl<T: Drop, R: Waits + Clock + RandomSource + AllocGlobal> OnceCell<T, R> {
     }
 
     /// Returns the value, which the closure makes if the cell is empty. It blocks the calling thread while another makes the value.
-    /// Any error of `block_on` is [`Refusal::Memory`]; a cell that is full gives its value without.
+    /// Any error of `block_on` is [`Refusal::Memory`]; a cell that is full gives its value without. A refused call drops the closure,
+    /// which it hasn't called, and leaves the cell as it was. In an async context it may deadlock.
     pub fn get_or_init_blocking<F: FnOnce() -> T>(&self, closure: F) -> Result<&T, Refusal>
         requires { F.pre closure }
         ensures memory { IfErr result (λ refusal. refusal ≡ Refusal.Memory) }
@@ -204,7 +246,8 @@ impl<T: Drop, R: Waits + Clock + RandomSource + AllocGlobal> OnceCell<T, R> {
     }
 
     /// Returns the value, which the closure makes if the cell is empty and it doesn't fail. It blocks the calling thread while another
-    /// makes the value. Any error of `block_on` is [`Refusal::Memory`]; a cell that is full gives its value without.
+    /// makes the value. Any error of `block_on` is [`Refusal::Memory`]; a cell that is full gives its value without. A refused call
+    /// drops the closure, which it hasn't called, and leaves the cell as it was. In an async context it may deadlock.
     ///
     /// A failure is what the closure answered; it is refused for memory alone (`fault`).
     pub fn get_or_try_init_blocking<E: Drop, F: FnOnce() -> Result<T, E>>(

@@ -7,7 +7,7 @@ use lock_program::Refusal;
 pub enum InitFault<E> {
     /// The closure failed with this.
     Closure(E),
-    /// The call was refused, and the closure's value, if there was any, isn't in the cell.
+    /// The call was refused, and the closure wasn't called.
     Refused(Refusal),
 }
 

@@ -1,12 +1,12 @@
 //! A once-cell without its runtime.
 
-ghost use Rattle.std.specs.Prelude.{◌≡◌, true, false, IfOk};
+ghost use Rattle.std.specs.Prelude.{◌≡◌, true, false, IfOk, IfSome};
 
 use async_driver::WaitingList;
 use futures::task::{Source, Waker};
 use std::alloc::{AllocError, Global};
 use std::marker::Model;
-use std::sync::Wait;
+use std::sync::{OnceToken, Wait};
 use words_once_cell::{State, Words};
 
 /// A once-cell without its runtime: its word, its value, and who waits.
@@ -79,6 +79,26 @@ impl<T> RawCell<T> {
         } else {
             None
         }
+    }
+
+    /// Returns what shows the value of a full cell, by which [`RawCell::value`] reads it. It waits for nobody.
+    ///
+    /// What shows a value of a cell shows the same as any other of that cell (`OnceToken::agrees`).
+    pub fn witness(&self) -> Option<OnceToken<'_, T>>
+        ensures { IfSome result (λ token. token.of ≡ self.now.word.store) }
+    {
+        if !self.is_full() {
+            return None;
+        }
+        self.words.value().witness()
+    }
+
+    /// Returns the value that this shows. It waits for nobody.
+    pub fn value<'a>(&'a self, shown: &OnceToken<'a, T>) -> &'a T
+        requires { shown.now.of ≡ self.now.word.store }
+        ensures { result.now ≡ shown.now.value }
+    {
+        self.words.value().value(shown)
     }
 
     /// Returns the value of a cell that is full, or waits until there is one. The value stands there before the word says so, and

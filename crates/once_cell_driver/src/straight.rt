@@ -1,6 +1,6 @@
 //! The programs that have no branch, or one alone, carried out straight: a try, and what a dropped future gives back.
 
-ghost use Rattle.std.specs.Prelude.{◌≡◌, Bool, Some, IfErr, IfSome, true, false};
+ghost use Rattle.std.specs.Prelude.{◌≡◌, Bool, Some, IfErr, IfNone, IfOk, IfSome, true, false};
 ghost use Rattle.once_cell_driver.specs.Parties.{IsTiedTo, having, having_at, having_of};
 ghost use Rattle.once_cell_driver.specs.Sides.{IsTied, half_of};
 ghost use Rattle.once_cell_driver.specs.Table.{CanPoll};
@@ -20,23 +20,39 @@ use crate::party::{CellParty, Work};
 use crate::raw::RawCell;
 use crate::side::Side;
 use async_driver::put;
-use std::sync::Wait;
+use std::sync::{OnceToken, Wait};
 use sync_program::once_cell::{Left, Position};
 use words_once_cell::{Filled, Seat, State};
 
-// A value is in the cell: what has to be notified by that, and the value if another stood there already.
-struct Entered<T> {
+// A value is in the cell: what has to be notified by that, what shows the value, and the value that was handed in, if another
+// stood there already.
+struct Entered<'a, T> {
     filled: Filled,
+    shown: OnceToken<'a, T>,
     back: Option<T>,
 }
 
 impl<T: Drop> RawCell<T> {
     /// Puts this value in at once if the cell is empty, and else gives it back: also while another makes the value.
     ///
-    /// The program of a try has one branch, and so its actions stand here in their order. Which rows of the table they are,
-    /// `try_rows` says. By their types the cell can't stay being made, nor the call end before both lists are notified.
+    /// As [`RawCell::try_set_shown`], without what shows the value.
     pub fn try_set<R: Wait>(&self, rt: &R, value: T) -> Result<(), T>
         ensures { IfErr result (λ back. back ≡ value) }
+    {
+        match self.try_set_shown(rt, value) {
+            Ok(_) => Ok(()),
+            Err(back) => Err(back),
+        }
+    }
+
+    /// Puts this value in at once if the cell is empty, and else gives it back: also while another makes the value. A value that
+    /// is put in is shown (`shown`).
+    ///
+    /// The program of a try has one branch, and so its actions stand here in their order. Which rows of the table they are,
+    /// `try_rows` says. By their types the cell can't stay being made, nor the call end before both lists are notified.
+    pub fn try_set_shown<R: Wait>(&self, rt: &R, value: T) -> Result<OnceToken<'_, T>, T>
+        ensures shown { IfOk result (λ token. (token.of ≡ self.now.word.store) × (token.value ≡ value)) }
+        ensures back { IfErr result (λ back. back ≡ value) }
     {
         try_rows();
         let mut seat = self.words.sit();
@@ -44,6 +60,7 @@ impl<T: Drop> RawCell<T> {
             State::Empty => {
                 let Entered {
                     filled: Filled { active, passive },
+                    shown,
                     back,
                 } = self.enter(rt, &mut seat, value);
                 self.words
@@ -54,7 +71,7 @@ impl<T: Drop> RawCell<T> {
                     .notify_additional(rt, usize::MAX, passive);
                 self.words.rise(seat);
                 match back {
-                    None => Ok(()),
+                    None => Ok(shown),
                     Some(value) => Err(value),
                 }
             }
@@ -66,21 +83,26 @@ impl<T: Drop> RawCell<T> {
     }
 
     // Puts a value in, and then says so, by the seat that makes.
-    fn enter<R: Wait>(&self, rt: &R, seat: &mut Seat, value: T) -> Entered<T>
+    fn enter<R: Wait>(&self, rt: &R, seat: &mut Seat, value: T) -> Entered<'_, T>
         requires seat { seat.old.inner.table_id ≡ self.now.word.table }
         requires makes { seat.old.inner.me.0.makes ≡ true }
         ensures seat { seat.new.inner.table_id ≡ self.now.word.table }
         ensures made { seat.new.inner.me.0.makes ≡ false }
         ensures active { result.filled.active.list.id ≡ self.now.active }
         ensures passive { result.filled.passive.list.id ≡ self.now.passive }
+        ensures shown { (result.shown.of ≡ self.now.word.store) × IfNone result.back (result.shown.value ≡ value) }
         ensures back { IfSome result.back (λ back. back ≡ value) }
     {
-        let (set, back) = match self.words.value().try_insert(rt, value) {
-            Ok(set) => (set, None),
-            Err((set, value)) => (set, Some(value)),
+        let (shown, back) = match self.words.value().try_insert(rt, value) {
+            Ok(shown) => (shown, None),
+            Err((shown, value)) => (shown, Some(value)),
         };
-        let filled = self.words.fill(seat, &set);
-        Entered { filled, back }
+        let filled = self.words.fill(seat, &shown);
+        Entered {
+            filled,
+            shown,
+            back,
+        }
     }
 
     /// Gives back what a party has that waits between two polls. The program of it has no branch, and so its actions stand here in

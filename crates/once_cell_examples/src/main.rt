@@ -2,8 +2,10 @@
 //! each example.
 #![tactic(auto)]
 
+mod calls;
 mod made_once;
 mod set_once;
+mod shown;
 
 use async_lock::Refusal;
 use std::alloc::AllocGlobal;
@@ -13,20 +15,42 @@ use std::sync::Wait;
 use std::thread::Threads;
 use std::time::Clock;
 
-fn run_all<R>(rt: R) -> Result<(u64, bool), Refusal>
+/// What the examples found.
+#[derive(Drop)]
+struct Found {
+    sum: u64,
+    is_first: bool,
+    read: Option<u64>,
+    is_so: bool,
+}
+
+fn run_all<R>(rt: R) -> Result<Found, Refusal>
 where
     R: Wait + Clock + RandomSource + AllocGlobal + Threads + Sync + Copy + Drop,
 {
     let sum = made_once::run(rt)?;
     let is_first = set_once::is_first_kept(rt)?;
-    Ok((sum, is_first))
+    let read = shown::run(rt)?;
+    let is_so = calls::run(rt)?;
+    Ok(Found {
+        sum,
+        is_first,
+        read,
+        is_so,
+    })
 }
 
 fn main(rt: HostRuntime) -> ExitCode {
-    let Ok((sum, is_first)) = run_all(rt) else {
+    let Ok(found) = run_all(rt) else {
         return ExitCode::FAILURE;
     };
-    match println!(rt; "made once: {sum}\nthe first is kept: {is_first}") {
+    let Some(read) = found.read else {
+        return ExitCode::FAILURE;
+    };
+    let (sum, is_first, is_so) = (found.sum, found.is_first, found.is_so);
+    match println!(rt;
+        "made once: {sum}\nthe first is kept: {is_first}\nread again: {read}\neach call is as shown: {is_so}"
+    ) {
         Ok(()) => ExitCode::SUCCESS,
         Err(_) => ExitCode::FAILURE,
     }
