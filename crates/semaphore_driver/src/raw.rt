@@ -51,6 +51,14 @@ impl RawSemaphore {
         })
     }
 
+    /// Its words and its list, each of whose functions is one action. It is for tests, which so carry out the straight calls one action
+    /// at a time.
+    pub fn stock(&self) -> &Stock
+        ensures { (result.now.word ≡ self.now.word) × (result.now.list ≡ self.now.list) }
+    {
+        &self.stock
+    }
+
     /// Returns how many permits were available at some moment of the call. It waits for nobody.
     #[inline]
     pub fn available(&self) -> u64 {

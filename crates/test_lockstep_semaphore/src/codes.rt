@@ -40,54 +40,31 @@ fn code_of_place(place: Place) -> Code {
     }
 }
 
+// The first name where there is no number to tell, and else the next.
+fn either(names: (u64, u64), permits: u64, told: Option<u64>) -> Code {
+    match told {
+        None => (names.0, permits, 0),
+        Some(available) => (names.1, permits, available),
+    }
+}
+
 // What a place is at which a poll takes, joins, asks or leaves.
 fn code_of_poll(place: Place) -> Code {
     match place {
         Place::Take {
             permits,
-            listed: false,
-            told: false,
-        } => (4, permits, 0),
-        Place::Take {
-            permits,
-            listed: false,
-            told: true,
-        } => (5, permits, 0),
-        Place::Take {
-            permits,
-            listed: true,
-            told: false,
-        } => (6, permits, 0),
-        Place::Take {
-            permits,
-            listed: true,
-            told: true,
-        } => (7, permits, 0),
+            listed,
+            told,
+        } => match (listed, told) {
+            (false, false) => (4, permits, 0),
+            (false, true) => (5, permits, 0),
+            (true, false) => (6, permits, 0),
+            (true, true) => (7, permits, 0),
+        },
         Place::Retake(permits) => (8, permits, 0),
-        Place::Join {
-            permits,
-            told: None,
-        } => (9, permits, 0),
-        Place::Join {
-            permits,
-            told: Some(available),
-        } => (10, permits, available),
-        Place::Ask {
-            permits,
-            told: None,
-        } => (11, permits, 0),
-        Place::Ask {
-            permits,
-            told: Some(available),
-        } => (12, permits, available),
-        Place::Remove {
-            permits,
-            more: None,
-        } => (13, permits, 0),
-        Place::Remove {
-            permits,
-            more: Some(available),
-        } => (14, permits, available),
+        Place::Join { permits, told } => either((9, 10), permits, told),
+        Place::Ask { permits, told } => either((11, 12), permits, told),
+        Place::Remove { permits, more } => either((13, 14), permits, more),
         // No other place is one of these.
         _ => (29, 0, 0),
     }

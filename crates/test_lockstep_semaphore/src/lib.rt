@@ -4,6 +4,8 @@
 #[cfg(test)]
 mod codes;
 #[cfg(test)]
+mod owing;
+#[cfg(test)]
 mod party;
 #[cfg(test)]
 mod semaphore;
@@ -11,5 +13,9 @@ mod semaphore;
 mod semaphore_tests;
 #[cfg(test)]
 mod setting;
+#[cfg(test)]
+mod straight;
+#[cfg(test)]
+mod twin;
 #[cfg(test)]
 mod whole;

@@ -4,6 +4,7 @@ ghost use Rattle.semaphore_driver.specs.Semaphores.{Has};
 ghost use Rattle.std.specs.Arc.{arc_value};
 ghost use Rattle.std.specs.Prelude.{◌≡◌};
 
+use crate::owing::Owing;
 use async_driver::WeightedListed;
 use lockstep::{Bench, Walker};
 use semaphore_driver::{PermitParty, RawSemaphore};
@@ -17,9 +18,9 @@ pub(crate) type Party = Walker<PermitParty>;
 
 /// Permits that a party has. Its type keeps that its seat has exactly so many. It has no `Drop`.
 pub(crate) struct Held {
-    shared: Arc<RawSemaphore>,
-    seat: Seat,
-    permits: u64,
+    pub(crate) shared: Arc<RawSemaphore>,
+    pub(crate) seat: Seat,
+    pub(crate) permits: u64,
 }
 
 impl Model for Held {
@@ -62,7 +63,7 @@ impl Held {
         }
     }
 
-    /// Gives the permits back.
+    /// Gives the permits back, whole.
     pub(crate) fn give<R: Wait>(self, rt: &R) {
         let Held {
             shared,
@@ -81,10 +82,6 @@ impl Held {
         } = self;
         shared.forget(seat, permits);
     }
-
-    pub(crate) fn permits(&self) -> u64 {
-        self.permits
-    }
 }
 
 /// What a party has outside every call, or inside one. It has no `Drop`, since its parts have none.
@@ -92,6 +89,8 @@ pub(crate) enum Having {
     Nothing,
     Future(Party),
     Permits(Held),
+    /// It is inside a call that isn't a poll, and stands so.
+    Owing(Owing, Position),
 }
 
 /// A future of so many permits.
@@ -144,8 +143,8 @@ pub(crate) fn pass_on<R: Wait>(walker: &mut Party, bench: &Bench<R>) {
     walker.place = walker.party.pass_on(&walker.shared, bench, place);
 }
 
-/// Ends a future: the call that it is in, and then it gives back what it has.
-pub(crate) fn end_future<R: Wait>(walker: Party, bench: &Bench<R>, number: usize) {
+// Ends a future: the call that it is in, and then it gives back what it has.
+fn end_future<R: Wait>(walker: Party, bench: &Bench<R>, number: usize) {
     let mut walker = walker;
     if let Some(task) = bench.task(number) {
         for _ in bench.forever() {
@@ -162,12 +161,13 @@ pub(crate) fn end_future<R: Wait>(walker: Party, bench: &Bench<R>, number: usize
     match settled(walker) {
         Having::Permits(held) => held.give(bench),
         Having::Future(walker) => cancel(walker, bench),
+        Having::Owing(owing, _) => owing.end(bench),
         Having::Nothing => {}
     }
 }
 
-/// Drops a future that is outside every call.
-pub(crate) fn cancel<R: Wait>(walker: Party, bench: &Bench<R>) {
+// Drops a future that is outside every call.
+fn cancel<R: Wait>(walker: Party, bench: &Bench<R>) {
     let Walker {
         shared,
         party,
@@ -188,5 +188,6 @@ pub(crate) fn end_having<R: Wait>(having: Having, bench: &Bench<R>, party: usize
         Having::Nothing => {}
         Having::Permits(held) => held.give(bench),
         Having::Future(walker) => end_future(walker, bench, party),
+        Having::Owing(owing, _) => owing.end(bench),
     }
 }

@@ -2,18 +2,20 @@
 
 use crate::codes::code_of_position;
 use crate::party::{
-    Having, Held, Party, cancel, end_having, entry_of, is_passing_on, new_future, pass_on, settled,
+    Having, Held, Party, end_having, entry_of, is_passing_on, new_future, pass_on, settled,
 };
 use crate::setting::{Setting, Table, Ways};
+use crate::straight::{begin_addition, drop_future, drop_permits, go_straight};
+use crate::twin::SemaphoreTwin;
 use crate::whole::{leave, poll};
 use lock_program::{End, Refusal};
-use lockstep::{Acted, Bench, Beside, Did, Dids, Shell, moved};
+use lockstep::{Acted, Bench, Dids, Shell, moved};
 use semaphore_driver::{PollFor, RawSemaphore};
 use std::alloc::{AllocFailed, Global};
 use std::mem;
 use std::sync::{Arc, Wait};
 use sync_program::permits::{Place, Position};
-use world_base::{Answer, Call, Got, Inputs, Made, Move, What};
+use world_base::{Answer, Call, Got, Inputs, Made, What};
 use world_semaphore::World;
 
 /// What a party of a semaphore can do next.
@@ -23,10 +25,12 @@ pub(crate) enum Deed {
     Acquire(u64),
     /// The same as the public type begins it: a straight try, and where that gets nothing, the driver.
     Take(u64),
-    /// A try to take so many permits, whole.
+    /// A try to take so many permits, which is one action.
     Try(u64),
-    /// An addition of so many permits, whole.
+    /// The first action of an addition of so many permits.
     Add(u64),
+    /// An addition of so many permits, whole.
+    AddWhole(u64),
     /// The first poll of a future of so many permits, whole, as the public type makes it: a straight try, and where that gets
     /// nothing, a poll past the driver.
     Whole(u64),
@@ -36,11 +40,13 @@ pub(crate) enum Deed {
     Leave,
     /// A later poll.
     Poll,
-    /// The next action of a poll.
+    /// The next action of a call.
     Go,
-    /// The drop of a future or of permits, whole.
+    /// The first action of the drop of a future or of permits.
     Drop,
-    /// Permits are forgotten.
+    /// The drop of permits, whole.
+    Give,
+    /// Permits are forgotten, by one action.
     Forget,
 }
 
@@ -56,58 +62,8 @@ struct Member {
 pub(crate) struct SemaphoreShell {
     raw: Arc<RawSemaphore>,
     members: Vec<Member>,
-    ways: Ways,
-    sizes: (u64, u64),
-    most: u64,
-    least: u64,
+    setting: Setting,
     joins: u64,
-}
-
-/// A semaphore's World, which may go by another table than its own.
-#[derive(Drop)]
-pub(crate) struct SemaphoreTwin {
-    world: World,
-    table: Table,
-}
-
-impl Beside for SemaphoreTwin {
-    fn follow(&mut self, m: Move) -> Answer {
-        let Move { party, what } = m;
-        self.world.step(&Move {
-            party,
-            what: exchanged(self.table, what),
-        })
-    }
-}
-
-// The move by which a World takes the row of another table.
-fn exchanged(table: Table, what: What) -> What {
-    match what {
-        What::Begin(call, inputs) => {
-            What::Begin(other_call(table, call), other_inputs(table, inputs))
-        }
-        What::Go(inputs) => What::Go(other_inputs(table, inputs)),
-    }
-}
-
-fn other_call(table: Table, call: Call) -> Call {
-    match (table, call) {
-        (Table::EndsExchanged, Call::Drop) => Call::Forget,
-        (Table::EndsExchanged, Call::Forget) => Call::Drop,
-        (Table::AdditionsExchanged, Call::AddPermits(1)) => Call::AddPermits(2),
-        (Table::AdditionsExchanged, Call::AddPermits(2)) => Call::AddPermits(1),
-        _ => call,
-    }
-}
-
-fn other_inputs(table: Table, inputs: Inputs) -> Inputs {
-    match table {
-        Table::JoinsExchanged => Inputs {
-            memory: !inputs.memory,
-            ..inputs
-        },
-        Table::Own | Table::EndsExchanged | Table::AdditionsExchanged => inputs,
-    }
 }
 
 fn inputs(memory: bool) -> Inputs {
@@ -125,16 +81,9 @@ fn one(what: What, answer: Answer) -> Dids {
     }
 }
 
-// A call of three moves, which ends so.
-fn three(call: Call, end: Answer) -> Dids {
-    let go = What::Go(inputs(true));
-    Dids {
-        moves: [
-            Some(moved(What::Begin(call, inputs(true)), Answer::Stepped)),
-            Some(moved(go, Answer::Stepped)),
-            Some(moved(go, end)),
-        ],
-    }
+// The beginning of a call, with its answer.
+fn began(call: Call, answer: Answer) -> Dids {
+    one(What::Begin(call, inputs(true)), answer)
 }
 
 // The shell's answer to an action, after which the party stands so.
@@ -164,191 +113,150 @@ fn found_memory(before: Position, after: Position) -> bool {
 }
 
 // The next action of a future's poll.
-fn go<R: Wait>(walker: &mut Party, bench: &Bench<R>, party: usize) -> Dids {
+fn go<R: Wait>(walker: Party, bench: &Bench<R>, party: usize) -> (Having, Dids) {
+    let mut walker = walker;
     let Some(task) = bench.task(party) else {
-        return one(What::Go(inputs(true)), Answer::NotPossible);
+        let what = What::Go(inputs(true));
+        return (Having::Future(walker), one(what, Answer::NotPossible));
     };
     let before = walker.place;
-    if is_passing_on(walker) {
-        pass_on(walker, bench);
-        return one(What::Go(inputs(true)), Answer::Pending);
+    if is_passing_on(&walker) {
+        pass_on(&mut walker, bench);
+        return (
+            settled(walker),
+            one(What::Go(inputs(true)), Answer::Pending),
+        );
     }
     let acted = task.enter(|cx| walker.go(bench, cx));
     let after = walker.place;
-    let memory = found_memory(before, after);
-    one(What::Go(inputs(memory)), answer(acted, after))
+    let what = What::Go(inputs(found_memory(before, after)));
+    (settled(walker), one(what, answer(acted, after)))
 }
 
 // A poll's first action.
-fn begin<R: Wait>(walker: &mut Party, bench: &Bench<R>, party: usize, call: Call) -> Dids {
-    let what = What::Begin(call, inputs(true));
+fn begin<R: Wait>(walker: Party, bench: &Bench<R>, party: usize, call: Call) -> (Having, Dids) {
+    let mut walker = walker;
     let Some(task) = bench.task(party) else {
-        return one(what, Answer::NotPossible);
+        return (Having::Future(walker), began(call, Answer::NotPossible));
     };
     let poll = PollFor {
         permits: walker.party.permits,
     };
     let acted = task.enter(|cx| walker.begin(bench, cx, poll));
-    one(what, answer(acted, walker.place))
-}
-
-// The drop of what a party has, and the moves that it is.
-fn dropped<R: Wait>(having: Having, bench: &Bench<R>) -> Dids {
-    let what = What::Begin(Call::Drop, inputs(true));
-    match having {
-        Having::Nothing => one(what, Answer::NotPossible),
-        Having::Permits(held) => {
-            held.give(bench);
-            Dids {
-                moves: [
-                    Some(moved(what, Answer::Stepped)),
-                    Some(moved(What::Go(inputs(true)), Answer::GivenBack)),
-                    None,
-                ],
-            }
-        }
-        Having::Future(walker) => {
-            let is_told = match entry_of(&walker) {
-                Some(entry) => walker.shared.is_notified(bench, entry),
-                None => false,
-            };
-            cancel(walker, bench);
-            if is_told {
-                three(Call::Drop, Answer::GivenBack)
-            } else {
-                one(what, Answer::GivenBack)
-            }
-        }
-    }
-}
-
-// What is left of permits that are forgotten.
-fn forgotten(having: Having) -> (Having, Dids) {
-    let what = What::Begin(Call::Forget, inputs(true));
-    match having {
-        Having::Permits(held) => {
-            held.forget();
-            (Having::Nothing, one(what, Answer::GivenBack))
-        }
-        other => (other, one(what, Answer::NotPossible)),
-    }
-}
-
-// A try of a party that has nothing.
-fn tried<R: Wait>(shared: Arc<RawSemaphore>, bench: &Bench<R>, permits: u64) -> (Having, Dids) {
-    let what = What::Begin(Call::TryAcquire(permits), inputs(true));
-    match Held::try_take(shared, bench, permits) {
-        Some(held) => (
-            Having::Permits(held),
-            one(what, Answer::Granted(Got::Plain)),
-        ),
-        None => (Having::Nothing, one(what, Answer::None)),
-    }
-}
-
-// The first poll of a party that has nothing, as the public type begins it. A straight look in vain is a try that got nothing.
-fn taken<R: Wait>(
-    shared: Arc<RawSemaphore>,
-    bench: &Bench<R>,
-    party: usize,
-    permits: u64,
-) -> (Having, Dids) {
-    let Ok(again) = Arc::try_clone(&shared) else {
-        return (
-            Having::Nothing,
-            one(
-                What::Begin(Call::Acquire(permits), inputs(true)),
-                Answer::NotPossible,
-            ),
-        );
-    };
-    let call = Call::Acquire(permits);
-    if let Some(held) = Held::try_take(shared, bench, permits) {
-        return (
-            Having::Permits(held),
-            one(What::Begin(call, inputs(true)), Answer::Ready(Got::Plain)),
-        );
-    }
-    let failed = What::Begin(Call::TryAcquire(permits), inputs(true));
-    let mut walker = new_future(again, permits);
-    let [first, _, _] = begin(&mut walker, bench, party, call).moves;
-    let dids = Dids {
-        moves: [Some(moved(failed, Answer::None)), first, None],
-    };
-    (settled(walker), dids)
-}
-
-// An addition of so many permits.
-fn added<R: Wait>(raw: &RawSemaphore, bench: &Bench<R>, permits: u64) -> Dids {
-    let call = Call::AddPermits(permits);
-    match raw.add(bench, permits) {
-        Ok(_) => three(call, Answer::Granted(Got::Plain)),
-        Err(refusal) => one(
-            What::Begin(call, inputs(true)),
-            Answer::Refused(refusal.number()),
-        ),
-    }
+    let after = walker.place;
+    (settled(walker), began(call, answer(acted, after)))
 }
 
 // A whole poll of a future, and the call that it is. What the allocator did is an input of the World's, and the shell is asked
 // for it.
-fn whole<R: Wait>(having: &mut Having, bench: &Bench<R>, party: usize, call: Call) -> Did {
+fn whole<R: Wait>(walker: Party, bench: &Bench<R>, party: usize, call: Call) -> (Having, Dids) {
+    let mut having = Having::Future(walker);
     let Some(task) = bench.task(party) else {
-        return moved(What::Begin(call, inputs(true)), Answer::NotPossible);
+        return (having, began(call, Answer::NotPossible));
     };
-    let answer = match task.enter(|cx| poll(having, bench, cx)) {
+    let answer = match task.enter(|cx| poll(&mut having, bench, cx)) {
         Some(End::Got) => Answer::Ready(Got::Plain),
         Some(End::Pending) => Answer::Pending,
         Some(End::Refused(refusal)) => Answer::Refused(refusal.number()),
         _ => Answer::NotPossible,
     };
     let memory = answer != Answer::Refused(Refusal::Memory.number());
-    moved(What::Begin(call, inputs(memory)), answer)
+    (having, one(What::Begin(call, inputs(memory)), answer))
 }
 
-// The first poll of a party that has nothing, whole. A straight look in vain is a try that got nothing.
-fn whole_first<R: Wait>(
+// A try of a party that has nothing.
+fn tried<R: Wait>(shared: Arc<RawSemaphore>, bench: &Bench<R>, permits: u64) -> (Having, Dids) {
+    let call = Call::TryAcquire(permits);
+    match Held::try_take(shared, bench, permits) {
+        Some(held) => (
+            Having::Permits(held),
+            began(call, Answer::Granted(Got::Plain)),
+        ),
+        None => (Having::Nothing, began(call, Answer::None)),
+    }
+}
+
+// The first poll of a party that has nothing, as the public type begins it; where it isn't over then, it goes on by the driver, or
+// whole. A straight look in vain is a try that got nothing.
+fn taken<R: Wait>(
     shared: Arc<RawSemaphore>,
     bench: &Bench<R>,
     party: usize,
     permits: u64,
+    is_whole: bool,
 ) -> (Having, Dids) {
     let call = Call::Acquire(permits);
     let Ok(again) = Arc::try_clone(&shared) else {
-        let what = What::Begin(call, inputs(true));
-        return (Having::Nothing, one(what, Answer::NotPossible));
+        return (Having::Nothing, began(call, Answer::NotPossible));
     };
     if let Some(held) = Held::try_take(shared, bench, permits) {
-        let what = What::Begin(call, inputs(true));
-        return (Having::Permits(held), one(what, Answer::Ready(Got::Plain)));
+        return (
+            Having::Permits(held),
+            began(call, Answer::Ready(Got::Plain)),
+        );
     }
     let failed = What::Begin(Call::TryAcquire(permits), inputs(true));
-    let mut having = Having::Future(new_future(again, permits));
-    let did = whole(&mut having, bench, party, call);
+    let walker = new_future(again, permits);
+    let (having, dids) = if is_whole {
+        whole(walker, bench, party, call)
+    } else {
+        begin(walker, bench, party, call)
+    };
+    let [next, _, _] = dids.moves;
     let dids = Dids {
-        moves: [Some(moved(failed, Answer::None)), Some(did), None],
+        moves: [Some(moved(failed, Answer::None)), next, None],
     };
     (having, dids)
 }
 
-// A later poll of a future, whole.
-fn whole_later<R: Wait>(having: Having, bench: &Bench<R>, party: usize) -> (Having, Dids) {
-    let mut having = having;
-    let did = whole(&mut having, bench, party, Call::Poll);
-    let dids = Dids {
-        moves: [Some(did), None, None],
+// A whole addition of so many permits.
+fn added<R: Wait>(raw: &RawSemaphore, bench: &Bench<R>, permits: u64) -> Dids {
+    let answer = match raw.add(bench, permits) {
+        Ok(_) => Answer::Granted(Got::Plain),
+        Err(refusal) => Answer::Refused(refusal.number()),
     };
-    (having, dids)
+    began(Call::AddPermits(permits), answer)
 }
 
-// The drop of a future that waits, whole.
-fn left<R: Wait>(having: Having, bench: &Bench<R>) -> (Having, Dids) {
-    let mut having = having;
-    let answer = match leave(&mut having, bench) {
-        Some(_) => Answer::GivenBack,
-        None => Answer::NotPossible,
-    };
-    (having, one(What::Begin(Call::Drop, inputs(true)), answer))
+// A deed of a party that has a future.
+fn of_future<R: Wait>(
+    walker: Party,
+    bench: &Bench<R>,
+    party: usize,
+    deed: Deed,
+    table: Table,
+) -> (Having, Dids) {
+    match deed {
+        Deed::Poll => begin(walker, bench, party, Call::Poll),
+        Deed::Go => go(walker, bench, party),
+        Deed::PollWhole => whole(walker, bench, party, Call::Poll),
+        Deed::Leave => {
+            let (having, answer) = leave(walker, bench);
+            (having, began(Call::Drop, answer))
+        }
+        _ => {
+            let (having, answer) = drop_future(table, walker, bench);
+            (having, began(Call::Drop, answer))
+        }
+    }
+}
+
+// A deed of a party that has permits.
+fn of_permits<R: Wait>(held: Held, bench: &Bench<R>, deed: Deed, table: Table) -> (Having, Dids) {
+    match deed {
+        Deed::Forget => {
+            held.forget();
+            (Having::Nothing, began(Call::Forget, Answer::GivenBack))
+        }
+        Deed::Give => {
+            held.give(bench);
+            (Having::Nothing, began(Call::Drop, Answer::GivenBack))
+        }
+        _ => {
+            let (having, answer) = drop_permits(table, held);
+            (having, began(Call::Drop, answer))
+        }
+    }
 }
 
 impl Member {
@@ -359,17 +267,21 @@ impl Member {
         bench: &Bench<R>,
         party: usize,
         deed: Deed,
+        table: Table,
     ) -> Dids {
         let (having, dids) = match deed {
             Deed::Acquire(permits) => {
-                let mut walker = new_future(shared, permits);
-                let dids = begin(&mut walker, bench, party, Call::Acquire(permits));
-                (settled(walker), dids)
+                let walker = new_future(shared, permits);
+                begin(walker, bench, party, Call::Acquire(permits))
             }
-            Deed::Take(permits) => taken(shared, bench, party, permits),
+            Deed::Take(permits) => taken(shared, bench, party, permits, false),
+            Deed::Whole(permits) => taken(shared, bench, party, permits, true),
             Deed::Try(permits) => tried(shared, bench, permits),
-            Deed::Whole(permits) => whole_first(shared, bench, party, permits),
-            Deed::Add(permits) => (Having::Nothing, added(&shared, bench, permits)),
+            Deed::Add(permits) => {
+                let (having, answer) = begin_addition(table, shared, permits);
+                (having, began(Call::AddPermits(permits), answer))
+            }
+            Deed::AddWhole(permits) => (Having::Nothing, added(&shared, bench, permits)),
             _ => (
                 Having::Nothing,
                 one(What::Go(inputs(true)), Answer::NotPossible),
@@ -382,22 +294,20 @@ impl Member {
         dids
     }
 
-    // A deed of a party that has a future or permits.
-    fn go_on<R: Wait>(&mut self, bench: &Bench<R>, party: usize, deed: Deed) -> Dids {
+    // A deed of a party that has a future or permits, or is inside a call.
+    fn go_on<R: Wait>(&mut self, bench: &Bench<R>, party: usize, deed: Deed, table: Table) -> Dids {
         let having = mem::replace(&mut self.having, Having::Nothing);
-        let (next, dids) = match (having, deed) {
-            (Having::Future(mut walker), Deed::Poll) => {
-                let dids = begin(&mut walker, bench, party, Call::Poll);
-                (settled(walker), dids)
+        let (next, dids) = match having {
+            Having::Future(walker) => of_future(walker, bench, party, deed, table),
+            Having::Permits(held) => of_permits(held, bench, deed, table),
+            Having::Owing(owing, position) => {
+                let (having, answer) = go_straight(table, owing, position, bench);
+                (having, one(What::Go(inputs(true)), answer))
             }
-            (Having::Future(mut walker), Deed::Go) => {
-                let dids = go(&mut walker, bench, party);
-                (settled(walker), dids)
-            }
-            (having, Deed::Forget) => forgotten(having),
-            (having, Deed::PollWhole) => whole_later(having, bench, party),
-            (having, Deed::Leave) => left(having, bench),
-            (having, _) => (Having::Nothing, dropped(having, bench)),
+            Having::Nothing => (
+                Having::Nothing,
+                one(What::Go(inputs(true)), Answer::NotPossible),
+            ),
         };
         match mem::replace(&mut self.having, next) {
             Having::Nothing => {}
@@ -409,8 +319,9 @@ impl Member {
     fn place(&self) -> Position {
         match &self.having {
             Having::Nothing => Position::Out,
-            Having::Permits(held) => Position::Holding(held.permits()),
+            Having::Permits(held) => Position::Holding(held.permits),
             Having::Future(walker) => walker.place,
+            Having::Owing(_, position) => *position,
         }
     }
 
@@ -426,12 +337,15 @@ impl Member {
     }
 }
 
-// How many permits a party has that stands here.
+// How many permits a party has that stands here, or has under way.
 fn permits_at(position: Position) -> u64 {
     match position {
         Position::Holding(permits)
         | Position::At(
-            Place::Remove { permits, .. } | Place::Load(permits) | Place::HandOn { permits, .. },
+            Place::Remove { permits, .. }
+            | Place::Load(permits)
+            | Place::HandOn { permits, .. }
+            | Place::GiveAdded(permits),
         ) => permits,
         _ => 0,
     }
@@ -496,13 +410,13 @@ fn has_joined(before: Option<bool>, deed: Deed) -> bool {
 impl SemaphoreShell {
     // Whether an addition of so many permits is made.
     fn is_added(&self, permits: u64) -> bool {
-        self.most == u64::MAX || self.limit().saturating_add(permits) <= self.most
+        self.setting.most == u64::MAX || self.limit().saturating_add(permits) <= self.setting.most
     }
 
     // The deed of this number of a party that has nothing.
     fn first_deed(&self, number: usize) -> Option<Deed> {
-        let (small, large) = self.sizes;
-        match (self.ways, number) {
+        let (small, large) = self.setting.sizes;
+        match (self.setting.ways, number) {
             (_, 0) => Some(Deed::Acquire(small)),
             (_, 1) => Some(Deed::Acquire(large)),
             (Ways::Driver, _) => None,
@@ -513,20 +427,20 @@ impl SemaphoreShell {
             (Ways::Whole, 4) => Some(Deed::Whole(small)),
             (Ways::Whole, 5) => Some(Deed::Whole(large)),
             (_, 6) if self.is_added(1) => Some(Deed::Add(1)),
-            (_, 7) if self.is_added(2) => Some(Deed::Add(2)),
+            (Ways::Whole, 7) if self.is_added(1) => Some(Deed::AddWhole(1)),
+            (Ways::All, 7) | (Ways::Whole, 8) if self.is_added(2) => Some(Deed::Add(2)),
+            (Ways::Whole, 9) if self.is_added(2) => Some(Deed::AddWhole(2)),
             _ => None,
         }
     }
 
     // The deed of this number of a party that has permits.
     fn last_deed(&self, held: &Held, number: usize) -> Option<Deed> {
-        match number {
-            0 => Some(Deed::Drop),
-            1
-                if self.ways != Ways::Driver
-                    && self.limit().saturating_sub(held.permits()) >= self.least => {
-                Some(Deed::Forget)
-            }
+        let is_forgotten = self.limit().saturating_sub(held.permits) >= self.setting.least;
+        match (self.setting.ways, number) {
+            (_, 0) => Some(Deed::Drop),
+            (Ways::Whole, 1) => Some(Deed::Give),
+            (Ways::All, 1) | (Ways::Whole, 2) if is_forgotten => Some(Deed::Forget),
             _ => None,
         }
     }
@@ -537,10 +451,9 @@ impl SemaphoreShell {
             (Position::At(_), 0) => Some(Deed::Go),
             (Position::Unlisted(_) | Position::Waiting(_), 0) => Some(Deed::Poll),
             (Position::Unlisted(_) | Position::Waiting(_), 1) => Some(Deed::Drop),
-            (Position::Unlisted(_) | Position::Waiting(_), 2) if self.ways == Ways::Whole => {
-                Some(Deed::PollWhole)
-            }
-            (Position::Waiting(_), 3) if self.ways == Ways::Whole => Some(Deed::Leave),
+            (Position::Unlisted(_) | Position::Waiting(_), 2) if self.setting.ways == Ways::Whole =>
+                { Some(Deed::PollWhole) }
+            (Position::Waiting(_), 3) if self.setting.ways == Ways::Whole => Some(Deed::Leave),
             _ => None,
         }
     }
@@ -638,12 +551,9 @@ impl Shell for SemaphoreShell {
         let Setting {
             alloc,
             parties,
-            ways,
             permits,
-            sizes,
-            most,
-            least,
             table,
+            ..
         } = setting;
         let world = World::new(alloc, parties, permits).ok()?;
         let raw = RawSemaphore::new(alloc, permits).ok()?;
@@ -652,10 +562,7 @@ impl Shell for SemaphoreShell {
         let shell = SemaphoreShell {
             raw,
             members,
-            ways,
-            sizes,
-            most,
-            least,
+            setting,
             joins: 0,
         };
         Some((shell, SemaphoreTwin { world, table }))
@@ -665,10 +572,7 @@ impl Shell for SemaphoreShell {
         let SemaphoreShell {
             raw,
             members,
-            ways: _,
-            sizes: _,
-            most: _,
-            least: _,
+            setting: _,
             joins: _,
         } = self;
         end_all(members, bench);
@@ -692,11 +596,15 @@ impl Shell for SemaphoreShell {
             Having::Nothing => self.first_deed(number),
             Having::Permits(held) => self.last_deed(held, number),
             Having::Future(walker) => self.next_deed(walker.place, number),
+            Having::Owing(_, position) => self.next_deed(*position, number),
         }
     }
 
     fn is_whole(deed: Deed) -> bool {
-        matches!(deed, Deed::Whole(_) | Deed::PollWhole | Deed::Leave)
+        matches!(
+            deed,
+            Deed::Whole(_) | Deed::AddWhole(_) | Deed::PollWhole | Deed::Leave | Deed::Give
+        )
     }
 
     fn carry_out<R: Wait>(&mut self, bench: &Bench<R>, party: usize, deed: Deed) -> Dids {
@@ -706,17 +614,20 @@ impl Shell for SemaphoreShell {
         let Ok(shared) = Arc::try_clone(&self.raw) else {
             return none;
         };
+        let table = self.setting.table;
         let Some(member) = self.members.get_mut(party) else {
             return none;
         };
         member.is_fresh = false;
         let before = member.mark(bench);
         let dids = match deed {
-            Deed::Acquire(_) | Deed::Take(_) | Deed::Try(_) | Deed::Add(_) | Deed::Whole(_) => {
-                member.start(shared, bench, party, deed)
-            }
-            Deed::Poll | Deed::Go | Deed::Drop | Deed::Forget | Deed::PollWhole | Deed::Leave =>
-                member.go_on(bench, party, deed),
+            Deed::Acquire(_)
+            | Deed::Take(_)
+            | Deed::Try(_)
+            | Deed::Whole(_)
+            | Deed::Add(_)
+            | Deed::AddWhole(_) => member.start(shared, bench, party, deed, table),
+            _ => member.go_on(bench, party, deed, table),
         };
         if member.mark(bench).is_some() && has_joined(before, deed) {
             self.joins = self.joins.wrapping_add(1);

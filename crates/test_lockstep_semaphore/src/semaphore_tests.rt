@@ -5,6 +5,7 @@ use crate::setting::{Setting, Table, Ways};
 use lockstep::{Bench, Order, Walk, walk_by_chance, walk_schedules, walk_states};
 use std::alloc::AllocGlobal;
 use std::process::Abort;
+use std::random::RandomSource;
 use std::sync::Wait;
 
 const MANY: usize = 1_000_000;
@@ -81,15 +82,50 @@ fn two_parties_go_on_alike_in_each_state(rt: HostRuntime) {
     }
 }
 
-// Permits are added and forgotten.
+// Three parties at two permits. Permits are added and forgotten, and the limit stays between these.
+fn three_go_on_alike<R>(rt: R, sizes: (u64, u64), least: u64, most: u64)
+where
+    R: Wait + Abort + RandomSource + AllocGlobal + Drop,
+{
+    let of_three = Setting {
+        sizes,
+        least,
+        most,
+        ..setting(&rt, 3, 2)
+    };
+    if let Some(bench) = Bench::new(rt, 3) {
+        in_each_state(&bench, of_three);
+    }
+}
+
 #[test]
 fn three_parties_go_on_alike_in_each_state(rt: HostRuntime) {
-    let of_three = setting(&rt, 3, 2);
+    three_go_on_alike(rt, (1, 2), 0, 2);
+}
+
+#[test]
+fn three_parties_go_on_alike_at_two_and_three(rt: HostRuntime) {
+    three_go_on_alike(rt, (1, 2), 2, 3);
+}
+
+#[test]
+fn three_parties_of_none_and_three_go_on_alike(rt: HostRuntime) {
+    three_go_on_alike(rt, (0, 3), 0, 3);
+}
+
+// Polls, drops and additions go whole past the driver, or by single actions, while others may be inside a call.
+#[test]
+fn whole_calls_go_alike_in_each_state(rt: HostRuntime) {
+    let of_three = Setting {
+        ways: Ways::Whole,
+        ..setting(&rt, 3, 2)
+    };
     if let Some(bench) = Bench::new(rt, 3) {
-        for sizes in [(1, 2), (0, 3)] {
+        for (parties, least, most) in [(2, 0, 3), (3, 1, 2)] {
             let of_these = Setting {
-                sizes,
-                most: 3,
+                parties,
+                least,
+                most,
                 ..of_three
             };
             in_each_state(&bench, of_these);
@@ -97,40 +133,35 @@ fn three_parties_go_on_alike_in_each_state(rt: HostRuntime) {
     }
 }
 
-// Each poll and each drop of a future that waits goes whole past the driver, while others may be inside a call.
 #[test]
-fn whole_polls_go_alike_in_each_state(rt: HostRuntime) {
+fn whole_calls_go_alike_at_two_and_three(rt: HostRuntime) {
     let of_three = Setting {
         ways: Ways::Whole,
+        least: 2,
         most: 3,
         ..setting(&rt, 3, 2)
     };
     if let Some(bench) = Bench::new(rt, 3) {
-        for parties in [2, 3] {
-            in_each_state(
-                &bench,
-                Setting {
-                    parties,
-                    ..of_three
-                },
-            );
-        }
+        in_each_state(&bench, of_three);
     }
 }
 
-// The limit stands at the greatest number, or just below it.
+// The limit stands at the greatest number, or just below it. Additions go by single actions, or whole.
 #[test]
 fn additions_are_refused_alike(rt: HostRuntime) {
     let of_two = setting(&rt, 2, u64::MAX);
     if let Some(bench) = Bench::new(rt, 2) {
-        for sizes in [(1, 2), (1, u64::MAX)] {
-            let of_these = Setting {
-                sizes,
-                most: u64::MAX,
-                least: u64::MAX - 3,
-                ..of_two
-            };
-            in_each_state(&bench, of_these);
+        for ways in [Ways::All, Ways::Whole] {
+            for sizes in [(1, 2), (1, u64::MAX)] {
+                let of_these = Setting {
+                    ways,
+                    sizes,
+                    most: u64::MAX,
+                    least: u64::MAX - 3,
+                    ..of_two
+                };
+                in_each_state(&bench, of_these);
+            }
         }
     }
 }
@@ -145,13 +176,12 @@ fn three_parties_go_alike_by_each_schedule(rt: HostRuntime) {
 
 #[test]
 fn three_futures_go_alike_by_each_schedule(rt: HostRuntime) {
-    let of_three = setting(&rt, 3, 2);
+    let of_futures = Setting {
+        ways: Ways::Driver,
+        ..setting(&rt, 3, 2)
+    };
     if let Some(bench) = Bench::new(rt, 3) {
-        let of_futures = Setting {
-            ways: Ways::Driver,
-            ..of_three
-        };
-        expect_alike(&bench, through_schedules(&bench, of_futures, 10));
+        expect_alike(&bench, through_schedules(&bench, of_futures, 11));
     }
 }
 
@@ -199,23 +229,31 @@ fn shown_by<R: Wait + Abort>(bench: &Bench<R>, setting: Setting, table: Table) -
 
 #[test]
 fn a_row_that_is_exchanged_is_seen(rt: HostRuntime) {
-    let of_two = Setting {
-        most: 2,
-        ..setting(&rt, 2, 0)
+    let of_none = setting(&rt, 2, 0);
+    let of_one = Setting {
+        permits: 1,
+        ..of_none
     };
-    if let Some(bench) = Bench::new(rt, 2) {
+    let of_added = Setting { most: 2, ..of_none };
+    let rows = [
         // One finds no permit, and joins the list.
-        let joins = shown_by(&bench, of_two, Table::JoinsExchanged);
-        assert_eq!(bench.rt(); joins, 2, "moves show an exchanged join");
-        // One permit is added, by three actions.
-        let additions = shown_by(&bench, of_two, Table::AdditionsExchanged);
-        assert_eq!(bench.rt(); additions, 3, "moves show an exchanged addition");
+        (of_none, Table::JoinsExchanged, 2usize),
+        // The first of an addition's three actions raises the limit, after the second it has to fit, and the third ends it.
+        (of_added, Table::AdditionsExchanged, 1),
+        (of_added, Table::LooksExchanged, 2),
+        (of_added, Table::FitsExchanged, 3),
         // One gets a permit, and drops it, by two actions.
-        let of_one = Setting {
-            permits: 1,
-            ..of_two
-        };
-        let ends = shown_by(&bench, of_one, Table::EndsExchanged);
-        assert_eq!(bench.rt(); ends, 3, "moves show an exchanged drop");
+        (of_one, Table::EndsExchanged, 2),
+        (of_one, Table::FitsExchanged, 3),
+        // One finds no permit, waits after four actions, and is dropped.
+        (of_none, Table::CancelsExchanged, 5),
+        // One gets the permit, another waits after four actions, the first drops the permit by two, and the other, which is notified,
+        // is dropped: it leaves the list, and then looks how many permits are available.
+        (of_one, Table::LooksExchanged, 9),
+    ];
+    if let Some(bench) = Bench::new(rt, 2) {
+        for (of_two, table, moves) in rows {
+            assert_eq!(bench.rt(); shown_by(&bench, of_two, table), moves);
+        }
     }
 }

@@ -5,15 +5,15 @@ use std::alloc::Global;
 /// Which ways the parties of a shell go.
 #[derive(Clone, Copy, PartialEq, Eq)]
 pub(crate) enum Ways {
-    /// Futures by the driver, and what they got is dropped.
+    /// Futures by the driver, and what they got is dropped, one action at a time.
     Driver,
-    /// Each call that there is: tries, additions and what ends permits go whole, as straight calls.
+    /// Each call that there is, one action at a time.
     All,
-    /// By the driver, or as the public type goes with each poll and drop whole, while others are inside a call.
+    /// One action at a time, or each poll, drop and addition whole as the public type makes it, while others are inside a call.
     Whole,
 }
 
-/// Which table the World goes by.
+/// By which table the World goes, or the shell where it says so.
 #[derive(Clone, Copy, PartialEq, Eq)]
 pub(crate) enum Table {
     /// Its own.
@@ -24,6 +24,12 @@ pub(crate) enum Table {
     EndsExchanged,
     /// Of an addition of one and an addition of two each has the other's row.
     AdditionsExchanged,
+    /// Of the drop of a future that waits and its poll each has the other's row.
+    CancelsExchanged,
+    /// The shell's: of the last action of an addition and of a drop each has the other's row.
+    FitsExchanged,
+    /// The shell's: of the second action of an addition and of the drop of a future each has the other's row.
+    LooksExchanged,
 }
 
 /// Of which semaphore: with how many parties, that go which ways, and beside which World.

@@ -15,6 +15,7 @@ use semaphore_driver::{Outcome, PermitParty, RawSemaphore, Waiting};
 use std::mem;
 use std::sync::{Arc, Wait};
 use sync_program::permits::Position;
+use world_base::Answer;
 
 // A future that waits for so many permits.
 fn waits(shared: Arc<RawSemaphore>, waiting: Waiting, permits: u64) -> Party
@@ -34,8 +35,8 @@ fn waits(shared: Arc<RawSemaphore>, waiting: Waiting, permits: u64) -> Party
     }
 }
 
-// What the public type keeps of a future that waits.
-fn waiting_of(shared: &RawSemaphore, party: PermitParty, permits: u64) -> Waiting
+/// What the public type keeps of a future that waits.
+pub(crate) fn waiting_of(shared: &RawSemaphore, party: PermitParty, permits: u64) -> Waiting
     requires { Stands shared.now party (stands.Waiting permits) }
     ensures { WaitsFor shared.now permits result }
 {
@@ -113,8 +114,8 @@ fn polled<R: Wait>(walker: Party, bench: &Bench<R>, cx: &mut Context<'_>) -> (Ha
     }
 }
 
-// What becomes of a future by its drop, whole, and how that ends.
-fn dropped<R: Wait>(walker: Party, bench: &Bench<R>) -> (Having, Option<End>) {
+/// The drop of a future that waits, whole: what becomes of it, and the answer.
+pub(crate) fn leave<R: Wait>(walker: Party, bench: &Bench<R>) -> (Having, Answer) {
     let Walker {
         shared,
         party,
@@ -124,7 +125,7 @@ fn dropped<R: Wait>(walker: Party, bench: &Bench<R>) -> (Having, Option<End>) {
         Position::Waiting(permits) => {
             let waiting = waiting_of(&shared, party, permits);
             shared.cancel_waiting(bench, permits, waiting);
-            (Having::Nothing, Some(End::GivenBack))
+            (Having::Nothing, Answer::GivenBack)
         }
         _ => {
             let walker = Walker {
@@ -132,7 +133,7 @@ fn dropped<R: Wait>(walker: Party, bench: &Bench<R>) -> (Having, Option<End>) {
                 party,
                 place,
             };
-            (Having::Future(walker), None)
+            (Having::Future(walker), Answer::NotPossible)
         }
     }
 }
@@ -145,16 +146,6 @@ pub(crate) fn poll<R: Wait>(
 ) -> Option<End> {
     let (next, ended) = match mem::replace(having, Having::Nothing) {
         Having::Future(walker) => polled(walker, bench, cx),
-        other => (other, None),
-    };
-    end_having(mem::replace(having, next), bench, 0);
-    ended
-}
-
-/// The drop of a future that waits, whole: how it ends. None where there is no such future.
-pub(crate) fn leave<R: Wait>(having: &mut Having, bench: &Bench<R>) -> Option<End> {
-    let (next, ended) = match mem::replace(having, Having::Nothing) {
-        Having::Future(walker) => dropped(walker, bench),
         other => (other, None),
     };
     end_having(mem::replace(having, next), bench, 0);
