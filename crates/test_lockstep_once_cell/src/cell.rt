@@ -4,7 +4,7 @@ use crate::codes::{code_of_entry, code_of_position};
 use crate::having::Having;
 use crate::makers::GIVEN;
 use crate::party::Values;
-use crate::setting::{Setting, Table};
+use crate::setting::{Setting, Table, Ways};
 use async_driver::WaitingList;
 use futures::task::Waker;
 use futures::test::MockTask;
@@ -24,14 +24,16 @@ use world_once_cell::program::Content;
 /// What a party of a cell can do next.
 #[derive(Clone, Copy, Debug, PartialEq, Eq)]
 pub(crate) enum Deed {
-    /// The first poll of a future by its first action, or a try, whole.
+    /// The first action of a future's first poll, of a try, or of a drop.
     Begin(Call),
     /// The first action of a later poll, and what the maker gives if that one asks it.
     Poll(Made),
-    /// The next action of a poll, and what the maker gives if that one asks it.
+    /// The next action of a call, and what the maker gives if that one asks it.
     Go(Made),
-    /// The drop of a future, whole.
-    Drop,
+    /// The next action, which is a join and is refused memory.
+    Refuse,
+    /// A try or a drop, whole.
+    Whole(Call),
 }
 
 /// A party, and whether it has done nothing yet. It has no `Drop`, since what it has has none.
@@ -44,6 +46,8 @@ struct Member<'a> {
 pub(crate) struct CellShell<'a> {
     cell: Arc<&'a RawCell<u64>>,
     members: Vec<Member<'a>>,
+    ways: Ways,
+    refuses: bool,
 }
 
 /// A cell's World, which may go by another table than its own.
@@ -135,26 +139,52 @@ fn made(party: u64, number: usize) -> Option<Made> {
 }
 
 // What a party can do that is here.
-fn deed_of(position: Position<()>, party: u64, number: usize) -> Option<Deed> {
+fn deed_of(position: Position<()>, party: u64, ways: Ways, number: usize) -> Option<Deed> {
+    match position {
+        Position::At(place) => next_of(place, party, number),
+        Position::Out => begin_of(party, ways, number),
+        _ => pending_of(position, party, ways, number),
+    }
+}
+
+// What a party can do next that is inside a call.
+fn next_of(place: Place<()>, party: u64, number: usize) -> Option<Deed> {
+    match (place, number) {
+        (Place::Make(Maker::Closure), number) => Some(Deed::Go(made(party, number)?)),
+        (_, 0) => Some(Deed::Go(Made::Pending)),
+        (Place::JoinActive { .. } | Place::JoinPassive { .. }, 1) => Some(Deed::Refuse),
+        _ => None,
+    }
+}
+
+// What a party can begin that has nothing.
+fn begin_of(party: u64, ways: Ways, number: usize) -> Option<Deed> {
+    let tries = Call::TrySet(TRIED + party % 8);
+    match (number, ways) {
+        (0, Ways::Whole) => Some(Deed::Whole(tries)),
+        (0, _) => Some(Deed::Begin(tries)),
+        (1, _) => Some(Deed::Begin(Call::Initialize)),
+        (2, _) => Some(Deed::Begin(Call::Set(GIVEN))),
+        (3, _) => Some(Deed::Begin(Call::Wait)),
+        (4, Ways::Both) => Some(Deed::Whole(tries)),
+        _ => None,
+    }
+}
+
+// What a party can do that has a future: drop it, or poll it.
+fn pending_of(position: Position<()>, party: u64, ways: Ways, number: usize) -> Option<Deed> {
+    match (number, ways) {
+        (0, Ways::Whole) | (1, Ways::Both) => Some(Deed::Whole(Call::Drop)),
+        (0, _) => Some(Deed::Begin(Call::Drop)),
+        (_, Ways::Both) => poll_of(position, party, number.wrapping_sub(2)),
+        _ => poll_of(position, party, number.wrapping_sub(1)),
+    }
+}
+
+fn poll_of(position: Position<()>, party: u64, number: usize) -> Option<Deed> {
     match (position, number) {
-        (Position::Out, 0) => Some(Deed::Begin(Call::Initialize)),
-        (Position::Out, 1) => Some(Deed::Begin(Call::Set(GIVEN))),
-        (Position::Out, 2) => Some(Deed::Begin(Call::Wait)),
-        (Position::Out, 3) => Some(Deed::Begin(Call::TrySet(TRIED + party % 8))),
-        (Position::At(Place::Make(Maker::Closure)), number) => {
-            Some(Deed::Go(made(party, number)?))
-        }
-        (Position::At(_), 0) => Some(Deed::Go(Made::Pending)),
-        (Position::Making(_), 3) => Some(Deed::Drop),
         (Position::Making(_), number) => Some(Deed::Poll(made(party, number)?)),
-        (
-            Position::ToMake(_) | Position::WaitingToMake(_) | Position::ToWait | Position::Waiting,
-            0,
-        ) => Some(Deed::Poll(Made::Pending)),
-        (
-            Position::ToMake(_) | Position::WaitingToMake(_) | Position::ToWait | Position::Waiting,
-            1,
-        ) => Some(Deed::Drop),
+        (_, 0) => Some(Deed::Poll(Made::Pending)),
         _ => None,
     }
 }
@@ -219,7 +249,10 @@ fn answer(acted: Acted<End>, having: &Having<'_>) -> Answer {
         Acted::Over(End::Got) => ready(having.ready_with(), having.values()),
         Acted::Over(End::Pending) => Answer::Pending,
         Acted::Over(End::Refused(refusal)) => Answer::Refused(refusal.number()),
-        // No poll ends so.
+        Acted::Over(End::Granted) => Answer::Granted(Got::Plain),
+        Acted::Over(End::NotFree) => Answer::None,
+        Acted::Over(End::GivenBack) => Answer::GivenBack,
+        // No call ends so.
         Acted::Over(_) | Acted::Never => Answer::NotPossible,
     }
 }
@@ -240,10 +273,10 @@ impl<'a> Member<'a> {
         mem::replace(&mut self.having, having).end(bench);
     }
 
-    // Whoever's future is ready has none.
+    // Whoever's future is ready or dropped, or whose try is over, has nothing.
     fn settle<R: Wait>(&mut self, bench: &Bench<R>) {
-        if self.having.ready_with().is_some() {
-            mem::replace(&mut self.having, Having::Nothing).end(bench);
+        if matches!(self.having.position(), Position::Out) {
+            self.put(bench, Having::Nothing);
         }
     }
 
@@ -254,7 +287,7 @@ impl<'a> Member<'a> {
         self.begin(bench, task, Call::Poll, made)
     }
 
-    // The first action of a poll, which is this call in the World.
+    // The first action of a poll or of a try, which is this call in the World.
     fn begin<R: Wait>(
         &mut self,
         bench: &Bench<R>,
@@ -269,7 +302,22 @@ impl<'a> Member<'a> {
         one(What::Begin(call, inputs(true, made)), answer)
     }
 
-    // The next action of a poll.
+    // The first action of a drop.
+    fn begin_drop<R: Wait>(&mut self, bench: &Bench<R>, task: &MockTask) -> Dids {
+        let acted = self.having.begin_drop(bench, task);
+        let answer = answer(acted, &self.having);
+        self.settle(bench);
+        one(What::Begin(Call::Drop, inputs(true, Made::Pending)), answer)
+    }
+
+    // A join that is refused memory.
+    fn refuse(&mut self) -> Dids {
+        let acted = self.having.refuse();
+        let answer = answer(acted, &self.having);
+        one(What::Go(inputs(false, Made::Pending)), answer)
+    }
+
+    // The next action of a call.
     fn go<R: Wait>(&mut self, bench: &Bench<R>, task: &MockTask, made: Made) -> Dids {
         let before = self.having.position();
         self.having.steer(made);
@@ -326,10 +374,12 @@ fn place_agrees(values: Values, place: Place<u64>) -> bool {
         | Place::LeaveToMake(maker)
         | Place::Make(maker)
         | Place::RefuseActive(maker) => own_agrees(values, maker),
-        Place::Fill(value) => values.made == Some(value),
-        Place::NotifyActive(value) | Place::NotifyPassive(value) | Place::LeavePassive(value) => {
-            values.got == Some(value)
-        }
+        Place::Fill(value) | Place::TryFill(value) => values.made == Some(value),
+        Place::NotifyActive(value)
+        | Place::NotifyPassive(value)
+        | Place::TryNotifyActive(value)
+        | Place::TryNotifyPassive(value)
+        | Place::LeavePassive(value) => values.got == Some(value),
         Place::LeaveFull { maker, value } => {
             values.got == Some(value) && own_agrees(values, maker)
         }
@@ -431,8 +481,9 @@ impl Beside for CellTwin {
             party,
             what: exchanged(self.table, what),
         });
-        match what {
-            What::Begin(Call::TrySet(_) | Call::Drop, _) => self.finish(party, answer),
+        match (self.table, what) {
+            (Table::TriesWhole, What::Begin(Call::TrySet(_), _))
+            | (Table::DropsWhole, What::Begin(Call::Drop, _)) => self.finish(party, answer),
             _ => answer,
         }
     }
@@ -442,7 +493,7 @@ impl Beside for CellTwin {
 const MOST_AFTER: u32 = 3;
 
 impl CellTwin {
-    // A call that the shell carries out whole: the actions after the first one, whose answer is this, and how the call ends.
+    // The actions of a call after the first one, whose answer is this: how it ends.
     fn finish(&mut self, party: u32, answer: Answer) -> Answer {
         let mut answer = answer;
         for _ in 0..MOST_AFTER {
@@ -458,11 +509,23 @@ impl CellTwin {
     }
 }
 
-// The move, by whose inputs a World takes the row of another table.
+// The move by which a World takes the row of another table.
 fn exchanged(table: Table, what: What) -> What {
     match what {
-        What::Begin(call, inputs) => What::Begin(call, other_inputs(table, inputs)),
+        What::Begin(call, inputs) => {
+            What::Begin(other_call(table, call), other_inputs(table, inputs))
+        }
         What::Go(inputs) => What::Go(other_inputs(table, inputs)),
+    }
+}
+
+fn other_call(table: Table, call: Call) -> Call {
+    match (table, call) {
+        (Table::TriesExchanged, Call::TrySet(value)) => Call::Set(value),
+        (Table::TriesExchanged, Call::Set(value)) => Call::TrySet(value),
+        (Table::DropsExchanged, Call::Drop) => Call::Poll,
+        (Table::DropsExchanged, Call::Poll) => Call::Drop,
+        _ => call,
     }
 }
 
@@ -504,11 +567,22 @@ impl<'a> Shell for CellShell<'a> {
             world,
             table: setting.table,
         };
-        Some((CellShell { cell, members }, twin))
+        let shell = CellShell {
+            cell,
+            members,
+            ways: setting.ways,
+            refuses: setting.refuses,
+        };
+        Some((shell, twin))
     }
 
     fn end<R: Wait>(self, bench: &Bench<R>) {
-        let CellShell { cell, members } = self;
+        let CellShell {
+            cell,
+            members,
+            ways: _,
+            refuses: _,
+        } = self;
         end_all(members, bench);
         drop(cell);
     }
@@ -525,12 +599,16 @@ impl<'a> Shell for CellShell<'a> {
     }
 
     fn deed(&self, party: usize, number: usize) -> Option<Deed> {
-        let member = self.members.get(party)?;
-        deed_of(
-            member.having.position(),
-            u64::try_from(party).unwrap_or(0),
-            number,
-        )
+        let position = self.members.get(party)?.having.position();
+        let party = u64::try_from(party).unwrap_or(0);
+        match deed_of(position, party, self.ways, number) {
+            Some(Deed::Refuse) if !self.refuses => None,
+            deed => deed,
+        }
+    }
+
+    fn is_whole(deed: Deed) -> bool {
+        matches!(deed, Deed::Whole(_))
     }
 
     fn carry_out<R: Wait>(&mut self, bench: &Bench<R>, party: usize, deed: Deed) -> Dids {
@@ -545,14 +623,16 @@ impl<'a> Shell for CellShell<'a> {
         };
         member.is_fresh = false;
         match deed {
-            Deed::Begin(Call::TrySet(value)) => tried(&shared, bench, value),
+            Deed::Whole(Call::TrySet(value)) => tried(&shared, bench, value),
+            Deed::Whole(_) => member.drop(bench),
+            Deed::Begin(Call::Drop) => member.begin_drop(bench, task),
             Deed::Begin(call) => {
                 member.put(bench, Having::new(shared, call));
                 member.begin(bench, task, call, Made::Pending)
             }
             Deed::Poll(made) => member.poll(bench, task, made),
             Deed::Go(made) => member.go(bench, task, made),
-            Deed::Drop => member.drop(bench),
+            Deed::Refuse => member.refuse(),
         }
     }
 

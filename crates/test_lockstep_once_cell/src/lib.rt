@@ -15,3 +15,5 @@ mod makers;
 mod party;
 #[cfg(test)]
 mod setting;
+#[cfg(test)]
+mod trial;

@@ -3,13 +3,14 @@
 ghost use Rattle.std.specs.Prelude.{◌≡◌, Some};
 
 use crate::makers::{Fault, Steered};
+use async_driver::Carries;
 use futures::test::MockTask;
 use lock_event::EntryId;
 use lock_program::End;
 use lockstep::{Acted, Bench, Walker};
 use once_cell_driver::{Maker, Origin, Polling, RawCell, Resting};
 use std::sync::{Arc, Wait};
-use sync_program::once_cell::{CellCall, Got, Left, ListName, Place, Position};
+use sync_program::once_cell::{CellCall, Found, Got, Left, ListName, Place, Position, start};
 use world_base::Made;
 
 /// A future with what it has at its cell.
@@ -77,6 +78,93 @@ pub(crate) fn go<E: Drop, M: Maker<u64, E>, O: Origin<M>, R: Wait>(
     task: &MockTask,
 ) -> Acted<End> {
     task.enter(|cx| walker.go(bench, cx))
+}
+
+/// The first action of a drop. The driver begins polls alone, and so the place is the one at which the table begins a drop; what is
+/// done there, and the places after it, are the driver's.
+pub(crate) fn begin_drop<E: Drop, M: Maker<u64, E>, O: Origin<M>, R: Wait>(
+    walker: &mut Party<'_, E, M, O>,
+    bench: &Bench<R>,
+    task: &MockTask,
+) -> Acted<End> {
+    if turn_to_drop(walker) {
+        go(walker, bench, task)
+    } else {
+        Acted::Never
+    }
+}
+
+// Where the table begins a drop of a party that is here.
+fn first_of_drop(place: Left<()>) -> Option<Place<()>> {
+    match place {
+        Left::Outside(position) => start(CellCall::Drop, position),
+        Left::Ready(_) => None,
+    }
+}
+
+// Puts a party to where the table begins its drop, if it can be dropped: it has already what its place there says, which its
+// type keeps.
+fn turn_to_drop<E: Drop, M: Maker<u64, E>, O: Origin<M>>(walker: &mut Party<'_, E, M, O>) -> bool {
+    match (walker.place, first_of_drop(walker.place)) {
+        (Left::Outside(Position::WaitingToMake(_)), Some(Place::CancelLeave(ListName::Active))) => {
+            walker.place = Left::Outside(Position::At(Place::CancelLeave(ListName::Active)));
+            true
+        }
+        (Left::Outside(Position::Waiting), Some(Place::CancelLeave(ListName::Passive))) => {
+            walker.place = Left::Outside(Position::At(Place::CancelLeave(ListName::Passive)));
+            true
+        }
+        (Left::Outside(Position::Making(_)), Some(Place::CancelMake)) => {
+            walker.place = Left::Outside(Position::At(Place::CancelMake));
+            true
+        }
+        (Left::Outside(Position::ToMake(_) | Position::ToWait), Some(Place::Abandon)) => {
+            walker.place = Left::Outside(Position::At(Place::Abandon));
+            true
+        }
+        _ => false,
+    }
+}
+
+/// A join that is refused memory: it changes nothing, and the driver goes on as from one that found none.
+pub(crate) fn refuse<E: Drop, M: Maker<u64, E>, O: Origin<M>>(
+    walker: &mut Party<'_, E, M, O>,
+) -> Acted<End> {
+    let (next, end) = <Polling<'_, u64, E, M, O> as Carries>::decide(walker.place, Found::NoMemory);
+    match (turn_back(walker, next), end) {
+        (false, _) => Acted::Never,
+        (true, Some(end)) => Acted::Over(end),
+        (true, None) => Acted::On,
+    }
+}
+
+// Puts a party that has to join to the place after a refusal, if that is this one: it has already what that place says.
+fn turn_back<E: Drop, M: Maker<u64, E>, O: Origin<M>>(
+    walker: &mut Party<'_, E, M, O>,
+    next: Left<()>,
+) -> bool {
+    let (Left::Outside(Position::At(place)), Left::Outside(next)) = (walker.place, next) else {
+        return false;
+    };
+    match (place, next) {
+        (Place::JoinActive { maker, told: true }, Position::At(Place::RefuseActive(_))) => {
+            walker.place = Left::Outside(Position::At(Place::RefuseActive(maker)));
+            true
+        }
+        (Place::JoinActive { maker, told: false }, Position::ToMake(_)) => {
+            walker.place = Left::Outside(Position::ToMake(maker));
+            true
+        }
+        (Place::JoinPassive { told: true }, Position::At(Place::RefusePassive)) => {
+            walker.place = Left::Outside(Position::At(Place::RefusePassive));
+            true
+        }
+        (Place::JoinPassive { told: false }, Position::ToWait) => {
+            walker.place = Left::Outside(Position::ToWait);
+            true
+        }
+        _ => false,
+    }
 }
 
 /// Says what the maker gives next, where it is asked next.
@@ -160,6 +248,10 @@ pub(crate) fn end<E: Drop, M: Maker<u64, E>, O: Origin<M>, R: Wait>(
     let party = party.into_party();
     match place {
         Left::Ready(Got::Value(())) | Left::Ready(Got::Taken(())) | Left::Ready(Got::Failed) => {
+            let _ = party.end(&shared);
+        }
+        // One that was dropped, and one whose try found that another makes, have nothing.
+        Left::Outside(Position::Out | Position::At(Place::JoinActive { told: false, .. })) => {
             let _ = party.end(&shared);
         }
         Left::Outside(
