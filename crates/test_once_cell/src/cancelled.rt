@@ -1,7 +1,7 @@
 //! Futures that are dropped while they are pending, with another behind them.
 
-use crate::polls::{assert_same, fresh, pends, task};
-use crate::steered::Step;
+use crate::polls::{assert_same, ended, fresh, is_unlisted, pends, task};
+use crate::steered::{Step, Sure};
 use async_once_cell::{OnceCell, Settled};
 use futures::Future;
 use futures::task::{Context, Poll};
@@ -206,6 +206,52 @@ fn a_dropped_set_leaves_its_list(rt: HostRuntime) {
     drop(setting);
     assert!(rt; three.is_woken());
     assert_same(&rt, three.poll(&mut behind), Poll::Ready(Ok(Ok(&2))));
+}
+
+// A set that was notified, and is ended before it looks: its value comes back, and the next is woken.
+#[test]
+fn a_set_that_is_ended_gives_its_value_back(rt: HostRuntime) {
+    let (one, two, three) = (task(&rt), task(&rt), task(&rt));
+    let step = Step::new();
+    let cell = fresh::<u64, _>(rt);
+    let mut making = Settled(cell.get_or_try_init(|| step.future()));
+    let mut setting = Settled(cell.set(1));
+    let mut behind = Settled(cell.set(2));
+    assert!(rt; pends(&one, &mut making));
+    assert!(rt; pends(&two, &mut setting));
+    assert!(rt; pends(&three, &mut behind));
+    drop(making);
+    assert!(rt; two.is_woken() && !three.is_woken());
+    assert_same(&rt, ended(setting), Some(1));
+    assert!(rt; three.is_woken() && !cell.is_initialized());
+    assert_same(&rt, three.poll(&mut behind), Poll::Ready(Ok(Ok(&2))));
+    assert!(rt; is_unlisted(&cell));
+    assert_same(&rt, ended(behind), None);
+}
+
+// One that a value told, and is dropped before it looks: those behind it are woken all the same, of each kind.
+#[test]
+fn a_dropped_future_that_a_value_told_leaves_the_others_woken(rt: HostRuntime) {
+    let (one, two, three, four) = (task(&rt), task(&rt), task(&rt), task(&rt));
+    let (first, second, third) = (Step::new(), Step::new(), Step::new());
+    let cell = fresh::<u64, _>(rt);
+    let mut making = Settled(cell.get_or_try_init(|| first.future()));
+    let mut told = Settled(cell.get_or_try_init(|| second.future()));
+    let mut behind = Settled(cell.get_or_init(|| Sure(third.future())));
+    let mut setting = Settled(cell.set(4));
+    assert!(rt; pends(&one, &mut making));
+    assert!(rt; pends(&two, &mut told));
+    assert!(rt; pends(&three, &mut behind));
+    assert!(rt; pends(&four, &mut setting));
+    first.gives(1);
+    assert_same(&rt, one.poll(&mut making), Poll::Ready(Ok(Ok(&1))));
+    assert!(rt; two.is_woken());
+    drop(told);
+    assert!(rt; three.is_woken() && four.is_woken());
+    assert_same(&rt, three.poll(&mut behind), Poll::Ready(Ok(&1)));
+    assert_same(&rt, four.poll(&mut setting), Poll::Ready(Ok(Err(4))));
+    assert_same(&rt, (second.counts(), third.counts()), ((0, 0), (0, 0)));
+    assert!(rt; is_unlisted(&cell));
 }
 
 // A future that was never polled gives nothing back, and calls no closure.

@@ -1,27 +1,12 @@
 //! Values that count their drops: each is dropped once, whichever way it goes.
 
+use crate::counter::{Counts, drops};
 use crate::polls::{assert_same, fresh, full, pends, task};
 use crate::steered::Step;
 use async_once_cell::Settled;
 use futures::task::{Context, Poll, Source, Waker};
 use futures::{Future, future};
-use std::sync::atomic::{AtomicU64, Ordering};
-
-/// Adds one where it is dropped.
-struct Counts<'c> {
-    drops: &'c AtomicU64,
-}
-
-impl Drop for Counts<'_> {
-    fn drop(self) {
-        let Self { drops } = self;
-        drops.fetch_add(1, Ordering::SeqCst);
-    }
-}
-
-fn drops(count: &AtomicU64) -> u64 {
-    count.load(Ordering::SeqCst)
-}
+use std::sync::atomic::AtomicU64;
 
 /// A future that never gives one.
 struct Never<'c> {

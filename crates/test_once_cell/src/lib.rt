@@ -4,13 +4,21 @@
 #[cfg(test)]
 mod cancelled;
 #[cfg(test)]
+mod closures;
+#[cfg(test)]
 mod counted;
 #[cfg(test)]
+mod counter;
+#[cfg(test)]
 mod examples;
+#[cfg(test)]
+mod many;
 #[cfg(test)]
 mod polls;
 #[cfg(test)]
 mod rows;
+#[cfg(test)]
+mod sets;
 #[cfg(test)]
 mod steered;
 #[cfg(test)]

@@ -2,7 +2,8 @@
 
 ghost use Rattle.std.specs.Prelude.{◌≡◌, true};
 
-use async_once_cell::{OnceCell, Polled, Turn};
+use async_once_cell::lock_futures::Set;
+use async_once_cell::{OnceCell, Polled, Settled, Turn};
 use futures::Future;
 use futures::task::{Context, Poll};
 use futures::test::MockTask;
@@ -10,9 +11,10 @@ use std::alloc::AllocGlobal;
 use std::fmt::Debug;
 use std::process::Abort;
 use std::random::RandomSource;
+use std::sync::Wait;
 
 // Why a test here stops where memory is refused.
-const AMPLE: &str = "memory is ample";
+pub(crate) const AMPLE: &str = "memory is ample";
 
 /// An empty cell.
 pub(crate) fn fresh<T: Drop, R: AllocGlobal + Abort + Copy + Drop>(rt: R) -> OnceCell<T, R> {
@@ -32,6 +34,17 @@ pub(crate) fn task<R: RandomSource + AllocGlobal + Abort>(rt: &R) -> MockTask {
     let task = MockTask::new(rt).expect(rt, AMPLE);
     task.enter(|_| ());
     task
+}
+
+/// Whether nobody stands in either list of a cell.
+pub(crate) fn is_unlisted<T, R>(cell: &OnceCell<T, R>) -> bool {
+    !cell.raw().active().is_listed() && !cell.raw().passive().is_listed()
+}
+
+/// Ends a set, and returns its value, if it wasn't ready.
+pub(crate) fn ended<T: Drop, R: Wait>(setting: Settled<Set<'_, T, R>>) -> Option<T> {
+    let Settled(set) = setting;
+    set.into_value()
 }
 
 /// Polls a future once, and says whether it is pending, and so may be polled again.

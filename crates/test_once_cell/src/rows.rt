@@ -1,6 +1,6 @@
 //! What each call answers, by futures and by blocking calls.
 
-use crate::polls::{Twice, assert_same, fresh, full, pends, task};
+use crate::polls::{Twice, assert_same, fresh, full, is_unlisted, pends, task};
 use crate::steered::{Step, Sure};
 use async_once_cell::{InitFault, Refusal, SetFault, Settled, Turn};
 use futures::executor::block_on;
@@ -31,6 +31,7 @@ fn a_dropped_maker_leaves_the_making_to_the_next(rt: HostRuntime) {
         Poll::Ready(Ok(Err(2))),
     );
     assert_same(&rt, (cell.get(), second.counts()), (Some(&7), (1, 1)));
+    assert!(rt; is_unlisted(&cell));
 }
 
 // A failure leaves the cell empty, a value fills it, and a later failure isn't asked for: by futures.

@@ -1,7 +1,7 @@
 //! Who is woken when the cell is filled, or its maker fails.
 
-use crate::polls::{assert_same, fresh, pends, task};
-use crate::steered::Step;
+use crate::polls::{assert_same, fresh, is_unlisted, pends, task};
+use crate::steered::{Step, Sure};
 use async_once_cell::Settled;
 use futures::task::Poll;
 
@@ -77,6 +77,49 @@ fn a_failure_wakes_the_next_that_would_make_one(rt: HostRuntime) {
     assert_same(&rt, two.poll(&mut waiting), Poll::Ready(Ok(Ok(&6))));
     assert!(rt; three.is_woken());
     assert_same(&rt, three.poll(&mut reading), Poll::Ready(Ok(&6)));
+}
+
+// So it does where the next can't fail itself.
+#[test]
+fn a_failure_wakes_the_next_that_can_not_fail(rt: HostRuntime) {
+    let (one, two) = (task(&rt), task(&rt));
+    let (first, second) = (Step::new(), Step::new());
+    let cell = fresh::<u64, _>(rt);
+    let mut making = Settled(cell.get_or_try_init(|| first.future()));
+    let mut waiting = Settled(cell.get_or_init(|| Sure(second.future())));
+    assert!(rt; pends(&one, &mut making));
+    assert!(rt; pends(&two, &mut waiting));
+    first.fails();
+    assert!(rt; !two.is_woken());
+    assert_same(&rt, one.poll(&mut making), Poll::Ready(Ok(Err(()))));
+    assert!(rt; two.is_woken());
+    assert_same(&rt, second.counts(), (0, 0));
+    second.gives(6);
+    assert_same(&rt, two.poll(&mut waiting), Poll::Ready(Ok(&6)));
+    assert_same(&rt, (cell.get(), second.counts()), (Some(&6), (1, 1)));
+    assert!(rt; is_unlisted(&cell));
+}
+
+// A maker that is dropped wakes the next one alone, of makers that can't fail as well.
+#[test]
+fn a_dropped_maker_wakes_the_next_that_can_not_fail(rt: HostRuntime) {
+    let (one, two, three) = (task(&rt), task(&rt), task(&rt));
+    let (first, second, third) = (Step::new(), Step::new(), Step::new());
+    let cell = fresh::<u64, _>(rt);
+    let mut making = Settled(cell.get_or_init(|| Sure(first.future())));
+    let mut waiting = Settled(cell.get_or_init(|| Sure(second.future())));
+    let mut behind = Settled(cell.get_or_try_init(|| third.future()));
+    assert!(rt; pends(&one, &mut making));
+    assert!(rt; pends(&two, &mut waiting));
+    assert!(rt; pends(&three, &mut behind));
+    drop(making);
+    assert!(rt; two.is_woken() && !three.is_woken());
+    second.gives(7);
+    assert_same(&rt, two.poll(&mut waiting), Poll::Ready(Ok(&7)));
+    assert!(rt; three.is_woken());
+    assert_same(&rt, three.poll(&mut behind), Poll::Ready(Ok(Ok(&7))));
+    assert_same(&rt, (second.counts(), third.counts()), ((1, 1), (0, 0)));
+    assert!(rt; is_unlisted(&cell));
 }
 
 // A set that waited puts its value in once the maker failed.
