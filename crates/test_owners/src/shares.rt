@@ -15,7 +15,7 @@ use std::time::{Clock, Duration};
 const AMPLE: &str = "memory is ample";
 
 // A task that counts as not woken before its first poll; none where memory is refused.
-fn task<R: RandomSource + AllocGlobal>(rt: &R) -> Option<MockTask> {
+pub(crate) fn task<R: RandomSource + AllocGlobal>(rt: &R) -> Option<MockTask> {
     let task = MockTask::new(rt).ok()?;
     task.enter(|_| ());
     Some(task)

@@ -16,6 +16,4 @@ mod scene;
 #[cfg(test)]
 mod stories;
 #[cfg(test)]
-mod surface;
-#[cfg(test)]
 mod threads;

@@ -64,7 +64,7 @@ impl Drop for Tasks {
 }
 
 /// A task that counts as not woken before its first poll; none where memory is refused.
-pub(crate) fn task<R: RandomSource + AllocGlobal>(rt: &R) -> Option<MockTask> {
+fn task<R: RandomSource + AllocGlobal>(rt: &R) -> Option<MockTask> {
     let task = MockTask::new(rt).ok()?;
     task.enter(|_| ());
     Some(task)

@@ -1,7 +1,7 @@
 //! How semaphores, guards and futures are shown, and what an owned future keeps.
 
 use crate::same::assert_same;
-use crate::scene::task;
+use crate::shares::task;
 use async_semaphore::{Refusal, Semaphore, Settled};
 use futures::task::Poll;
 use std::alloc::AllocGlobal;
