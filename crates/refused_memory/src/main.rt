@@ -25,6 +25,7 @@ use std::process::ExitCode;
 use std::thread::Threads;
 use std::{env, io};
 use token::Counts;
+use waits::Behind;
 
 // As many allocations as the argument says.
 fn throw_away(rt: HostRuntime) -> Option<()> {
@@ -115,6 +116,28 @@ fn blocked<R: Runtime + Threads + Send + Sync>(book: &Book<R>) -> Option<(usize,
     Some((permits, value, written, waits::upgraded(book, &lock)?))
 }
 
+// Whether a set behind a maker that fails puts its value in, and initialisations behind others give the maker's.
+fn behind_makers<R: Runtime + Threads + Sync>(book: &Book<R>, counts: &Counts) -> Option<bool> {
+    let (failed, set) = waits::beside_maker(book, counts, &new_cell(book)?, Behind::Set)?;
+    let (made, found) = waits::beside_maker(book, counts, &new_cell(book)?, Behind::Init)?;
+    let (tried, got) = waits::beside_maker(book, counts, &new_cell(book)?, Behind::TryInit)?;
+    let initialised = made == 5 && found == 5 && tried == 5 && got == 5;
+    Some(failed == 4 && set == 6 && initialised)
+}
+
+// What [`blocked`] finds, if the calls behind makers give what they should.
+fn waited<R: Runtime + Threads + Send + Sync>(
+    book: &Book<R>,
+    counts: &Counts,
+) -> Option<(usize, u64, u64, u64)> {
+    let found = blocked(book)?;
+    if behind_makers(book, counts)? {
+        Some(found)
+    } else {
+        None
+    }
+}
+
 fn print_all<R: Runtime + Print + Threads + Send + Sync>(
     rt: R,
     book: &Book<R>,
@@ -126,7 +149,7 @@ fn print_all<R: Runtime + Print + Threads + Send + Sync>(
     println!(rt; "once-cell: {:?}", book.found(cells(book, counts)))?;
     println!(rt; "barrier: {:?}", book.found(barriers(book)))?;
     println!(rt; "two threads: {:?}", book.found(in_threads(book)))?;
-    println!(rt; "waits: {:?}", book.found(blocked(book)))?;
+    println!(rt; "waits: {:?}", book.found(waited(book, counts)))?;
     println!(rt; "values left: {}", counts.alive())
 }
 

@@ -7,7 +7,8 @@ use crate::token::{Counts, Token};
 use async_lock::{InitFault, OnceCell, Refusal, SetFault};
 use futures::future::{Pending, Ready, pending, ready};
 
-type Cell<'c, R> = OnceCell<Token<'c>, R>;
+/// A cell of values that are counted.
+pub(crate) type Cell<'c, R> = OnceCell<Token<'c>, R>;
 
 /// An empty cell.
 pub(crate) fn new_cell<'c, R: Runtime>(book: &Book<R>) -> Option<Cell<'c, R>> {
@@ -87,8 +88,8 @@ fn number(token: Option<&Token<'_>>) -> u64 {
     }
 }
 
-// A set that blocks; where it is refused memory, the same value once more.
-fn set_twice<'a, 'c, R: Runtime>(
+/// A set that blocks; where it is refused memory, the same value once more.
+pub(crate) fn set_twice<'a, 'c, R: Runtime>(
     book: &Book<R>,
     name: &str,
     cell: &'a Cell<'c, R>,

@@ -1,13 +1,15 @@
 //! Blocking calls that have to wait: another thread gives what they wait for, some time after they have begun.
 
 use crate::book::{Book, Runtime, twice};
-use async_lock::{OnceCell, RwLock, RwLockUpgradableReadGuard, Semaphore};
+use crate::once_cell::{Cell, set_twice};
+use crate::token::{Counts, Token};
+use async_lock::{InitFault, OnceCell, Refusal, RwLock, RwLockUpgradableReadGuard, Semaphore};
 use std::sync::Arc;
 use std::sync::atomic::{AtomicU64, Ordering};
 use std::thread::{self, Threads};
 
 /// How often a thread gives way before it gives what another waits for.
-const PAUSE: u64 = 2_000;
+const PAUSE: u64 = 400;
 
 /// How often it gives way at most, until the other has begun.
 const ENOUGH: u64 = 200_000;
@@ -150,6 +152,107 @@ pub(crate) fn value<R: Runtime + Threads + Sync>(
         },
     );
     if set { found } else { None }
+}
+
+/// A blocking call of a cell that comes while another thread makes the cell's value.
+#[derive(Clone, Copy)]
+pub(crate) enum Behind {
+    /// A set, behind a maker that fails.
+    Set,
+    /// An initialisation, behind a maker that gives a value.
+    Init,
+    /// The same by a maker that may fail.
+    TryInit,
+}
+
+// What an initialisation gave that may fail: its value's number, or what it failed with.
+fn number_of(tried: Result<&Token<'_>, InitFault<u64>>) -> Result<u64, Refusal> {
+    match tried {
+        Ok(value) => Ok(value.number),
+        Err(InitFault::Closure(fault)) => Ok(fault),
+        Err(InitFault::Refused(refusal)) => Err(refusal),
+    }
+}
+
+// An initialisation whose closure owns the value that it gives: a closure that isn't called drops it.
+fn init_with<'c, R: Runtime>(cell: &Cell<'c, R>, spare: Token<'c>) -> Result<u64, Refusal> {
+    let value = cell.get_or_init_blocking(move || spare)?;
+    Ok(value.number)
+}
+
+// As [`init_with`], by a maker that may fail.
+fn try_init_with<'c, R: Runtime>(cell: &Cell<'c, R>, spare: Token<'c>) -> Result<u64, Refusal> {
+    number_of(cell.get_or_try_init_blocking(move || Ok(spare)))
+}
+
+// Fails before a set, and else gives a value, but not until the other thread may have begun to wait.
+fn late<'c>(counts: &'c Counts, steps: &Steps, call: Behind) -> Result<Token<'c>, u64> {
+    steps.reach(1);
+    steps.pause_after(2);
+    match call {
+        Behind::Set => Err(4),
+        Behind::Init | Behind::TryInit => Ok(counts.token(5)),
+    }
+}
+
+// What the maker gives, or what it fails with.
+fn make_late<'c, R: Runtime>(
+    book: &Book<R>,
+    counts: &'c Counts,
+    cell: &Cell<'c, R>,
+    steps: &Steps,
+    call: Behind,
+) -> Option<u64> {
+    twice!(
+        book,
+        "OnceCell::get_or_try_init_blocking, the maker",
+        number_of(cell.get_or_try_init_blocking(|| late(counts, steps, call)))
+    )
+}
+
+// The number of the value that the call gives, once the other thread has begun to make one.
+fn call_behind<'c, R: Runtime>(
+    book: &Book<R>,
+    counts: &'c Counts,
+    cell: &Cell<'c, R>,
+    steps: &Steps,
+    call: Behind,
+) -> Option<u64> {
+    steps.wait_for(1);
+    steps.reach(2);
+    match call {
+        Behind::Set => {
+            let name = "OnceCell::set_blocking, a maker";
+            let set = set_twice(book, name, cell, counts.token(6));
+            Some(set.ok()?.number)
+        }
+        Behind::Init => twice!(
+            book,
+            "OnceCell::get_or_init_blocking, a maker",
+            init_with(cell, counts.token(6))
+        ),
+        Behind::TryInit => twice!(
+            book,
+            "OnceCell::get_or_try_init_blocking, a maker",
+            try_init_with(cell, counts.token(6))
+        ),
+    }
+}
+
+/// What the maker of a cell gave or failed with, and the number of the value that the call behind it gives.
+pub(crate) fn beside_maker<'c, R: Runtime + Threads + Sync>(
+    book: &Book<R>,
+    counts: &'c Counts,
+    cell: &Cell<'c, R>,
+    call: Behind,
+) -> Option<(u64, u64)> {
+    let steps = &Steps::new();
+    let (given, made) = thread::join(
+        &book.rt(),
+        || call_behind(book, counts, cell, steps, call),
+        || make_late(book, counts, cell, steps, call),
+    );
+    Some((made?, given?))
 }
 
 // Reads, reads upgradably and writes, each while another thread still writes: what is written in the end, if both read what it
