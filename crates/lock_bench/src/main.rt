@@ -14,7 +14,7 @@ mod waiting;
 use async_lock::{Barrier, Mutex, OnceCell, RwLock, Semaphore};
 use barrier::{RoundOfFour, RoundOfOne};
 use futures::test::MockTask;
-use once_cell::{Get, InitBlocking, InitReady, NewSetAndEnd, WaitReady};
+use once_cell::{Filling, Fresh, Get, InitBlocking, InitReady, WaitReady};
 use rows::{BlockingPair, HeldTry, LockArcPair, LockPair, NewPair, StdPair, TryArcPair, TryPair};
 use rwlock::{Pair, Use};
 use std::alloc::AllocGlobal;
@@ -251,13 +251,18 @@ where
         &InitBlocking { cell },
         OFTEN,
     )?;
-    print(
-        rt,
-        "new cell, try_set, into_inner",
-        &NewSetAndEnd { rt },
-        SELDOM,
-    )
+    for (name, filling) in NEW_CELLS {
+        print(rt, name, &Fresh { rt, task, filling }, SELDOM)?;
+    }
+    Ok(())
 }
+
+/// What is timed of a new cell.
+const NEW_CELLS: [(&str, Filling); 3] = [
+    ("new cell, into_inner", Filling::Nothing),
+    ("new cell, try_set, into_inner", Filling::Try),
+    ("new cell, set ready, into_inner", Filling::Set),
+];
 
 /// Rounds at a barrier, for each wait.
 fn print_barriers<R>(rt: &R, task: &MockTask) -> io::Result<()>

@@ -87,19 +87,47 @@ impl<R: Wait + Clock + RandomSource + AllocGlobal> Row for InitBlocking<'_, R> {
     }
 }
 
-/// A new cell, a value put in at once, and the value taken out at its end.
-#[derive(Drop)]
-pub(crate) struct NewSetAndEnd<'a, R> {
-    pub rt: &'a R,
+/// What is done with a new cell.
+#[derive(Clone, Copy)]
+pub(crate) enum Filling {
+    Nothing,
+    /// `try_set`.
+    Try,
+    /// `set`, ready at its first poll.
+    Set,
 }
 
-impl<R: Wait + AllocGlobal + Copy + Drop> Row for NewSetAndEnd<'_, R> {
+/// A new cell, a value put in or not, and the cell's end.
+#[derive(Drop)]
+pub(crate) struct Fresh<'a, 'b, R> {
+    pub rt: &'a R,
+    pub task: &'b MockTask,
+    pub filling: Filling,
+}
+
+impl<R: Wait + Clock + AllocGlobal + Copy + Drop> Row for Fresh<'_, '_, R> {
     fn go(&self, times: u64) {
-        for _ in 0..times {
-            if let Ok(cell) = OnceCell::new(*self.rt) {
-                black_box(cell.try_set(black_box(7_u64)).is_ok());
+        let rt = *self.rt;
+        let filling = self.filling;
+        self.task.enter(|cx| {
+            for _ in 0..times {
+                let Ok(cell) = OnceCell::new(rt) else {
+                    return;
+                };
+                match filling {
+                    Filling::Nothing => {}
+                    Filling::Try => {
+                        black_box(cell.try_set(black_box(7_u64)).is_ok());
+                    }
+                    Filling::Set => {
+                        let mut set = cell.set(black_box(7_u64));
+                        if let Turn::Ready(Ok(value)) = set.poll(cx) {
+                            black_box(*value);
+                        }
+                    }
+                }
                 black_box(cell.into_inner());
             }
-        }
+        });
     }
 }
