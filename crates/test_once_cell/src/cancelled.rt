@@ -1,10 +1,10 @@
 //! Futures that are dropped while they are pending, with another behind them.
 
-use crate::polls::{assert_same, ended, fresh, is_unlisted, pends, task};
-use crate::steered::{Step, Sure};
+use crate::ample::{assert_same, fresh, task};
 use async_once_cell::{OnceCell, Settled};
 use futures::Future;
 use futures::task::{Context, Poll};
+use once_cell_scene::{Step, Sure, ended, is_unlisted, pends};
 use std::mem;
 use std::sync::Wait;
 use std::sync::atomic::{AtomicBool, Ordering};

@@ -1,6 +1,6 @@
 //! The examples of the Rust crate's pages, under the names of their calls.
 
-use crate::polls::{assert_same, fresh, full};
+use crate::ample::{assert_same, fresh, full};
 use async_once_cell::{InitFault, OnceCell, SetFault, Settled};
 use futures::executor::block_on;
 use futures::future;

@@ -1,11 +1,11 @@
 //! What each call answers, by futures and by blocking calls.
 
-use crate::polls::{Twice, assert_same, fresh, full, is_unlisted, pends, task};
-use crate::steered::{Step, Sure};
+use crate::ample::{assert_same, fresh, full, task};
 use async_once_cell::{InitFault, Refusal, SetFault, Settled, Turn};
 use futures::executor::block_on;
 use futures::future;
 use futures::task::Poll;
+use once_cell_scene::{Step, Sure, Twice, is_unlisted, pends};
 
 // A maker is dropped: the next one is woken and makes. A try is refused meanwhile, and a set of a full cell has its value back.
 #[test]

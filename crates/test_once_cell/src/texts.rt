@@ -1,8 +1,8 @@
 //! How cells and their futures are shown.
 
-use crate::polls::{assert_same, fresh, pends, task};
-use crate::steered::{Step, Sure};
+use crate::ample::{assert_same, fresh, task};
 use async_once_cell::Settled;
+use once_cell_scene::{Step, Sure, pends};
 use std::alloc::AllocGlobal;
 use std::fmt;
 use std::process::Abort;

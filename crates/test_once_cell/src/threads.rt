@@ -1,6 +1,6 @@
 //! Threads that would all make the value of one cell.
 
-use crate::polls::{assert_same, fresh};
+use crate::ample::{assert_same, fresh};
 use async_once_cell::{InitFault, OnceCell};
 use std::alloc::{AllocGlobal, Global};
 use std::process::Abort;

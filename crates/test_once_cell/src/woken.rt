@@ -1,9 +1,9 @@
 //! Who is woken when the cell is filled, or its maker fails.
 
-use crate::polls::{assert_same, fresh, is_unlisted, pends, task};
-use crate::steered::{Step, Sure};
+use crate::ample::{assert_same, fresh, task};
 use async_once_cell::Settled;
 use futures::task::Poll;
+use once_cell_scene::{Step, Sure, is_unlisted, pends};
 
 // Both that wait are woken, and read the value.
 #[test]

@@ -10,7 +10,7 @@ const FAILED: u64 = u64::MAX - 1;
 
 /// What a steered future does: it is pending until it is told a value or a failure. It counts its futures, and those that were
 /// dropped.
-pub(crate) struct Step {
+pub struct Step {
     next: AtomicU64,
     made: AtomicU64,
     dropped: AtomicU64,
@@ -30,7 +30,7 @@ impl Drop for Step {
 
 impl Step {
     /// Pending.
-    pub(crate) fn new() -> Step {
+    pub fn new() -> Step {
         Step {
             next: AtomicU64::new(PENDING),
             made: AtomicU64::new(0),
@@ -40,17 +40,17 @@ impl Step {
     }
 
     /// From now on it gives this value.
-    pub(crate) fn gives(&self, value: u64) {
+    pub fn gives(&self, value: u64) {
         self.next.store(value, Ordering::SeqCst);
     }
 
     /// From now on it fails.
-    pub(crate) fn fails(&self) {
+    pub fn fails(&self) {
         self.next.store(FAILED, Ordering::SeqCst);
     }
 
     /// A future of it.
-    pub(crate) fn future(&self) -> Steered<'_> {
+    pub fn future(&self) -> Steered<'_> {
         self.made.fetch_add(1, Ordering::SeqCst);
         Steered {
             step: self,
@@ -59,7 +59,7 @@ impl Step {
     }
 
     /// How many futures were made, and how many of them dropped.
-    pub(crate) fn counts(&self) -> (u64, u64) {
+    pub fn counts(&self) -> (u64, u64) {
         (
             self.made.load(Ordering::SeqCst),
             self.dropped.load(Ordering::SeqCst),
@@ -68,7 +68,7 @@ impl Step {
 }
 
 /// A future of a step.
-pub(crate) struct Steered<'s> {
+pub struct Steered<'s> {
     step: &'s Step,
     waker: Option<Waker>,
 }
@@ -94,7 +94,7 @@ impl Drop for Steered<'_> {
 
 /// A steered future that never fails.
 #[derive(Drop)]
-pub(crate) struct Sure<'s>(pub(crate) Steered<'s>);
+pub struct Sure<'s>(pub Steered<'s>);
 
 impl Future for Sure<'_> {
     type Output = u64;

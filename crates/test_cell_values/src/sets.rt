@@ -1,10 +1,9 @@
 //! Values of sets, and failures, that count their drops: each is dropped once, whichever way it goes.
 
-use crate::counter::{Counted, Counts, drops};
-use crate::polls::{assert_same, ended, fresh, pends, task};
-use crate::steered::Step;
+use crate::ample::{assert_same, fresh, task};
 use async_once_cell::Settled;
 use futures::task::Poll;
+use once_cell_scene::{Counted, Counts, Step, drops, ended, pends};
 use std::sync::atomic::AtomicU64;
 
 // A set waits behind a maker, which fails: the failure is its owner's, and the set's value enters the cell.

@@ -1,11 +1,10 @@
 //! Values that count their drops: each is dropped once, whichever way it goes.
 
-use crate::counter::{Counts, drops};
-use crate::polls::{assert_same, fresh, full, pends, task};
-use crate::steered::Step;
+use crate::ample::{assert_same, fresh, full, task};
 use async_once_cell::Settled;
 use futures::task::{Context, Poll, Source, Waker};
 use futures::{Future, future};
+use once_cell_scene::{Counts, Step, drops, pends};
 use std::sync::atomic::AtomicU64;
 
 /// A future that never gives one.

@@ -1,12 +1,12 @@
 //! Many that wait at once: whatever fills the cell wakes all of them.
 
-use crate::polls::{AMPLE, assert_same, fresh, is_unlisted, pends, task};
-use crate::steered::{Step, Sure};
-use async_once_cell::lock_futures::Wait;
+use crate::ample::{AMPLE, assert_same, fresh, task};
+use async_once_cell::lock_futures::{Set, Wait};
 use async_once_cell::{OnceCell, Settled};
 use futures::future;
 use futures::task::Poll;
 use futures::test::MockTask;
+use once_cell_scene::{Step, Sure, is_unlisted, pends};
 use std::alloc::AllocGlobal;
 use std::process::Abort;
 use std::random::RandomSource;
@@ -131,35 +131,55 @@ fn a_makers_value_wakes_five_that_would_make_one(rt: HostRuntime) {
     assert!(rt; is_unlisted(&cell));
 }
 
-// Five that would make the value, the first of which a dropped maker told: a try that comes before it wakes them all.
+/// A pending set of a number of its own, and the task that polls it.
+#[derive(Drop)]
+struct Setter<'a, R: Waits> {
+    task: MockTask,
+    number: u64,
+    set: Settled<Set<'a, u64, R>>,
+}
+
+// So many, with the numbers from 0 on.
+fn setters<'a, R>(rt: &R, cell: &'a OnceCell<u64, R>, count: u64) -> Vec<Setter<'a, R>>
+where
+    R: Waits + Clock + RandomSource + AllocGlobal + Abort,
+{
+    let mut all = Vec::new(rt.alloc());
+    for number in 0..count {
+        let task = task(rt);
+        let mut set = Settled(cell.set(number));
+        assert!(rt; pends(&task, &mut set));
+        all.push(Setter { task, number, set }).expect(rt, AMPLE);
+    }
+    all
+}
+
+// Many that would put a value in, behind one that would make it and that a dropped maker told: a try that comes before it wakes all, and
+// each has its own value back.
 #[test]
-fn a_try_wakes_five_that_would_make_one(rt: HostRuntime) {
-    let one = task(&rt);
-    let (two, three, four, five, six) = (task(&rt), task(&rt), task(&rt), task(&rt), task(&rt));
-    let (step, uncalled) = (Step::new(), Step::new());
-    let cell = fresh::<u64, _>(rt);
-    let mut making = Settled(cell.get_or_init(|| Sure(step.future())));
-    let mut second = Settled(cell.get_or_init(|| Sure(uncalled.future())));
-    let mut third = Settled(cell.get_or_init(|| Sure(uncalled.future())));
-    let mut fourth = Settled(cell.get_or_init(|| Sure(uncalled.future())));
-    let mut fifth = Settled(cell.get_or_init(|| Sure(uncalled.future())));
-    let mut sixth = Settled(cell.set(6));
-    assert!(rt; pends(&one, &mut making));
-    assert!(rt; pends(&two, &mut second));
-    assert!(rt; pends(&three, &mut third));
-    assert!(rt; pends(&four, &mut fourth));
-    assert!(rt; pends(&five, &mut fifth));
-    assert!(rt; pends(&six, &mut sixth));
-    drop(making);
-    assert!(rt; two.is_woken() && !three.is_woken());
-    assert_same(&rt, cell.try_set(5), Ok(()));
-    assert!(rt; two.is_woken() && three.is_woken() && four.is_woken());
-    assert!(rt; five.is_woken() && six.is_woken());
-    assert_same(&rt, two.poll(&mut second), Poll::Ready(Ok(&5)));
-    assert_same(&rt, three.poll(&mut third), Poll::Ready(Ok(&5)));
-    assert_same(&rt, four.poll(&mut fourth), Poll::Ready(Ok(&5)));
-    assert_same(&rt, five.poll(&mut fifth), Poll::Ready(Ok(&5)));
-    assert_same(&rt, six.poll(&mut sixth), Poll::Ready(Ok(Err(6))));
-    assert_same(&rt, uncalled.counts(), (0, 0));
-    assert!(rt; is_unlisted(&cell));
+fn a_try_wakes_all_that_would_put_one_in(rt: HostRuntime) {
+    let (one, two) = (task(&rt), task(&rt));
+    for count in [1, 5, 20, 200] {
+        let (step, uncalled) = (Step::new(), Step::new());
+        let cell = fresh::<u64, _>(rt);
+        let mut making = Settled(cell.get_or_init(|| Sure(step.future())));
+        let mut second = Settled(cell.get_or_init(|| Sure(uncalled.future())));
+        assert!(rt; pends(&one, &mut making));
+        assert!(rt; pends(&two, &mut second));
+        let mut all = setters(&rt, &cell, count);
+        drop(making);
+        assert!(rt; two.is_woken());
+        for setter in all.iter() {
+            assert!(rt; !setter.task.is_woken());
+        }
+        assert_same(&rt, cell.try_set(5), Ok(()));
+        for setter in all.iter_mut() {
+            assert!(rt; setter.task.is_woken());
+            let back = Poll::Ready(Ok(Err(setter.number)));
+            assert_same(&rt, setter.task.poll(&mut setter.set), back);
+        }
+        assert_same(&rt, two.poll(&mut second), Poll::Ready(Ok(&5)));
+        assert_same(&rt, uncalled.counts(), (0, 0));
+        assert!(rt; is_unlisted(&cell));
+    }
 }

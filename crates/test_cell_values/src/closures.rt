@@ -1,10 +1,9 @@
 //! Closures that own a value that counts its drops: each is dropped once, whether it is called or not.
 
-use crate::counter::{Counts, drops};
-use crate::polls::{assert_same, fresh, full, pends, task};
-use crate::steered::{Step, Sure};
+use crate::ample::{assert_same, fresh, full, task};
 use async_once_cell::Settled;
 use futures::task::Poll;
+use once_cell_scene::{Counts, Step, Sure, drops, pends};
 use std::sync::atomic::AtomicU64;
 
 // The cell is full: the closure isn't called, and is dropped when its future is ready.

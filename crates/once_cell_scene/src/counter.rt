@@ -6,8 +6,8 @@ use futures::task::{Context, Poll};
 use std::sync::atomic::{AtomicU64, Ordering};
 
 /// Adds one where it is dropped.
-pub(crate) struct Counts<'c> {
-    pub(crate) drops: &'c AtomicU64,
+pub struct Counts<'c> {
+    pub drops: &'c AtomicU64,
 }
 
 impl Drop for Counts<'_> {
@@ -18,17 +18,17 @@ impl Drop for Counts<'_> {
 }
 
 /// How many were dropped.
-pub(crate) fn drops(count: &AtomicU64) -> u64 {
+pub fn drops(count: &AtomicU64) -> u64 {
     count.load(Ordering::SeqCst)
 }
 
 /// A steered future of a value that counts its drops, or of a failure that does.
-pub(crate) struct Counted<'s, 'c> {
-    pub(crate) steered: Steered<'s>,
+pub struct Counted<'s, 'c> {
+    pub steered: Steered<'s>,
     /// Counts the values.
-    pub(crate) values: &'c AtomicU64,
+    pub values: &'c AtomicU64,
     /// Counts the failures.
-    pub(crate) faults: &'c AtomicU64,
+    pub faults: &'c AtomicU64,
 }
 
 impl<'c> Future for Counted<'_, 'c> {
