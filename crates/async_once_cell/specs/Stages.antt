@@ -25,10 +25,6 @@ pub record Future (C M : Type 0) : Type 0 where
   pub passive : Option Listed
   pub maker : Option M
 
--- one that was never polled
-abbrev pub fresh : {C M : Type 0} → C → M → Future C M
-fresh cell maker = record { cell = cell; is_over = false; active = None; passive = None; maker = Some maker }
-
 -- how far a future is that was never polled, and one that was ready
 abbrev pub fresh_stage : {M : Type 0} → M → Stage M
 fresh_stage maker = record { maker = Some maker; waiting = None }

@@ -184,8 +184,8 @@ impl<T: Drop, R: Waits> OnceCell<T, R> {
         self.raw.try_set(&self.rt, value)
     }
 
-    /// As [`OnceCell::try_set`]; a value that is put in is shown (`shown`), and is what each later read of the cell gives, as long
-    /// as it isn't taken out. The Rust crate has no such call.
+    /// As [`OnceCell::try_set`]; a value that is put in is shown (`shown`), so that whatever shows the cell's value while this does shows
+    /// the same. The Rust crate has no such call.
     pub fn try_set_shown(&self, value: T) -> Result<OnceToken<'_, T>, T>
         ensures shown { IfOk result (λ token. (token.of ≡ self.now.raw.word.store) × (token.value ≡ value)) }
         ensures back { IfErr result (λ back. back ≡ value) }
@@ -196,8 +196,8 @@ impl<T: Drop, R: Waits> OnceCell<T, R> {
 
 impl<T: Drop, R: Waits + Clock + RandomSource + AllocGlobal> OnceCell<T, R> {
     /// Waits for the value, blocking the calling thread until the cell has one. It is refused for memory alone (`memory`), and any
-    /// error of `block_on` is [`Refusal::Memory`]; a cell that is full gives its value without. A refused call leaves nothing in the
-    /// cell. In an async context it may deadlock: use [`OnceCell::wait`] there.
+    /// error of `block_on` is [`Refusal::Memory`]; a cell that is full gives its value without. A refused call leaves no
+    /// entry in the cell's lists. In an async context it may deadlock: use [`OnceCell::wait`] there.
     pub fn wait_blocking(&self) -> Result<&T, Refusal>
         ensures memory { IfErr result (λ refusal. refusal ≡ Refusal.Memory) }
     {
