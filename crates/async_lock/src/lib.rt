@@ -29,7 +29,7 @@ pub use async_rwlock::{
     RwLock, RwLockReadGuard, RwLockReadGuardArc, RwLockUpgradableReadGuard,
     RwLockUpgradableReadGuardArc, RwLockWriteGuard, RwLockWriteGuardArc,
 };
-pub use async_semaphore::{Semaphore, SemaphoreGuard, SemaphoreGuardArc};
+pub use async_semaphore::{Given, Lowered, Semaphore, SemaphoreGuard, SemaphoreGuardArc};
 pub use lock_audit;
 pub use lock_core;
 pub use lock_event;

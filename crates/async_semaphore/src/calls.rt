@@ -14,6 +14,7 @@ use crate::{SemaphoreGuard, SemaphoreGuardArc};
 use async_driver::Settled;
 use futures::executor::block_on;
 use lock_program::Refusal;
+use semaphore_driver::Given;
 use std::alloc::AllocGlobal;
 use std::random::RandomSource;
 use std::sync::{Arc, Wait};
@@ -66,17 +67,15 @@ impl<R: Wait> Semaphore<R> {
     }
 
     /// Adds this many permits, and notifies the first waiter for whom those that are then available are enough. It takes no
-    /// memory.
+    /// memory. By the contract its receipt says that exactly these were given (`given`).
     ///
     /// If the limit would pass 18,446,744,073,709,551,615, it returns [`Refusal::Permits`] and changes nothing. The Rust crate
-    /// wraps there.
-    pub fn add_permits(&self, permits: usize) -> Result<(), Refusal>
-        ensures { IfErr result (λ refusal. refusal ≡ Refusal.Permits) }
+    /// wraps there, and returns nothing.
+    pub fn add_permits(&self, permits: usize) -> Result<Given, Refusal>
+        ensures given { IfOk result (λ given. given.permits ≡ permits) }
+        ensures refused { IfErr result (λ refusal. refusal ≡ Refusal.Permits) }
     {
-        match self.raw.add(&self.rt, permits as u64) {
-            Ok(_) => Ok(()),
-            Err(refusal) => Err(refusal),
-        }
+        self.raw.add(&self.rt, permits as u64)
     }
 }
 

@@ -56,12 +56,9 @@ impl<R: Wait, O: Owns<R>> PermitGuard<R, O> {
 
     /// Ends the guard without giving its permits back: the semaphore's limit is lowered by as many, and they never come back.
     /// It waits for nobody and takes no memory.
-    pub fn forget(self) {
-        let _ = self.end_for_good();
-    }
-
-    // The limit is lowered by exactly the guard's permits, which the receipt says.
-    fn end_for_good(self) -> Lowered
+    ///
+    /// By the contract the receipt is of exactly the guard's permits. The Rust crate's call returns nothing.
+    pub fn forget(self) -> Lowered
         ensures { result.permits ≡ self.permits }
     {
         let Self {

@@ -60,9 +60,9 @@ fn a_guard_that_is_lost_stays_counted(rt: HostRuntime) {
     mem::forget(guard);
     assert_same(&rt, semaphore.available_permits(), 1);
     assert_same(&rt, semaphore.try_acquire_many(2).is_none(), true);
-    assert_same(&rt, semaphore.add_permits(usize::MAX - 3), Ok(()));
+    assert!(rt; semaphore.add_permits(usize::MAX - 3).is_ok());
     assert_same(&rt, semaphore.available_permits(), usize::MAX - 2);
-    assert_same(&rt, semaphore.add_permits(1), Err(Refusal::Permits));
+    assert_same(&rt, semaphore.add_permits(1).err(), Some(Refusal::Permits));
 }
 
 #[test]

@@ -40,7 +40,8 @@ where
     }
 
     fn add(&self, permits: usize) -> Result<(), Refusal> {
-        self.add_permits(permits)
+        let _ = self.add_permits(permits)?;
+        Ok(())
     }
 
     fn available(&self) -> usize {
@@ -65,7 +66,8 @@ where
     }
 
     fn add(&self, permits: usize) -> Result<(), Refusal> {
-        self.add_permits(permits)
+        let _ = self.add_permits(permits)?;
+        Ok(())
     }
 
     fn available(&self) -> usize {

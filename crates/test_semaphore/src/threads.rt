@@ -148,7 +148,9 @@ where
             failed = failed.saturating_add(1);
         }
         match semaphore.take(1) {
-            Some(guard) => guard.forget(),
+            Some(guard) => {
+                guard.forget();
+            }
             None => failed = failed.saturating_add(1),
         }
     }
