@@ -1,5 +1,5 @@
 -- What an entry heard, and whose waker it keeps.
-use Rattle.std.specs.Prelude.{◌≡◌, ℕ, ⊤, true, ◌⊎◌, List, IsSomeAnd}
+use Rattle.std.specs.Prelude.{◌≡◌, ℕ, ⊤, true, false, ◌⊎◌, List, IsSomeAnd}
 use Rattle.std.specs.Arc.{arc_value}
 use Rattle.futures.specs.declared.task.context.Context.{Context}
 use Rattle.futures.specs.declared.task.waker.Waker.{Waker}
@@ -8,6 +8,7 @@ use Rattle.lock_event.specs.declared.event.Entry.{Entry}
 use Rattle.lock_event.specs.declared.event.EntryId.{EntryId}
 use Rattle.lock_event.specs.declared.event.Slot.{Slot}
 use Rattle.async_driver.specs.Tasks.{Woken, woken_by}
+use Rattle.async_driver.specs.declared.duty.Owed.{Owed}
 use Rattle.async_driver.specs.declared.kept.Kept.{Kept}
 use Rattle.async_driver.specs.declared.waiting_list.Heard.{Heard}
 use Rattle.async_driver.specs.declared.waiting_list.Heard.TheVariants.{Notified, Waiting}
@@ -23,6 +24,18 @@ IsOf list (Waiting entry) = entry.list.id ≡ list
 abbrev pub OnWaiting : Heard → (Listed → Type 0) → Type 0
 OnWaiting (Notified owed) fact = ⊤
 OnWaiting (Waiting entry) fact = fact entry
+
+abbrev pub OnNotified : Heard → (Owed → Type 0) → Type 0
+OnNotified (Notified owed) fact = fact owed
+OnNotified (Waiting entry) fact = ⊤
+
+-- the duty of whoever has taken a notification out of the list
+abbrev pub IsTold : Owed → Type 0
+IsTold owed = owed.cause.is_told ≡ true
+
+-- the duty of whoever has done a step that those in the list wait for
+abbrev pub IsOfStep : Owed → Type 0
+IsOfStep owed = owed.cause.is_told ≡ false
 
 abbrev pub OnPolled : Polled → (Kept → Type 0) → Type 0
 OnPolled (polled.Notified waker) fact = ⊤

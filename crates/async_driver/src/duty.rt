@@ -4,9 +4,11 @@
 //! this file says of that is to be read, and is short for it.
 
 ghost use Rattle.std.specs.Prelude.{◌≡◌, ◌≤◌, IfSome};
+ghost use Rattle.async_driver.specs.Heard.{IsOfStep, IsTold};
 ghost use Rattle.lock_event.specs.Loads.{weight_of};
 ghost use Rattle.lock_event.specs.Weights.{fitted};
 
+use crate::cause::Cause;
 use crate::list_id::ListId;
 use lock_event::{Event, WeightedEvent};
 use std::sync::atomic::{AtomicBool, Ordering};
@@ -16,10 +18,11 @@ use std::sync::atomic::{AtomicBool, Ordering};
 /// It has no bytes and no `Drop`. Releasing a lock creates one, and so does taking a notification out of the list. It ends
 /// when the list has been notified ([`WaitingList::notify`](crate::WaitingList::notify),
 /// [`WeightedList::fit`](crate::WeightedList::fit)), or by the list's key ([`Owed::end`]). Anybody may create one, and must
-/// then notify.
+/// then notify. In clauses it is its list, and whether it came of a notification.
 pub struct Owed {
     // Private, since whoever sees all fields may take the duty apart.
     list: ListId,
+    cause: Cause,
 }
 
 /// The key of one list, which is handed out once, to whoever makes the list.
@@ -45,11 +48,22 @@ impl Drop for ListKey {
 }
 
 impl Owed {
-    /// Creates a duty to notify somebody in this list.
+    /// Creates a duty to notify somebody in this list, of a step.
     pub fn new(list: ListId) -> Owed
-        ensures { result.list ≡ list }
+        ensures list { result.list ≡ list }
+        ensures cause { IsOfStep result }
     {
-        Owed { list }
+        let cause = Cause::step(&list);
+        Owed { list, cause }
+    }
+
+    // The duty of whoever has taken a notification out of this list.
+    pub(crate) fn told(list: ListId) -> Owed
+        ensures list { result.list ≡ list }
+        ensures cause { IsTold result }
+    {
+        let cause = Cause::notification(&list);
+        Owed { list, cause }
     }
 
     /// Ends the duty by its list's key.
@@ -58,7 +72,7 @@ impl Owed {
         requires { self.list.id ≡ key.now.list.id }
     {
         let _ = key;
-        let Owed { list: _ } = self;
+        let Owed { list: _, cause: _ } = self;
     }
 
     // Notifies so many entries, under the list's lock.
@@ -66,7 +80,7 @@ impl Owed {
         requires { 1 ≤ n }
     {
         entries.notify(n);
-        let Owed { list: _ } = self;
+        let Owed { list: _, cause: _ } = self;
     }
 
     // Notifies so many entries additionally, under the list's lock.
@@ -74,7 +88,7 @@ impl Owed {
         requires { 1 ≤ n }
     {
         entries.notify_additional(n);
-        let Owed { list: _ } = self;
+        let Owed { list: _, cause: _ } = self;
     }
 
     // Notifies the first entry that so many are enough for, unless one is notified, under the list's lock.
@@ -82,7 +96,7 @@ impl Owed {
         ensures { entries.new.entries ≡ fitted weight_of available entries.old.entries }
     {
         entries.fit(available);
-        let Owed { list: _ } = self;
+        let Owed { list: _, cause: _ } = self;
     }
 
     // Ends the duty to a list that had no entries.
@@ -93,7 +107,7 @@ impl Owed {
         if is_listed.is_set() {
             return Some(self);
         }
-        let Owed { list: _ } = self;
+        let Owed { list: _, cause: _ } = self;
         None
     }
 }

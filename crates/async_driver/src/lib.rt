@@ -9,6 +9,7 @@
 #![tactic(auto)]
 
 mod carries;
+mod cause;
 mod duty;
 mod empty;
 mod kept;
@@ -20,6 +21,7 @@ mod waiting_list;
 mod weighted_list;
 
 pub use carries::Carries;
+pub use cause::Cause;
 pub use duty::{ListKey, Owed};
 pub use empty::{nothing, put};
 pub use kept::Kept;

@@ -1,7 +1,7 @@
 //! The waiting list of a lock that threads share.
 
 ghost use Rattle.std.specs.Prelude.{◌≡◌, ℕ, ◌≤◌, false, IfOk, IfSome, IfNone};
-ghost use Rattle.async_driver.specs.Heard.{IsOf, OnPolled, OnWaiting, KeepsAt, IsKept, HasLeft};
+ghost use Rattle.async_driver.specs.Heard.{IsOf, IsTold, OnNotified, OnPolled, OnWaiting, KeepsAt, IsKept, HasLeft};
 ghost use Rattle.futures.specs.Task.{Covers, Keeps};
 ghost use Rattle.lock_event.specs.Lists.{is_waiting_at};
 ghost use Rattle.lock_event.specs.Slots.{has_id};
@@ -170,7 +170,8 @@ impl<W: Wakes> WaitingList<W> {
     /// than the kit's.
     pub fn ask<R: Wait>(&self, rt: &R, entry: Listed, waker: &mut Option<W>) -> Heard
         requires { entry.list.id ≡ self.now.name.id }
-        ensures { IsOf self.now.name.id result }
+        ensures list { IsOf self.now.name.id result }
+        ensures told { OnNotified result IsTold }
     {
         let Listed { id, list, keeps: _ } = entry;
         let asked = ask_locked(
@@ -190,11 +191,11 @@ impl<W: Wakes> WaitingList<W> {
             }
             Asked::Notified { kept, unused } => {
                 *waker = unused.or(kept);
-                Heard::Notified(Owed::new(list))
+                Heard::Notified(Owed::told(list))
             }
             Asked::Unlisted { unused } => {
                 *waker = unused;
-                Heard::Notified(Owed::new(list))
+                Heard::Notified(Owed::told(list))
             }
         }
     }
@@ -304,6 +305,7 @@ impl WaitingList<Waker> {
     ) -> Heard
         requires { entry.list.id ≡ self.now.name.id }
         ensures list { IsOf self.now.name.id result }
+        ensures told { OnNotified result IsTold }
         ensures waits { OnWaiting result (λ entry. IsKept cx.new entry.keeps × Covers cx.new (λ s. s ≡ source.now.id)) }
         ensures kept { Keeps cx.old cx.new }
     {
@@ -330,6 +332,7 @@ impl WaitingList<Waker> {
         requires { entry.old.list.id ≡ self.now.name.id }
         ensures list { entry.new.list.id ≡ self.now.name.id }
         ensures told { IfSome result (λ owed. (owed.list.id ≡ self.now.name.id) × HasLeft entry.new) }
+        ensures cause { IfSome result IsTold }
         ensures waits { IfNone result (IsKept cx.new entry.new.keeps × Covers cx.new (λ s. s ≡ source.now.id)) }
         ensures kept { Keeps cx.old cx.new }
     {
@@ -348,7 +351,7 @@ impl WaitingList<Waker> {
             Polled::Notified(waker) => {
                 drop(waker);
                 entry.id = EntryId::nobody();
-                Some(Owed::new(entry.list.again()))
+                Some(Owed::told(entry.list.again()))
             }
         }
     }

@@ -163,11 +163,11 @@ impl<W: Wakes> WeightedList<W> {
             }
             Asked::Notified { kept, unused } => {
                 *waker = unused.or(kept);
-                WeightedHeard::Notified(Owed::new(list))
+                WeightedHeard::Notified(Owed::told(list))
             }
             Asked::Unlisted { unused } => {
                 *waker = unused;
-                WeightedHeard::Notified(Owed::new(list))
+                WeightedHeard::Notified(Owed::told(list))
             }
         }
     }
@@ -191,7 +191,7 @@ impl<W: Wakes> WeightedList<W> {
         );
         drop(kept);
         if was_notified {
-            Some(Owed::new(list))
+            Some(Owed::told(list))
         } else {
             None
         }
@@ -257,7 +257,7 @@ impl WeightedList<Waker> {
             }),
             Polled::Notified(waker) => {
                 drop(waker);
-                WeightedHeard::Notified(Owed::new(list))
+                WeightedHeard::Notified(Owed::told(list))
             }
         }
     }

@@ -16,9 +16,9 @@ use Rattle.sync_program.specs.declared.once_cell.Position.TheVariants.{Out, ToMa
 
 -- what an action needs, the party has where it is done
 can_at : (u : Purpose) (p : Place) → IsFor u (at p) → CanDo (action_of p) (having_at_place p)
-can_at u (Claim k told) m = (refl, refl)
-can_at u (ClaimListed k) m = (refl, refl)
-can_at u (JoinActive k told) m = refl
+can_at u (Claim k told) m = (refl, refl, refl)
+can_at u (ClaimListed k) m = (refl, refl, refl)
+can_at u (JoinActive k told) m = (refl, refl)
 can_at u (AskActive k) m = (refl, refl)
 can_at u (LeaveToMake k) m = refl
 can_at u (Make k) m = tt
@@ -29,9 +29,9 @@ can_at u Fail m = (refl, refl)
 can_at u FailNotify m = refl
 can_at u (LeaveFull k v) m = refl
 can_at u (RefuseActive k) m = refl
-can_at u (Look told) m = refl
-can_at u (JoinPassive told) m = refl
-can_at u LookListed m = refl
+can_at u (Look told) m = (refl, refl)
+can_at u (JoinPassive told) m = (refl, refl)
+can_at u LookListed m = (refl, refl)
 can_at u AskPassive m = (refl, refl)
 can_at u (LeavePassive v) m = refl
 can_at u RefusePassive m = refl

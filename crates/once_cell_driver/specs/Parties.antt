@@ -9,7 +9,7 @@ use Rattle.lock_program.specs.declared.end.End.TheVariants as ending
 use Rattle.lock_program.specs.declared.refusal.Refusal.TheVariants.{Memory}
 use Rattle.once_cell_driver.specs.Cells.{Cell}
 use Rattle.once_cell_driver.specs.Purposes.{IsAwaited, IsBy, IsMaking, IsSetting, IsWaiting, OnMaking, OnSets}
-use Rattle.once_cell_driver.specs.Sides.{Half, half, half_of, IsTied, IsReceipt}
+use Rattle.once_cell_driver.specs.Sides.{Half, half, half_of, IsTied, IsReceipt, OwesAsTold}
 use Rattle.once_cell_driver.specs.Table.{Place, Action, Found, Where, Call, CanPoll, Pends}
 use Rattle.once_cell_driver.specs.declared.maker.Purpose.{Purpose}
 use Rattle.once_cell_driver.specs.declared.party.CellParty.{CellParty}
@@ -39,13 +39,18 @@ abbrev pub having : Bool → Half → Half → Bool → Having
 having makes active passive got = record { makes = makes; active = active; passive = passive; got = got }
 
 abbrev pub no : Half
-no = half false false
+no = half false false false
 
 abbrev pub listed : Half
-listed = half true false
+listed = half true false false
 
+-- a duty to notify, if it was notified
 abbrev pub owing : Bool → Half
-owing told = half false told
+owing told = half false told told
+
+-- a duty to notify, of a step
+abbrev pub bound : Half
+bound = half false true false
 
 -- what it has at a place of its call
 abbrev pub having_at_place : Place → Having
@@ -56,10 +61,10 @@ having_at_place (AskActive k) = having false listed no false
 having_at_place (LeaveToMake k) = having true listed no false
 having_at_place (Make k) = having true no no false
 having_at_place (Fill v) = having true no no false
-having_at_place (NotifyActive v) = having false (owing true) (owing true) true
-having_at_place (NotifyPassive v) = having false no (owing true) true
+having_at_place (NotifyActive v) = having false bound bound true
+having_at_place (NotifyPassive v) = having false no bound true
 having_at_place Fail = having true no no false
-having_at_place FailNotify = having false (owing true) no false
+having_at_place FailNotify = having false bound no false
 having_at_place (LeaveFull k v) = having false listed no true
 having_at_place (RefuseActive k) = having false (owing true) no false
 having_at_place (Look told) = having false no (owing told) false
@@ -69,7 +74,7 @@ having_at_place AskPassive = having false no listed false
 having_at_place (LeavePassive v) = having false no listed true
 having_at_place RefusePassive = having false no (owing true) false
 having_at_place CancelMake = having true no no false
-having_at_place CancelNotify = having false (owing true) no false
+having_at_place CancelNotify = having false bound no false
 having_at_place (CancelLeave Active) = having false listed no false
 having_at_place (CancelLeave Passive) = having false no listed false
 having_at_place _ = having false no no false
@@ -87,21 +92,21 @@ having_at (Ready got.Failed) = having false no no false
 
 -- what an action that found this leaves
 abbrev pub after : Action → Found → Having → Having
-after act.Claim found.Empty h = having true (half h.active.entry false) h.passive h.got
-after act.Claim (found.Full v) h = having h.makes (half h.active.entry false) h.passive true
-after act.Look (found.Full v) h = having h.makes h.active (half h.passive.entry false) true
-after (act.Fill v) found.Done h = having false (half h.active.entry true) (half h.passive.entry true) true
-after act.Empty found.Done h = having false (half h.active.entry true) h.passive h.got
+after act.Claim found.Empty h = having true (half h.active.entry false false) h.passive h.got
+after act.Claim (found.Full v) h = having h.makes (half h.active.entry false false) h.passive true
+after act.Look (found.Full v) h = having h.makes h.active (half h.passive.entry false false) true
+after (act.Fill v) found.Done h = having false (half h.active.entry true false) (half h.passive.entry true false) true
+after act.Empty found.Done h = having false (half h.active.entry true false) h.passive h.got
 after (act.Join Active) found.Done h = having h.makes listed h.passive h.got
 after (act.Join Passive) found.Done h = having h.makes h.active listed h.got
 after (act.Ask Active) found.Yes h = having h.makes (owing true) h.passive h.got
 after (act.Ask Passive) found.Yes h = having h.makes h.active (owing true) h.got
-after (act.Leave Active) found.Done h = having h.makes (half false h.active.owes) h.passive h.got
-after (act.Leave Passive) found.Done h = having h.makes h.active (half false h.passive.owes) h.got
-after (act.Notify Active) found.Done h = having h.makes (half h.active.entry false) h.passive h.got
-after (act.Notify Passive) found.Done h = having h.makes h.active (half h.passive.entry false) h.got
-after (act.NotifyAll Active) found.Done h = having h.makes (half h.active.entry false) h.passive h.got
-after (act.NotifyAll Passive) found.Done h = having h.makes h.active (half h.passive.entry false) h.got
+after (act.Leave Active) found.Done h = having h.makes (half false h.active.owes h.active.told) h.passive h.got
+after (act.Leave Passive) found.Done h = having h.makes h.active (half false h.passive.owes h.passive.told) h.got
+after (act.Notify Active) found.Done h = having h.makes (half h.active.entry false false) h.passive h.got
+after (act.Notify Passive) found.Done h = having h.makes h.active (half h.passive.entry false false) h.got
+after (act.NotifyAll Active) found.Done h = having h.makes (half h.active.entry false false) h.passive h.got
+after (act.NotifyAll Passive) found.Done h = having h.makes h.active (half h.passive.entry false false) h.got
 after _ _ h = h
 
 -- what an action may find
@@ -129,12 +134,12 @@ CanFind _ _ = ⊥
 
 -- what an action needs
 abbrev pub CanDo : Action → Having → Type 0
-CanDo act.Claim h = (h.makes ≡ false) × (h.got ≡ false)
-CanDo act.Look h = h.got ≡ false
+CanDo act.Claim h = (h.makes ≡ false) × (h.got ≡ false) × OwesAsTold h.active
+CanDo act.Look h = (h.got ≡ false) × OwesAsTold h.passive
 CanDo (act.Fill v) h = (h.makes ≡ true) × (h.got ≡ false) × (h.active.owes ≡ false) × (h.passive.owes ≡ false)
 CanDo act.Empty h = (h.makes ≡ true) × (h.active.owes ≡ false)
-CanDo (act.Join Active) h = h.active.entry ≡ false
-CanDo (act.Join Passive) h = h.passive.entry ≡ false
+CanDo (act.Join Active) h = (h.active.entry ≡ false) × OwesAsTold h.active
+CanDo (act.Join Passive) h = (h.passive.entry ≡ false) × OwesAsTold h.passive
 CanDo (act.Ask Active) h = (h.active.entry ≡ true) × (h.active.owes ≡ false)
 CanDo (act.Ask Passive) h = (h.passive.entry ≡ true) × (h.passive.owes ≡ false)
 CanDo (act.Leave Active) h = h.active.entry ≡ true

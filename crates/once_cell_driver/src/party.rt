@@ -2,7 +2,7 @@
 
 ghost use Rattle.std.specs.Prelude.{◌≡◌, ◌≢◌, ◌⊎◌, Bool, true, false, IfSome, IfNone, IsSome, IsSomeAnd, is_some, Some, None, Result, ⊤};
 ghost use Rattle.futures.specs.Task.{Covers, Keeps};
-ghost use Rattle.once_cell_driver.specs.Sides.{IsReceipt};
+ghost use Rattle.once_cell_driver.specs.Sides.{IsReceipt, OwesAsTold, half_of};
 ghost use Rattle.once_cell_driver.specs.Parties.{CanDo, CanFind, FillsSo, IsTiedTo, MakesSo, NeedsMade, NeedsMaker, NeedsSeen, SeesBy, TellsSo, WorksSo, after, having_of, lent_of, seen_by};
 ghost use Rattle.sync_program.specs.declared.once_cell.Action.TheVariants as does;
 ghost use Rattle.sync_program.specs.declared.once_cell.ListName.TheVariants as lists;
@@ -81,6 +81,7 @@ impl<'a, T: Drop, E: Drop, M: Maker<T, E>> CellParty<'a, T, E, M> {
     fn look<R: Wait>(&mut self, cell: &'a RawCell<T>, rt: &R) -> Found<()>
         requires tied { IsTiedTo cell.now self.old }
         requires empty { is_some self.old.got ≡ false }
+        requires told { OwesAsTold (half_of self.old.passive) }
         ensures tied { IsTiedTo cell.now self.new }
         ensures found { CanFind does.Look result × (having_of self.new ≡ after does.Look result (having_of self.old)) }
         ensures sees { SeesBy does.Look result (seen_by self.new.seat) }
@@ -103,6 +104,7 @@ impl<'a, T: Drop, E: Drop, M: Maker<T, E>> CellParty<'a, T, E, M> {
         requires tied { IsTiedTo cell.now self.old }
         requires idle { self.old.seat.inner.me.0.makes ≡ false }
         requires empty { is_some self.old.got ≡ false }
+        requires told { OwesAsTold (half_of self.old.active) }
         ensures tied { IsTiedTo cell.now self.new }
         ensures found { CanFind does.Claim result × (having_of self.new ≡ after does.Claim result (having_of self.old)) }
         ensures sees { SeesBy does.Claim result (seen_by self.new.seat) }
@@ -209,6 +211,7 @@ impl<'a, T: Drop, E: Drop, M: Maker<T, E>> CellParty<'a, T, E, M> {
     fn join_active<R: Wait>(&mut self, cell: &'a RawCell<T>, rt: &R) -> Found<()>
         requires tied { IsTiedTo cell.now self.old }
         requires unlisted { is_some self.old.active.entry ≡ false }
+        requires told { OwesAsTold (half_of self.old.active) }
         requires seen { seen_by self.old.seat ≡ 1 }
         ensures tied { IsTiedTo cell.now self.new }
         ensures found { CanFind (does.Join lists.Active) result × (having_of self.new ≡ after (does.Join lists.Active) result (having_of self.old)) }
@@ -228,6 +231,7 @@ impl<'a, T: Drop, E: Drop, M: Maker<T, E>> CellParty<'a, T, E, M> {
     fn join_passive<R: Wait>(&mut self, cell: &'a RawCell<T>, rt: &R) -> Found<()>
         requires tied { IsTiedTo cell.now self.old }
         requires unlisted { is_some self.old.passive.entry ≡ false }
+        requires told { OwesAsTold (half_of self.old.passive) }
         requires seen { seen_by self.old.seat ≢ 2 }
         ensures tied { IsTiedTo cell.now self.new }
         ensures found { CanFind (does.Join lists.Passive) result × (having_of self.new ≡ after (does.Join lists.Passive) result (having_of self.old)) }

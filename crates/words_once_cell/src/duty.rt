@@ -2,9 +2,11 @@
 //! bound to notify, or to look.
 //!
 //! The keys are fields of this module alone. So no other function ends a duty, of this crate or of another, but by one of the
-//! calls here, each of which asks for its reason.
+//! calls here. Each of them asks for its reason, and ends only the duty of one that was notified: a duty that came of a step on
+//! the word, as of a filled cell, ends by a notification.
 
 ghost use Rattle.std.specs.Prelude.{◌≡◌, ◌≢◌, true};
+ghost use Rattle.async_driver.specs.Heard.{IsTold};
 
 use crate::view::Seat;
 use crate::words::Words;
@@ -63,6 +65,7 @@ impl<T> Words<T> {
     /// or is dropped.
     pub fn put_off(&self, owed: Owed, maker: &Seat)
         requires list { owed.list.id ≡ self.now.active }
+        requires told { IsTold owed }
         requires seat { maker.now.inner.table_id ≡ self.now.table }
         requires makes { maker.now.inner.me.0.makes ≡ true }
     {
@@ -76,6 +79,7 @@ impl<T> Words<T> {
     /// hasn't, its end notifies, and finds this entry.
     pub fn claim_next(&self, owed: Owed, seat: &Seat, entry: &Listed)
         requires list { owed.list.id ≡ self.now.active }
+        requires told { IsTold owed }
         requires seat { seat.now.inner.table_id ≡ self.now.table }
         requires made { seat.now.inner.me.0.found ≡ 1 }
         requires listed { entry.now.list.id ≡ self.now.active }
@@ -88,6 +92,7 @@ impl<T> Words<T> {
     /// Ends the duty of an initialiser that was notified and found the cell full: whoever filled it notifies all.
     pub fn all_told(&self, owed: Owed, seat: &Seat)
         requires list { owed.list.id ≡ self.now.active }
+        requires told { IsTold owed }
         requires seat { seat.now.inner.table_id ≡ self.now.table }
         requires full { seat.now.inner.me.0.found ≡ 2 }
     {
@@ -98,6 +103,7 @@ impl<T> Words<T> {
     /// Ends the duty of one that only waits, was notified, and found the cell full: whoever filled it notifies all.
     pub fn all_waiting_told(&self, owed: Owed, seat: &Seat)
         requires list { owed.list.id ≡ self.now.passive }
+        requires told { IsTold owed }
         requires seat { seat.now.inner.table_id ≡ self.now.table }
         requires full { seat.now.inner.me.0.found ≡ 2 }
     {
@@ -111,6 +117,7 @@ impl<T> Words<T> {
     /// it notifies all, and finds this entry.
     pub fn look_next(&self, owed: Owed, seat: &Seat, entry: &Listed)
         requires list { owed.list.id ≡ self.now.passive }
+        requires told { IsTold owed }
         requires seat { seat.now.inner.table_id ≡ self.now.table }
         requires without { seat.now.inner.me.0.found ≢ 2 }
         requires listed { entry.now.list.id ≡ self.now.passive }

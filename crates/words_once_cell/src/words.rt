@@ -1,6 +1,7 @@
 //! The word of a once-cell with its value, and the steps on it.
 
 ghost use Rattle.std.specs.Prelude.{◌≡◌, ◌≢◌, ◌≤◌, ℕ, true, false, [], ◌∷◌, IfOk, MatchBool};
+ghost use Rattle.async_driver.specs.Heard.{IsOfStep};
 ghost use Rattle.words_once_cell.specs.Steps.{first_view, having_found, having_claimed, having_filled, having_emptied, having_taken};
 ghost use Rattle.words_once_cell.specs.Words.{word_of};
 
@@ -234,6 +235,7 @@ impl<T> Words<T> {
         ensures step { seat.new.inner.me ≡ (having_filled seat.old.inner.me.0, seat.old.inner.me.1) }
         ensures active { result.active.list.id ≡ self.now.active }
         ensures passive { result.passive.list.id ≡ self.now.passive }
+        ensures cause { IsOfStep result.active × IsOfStep result.passive }
     {
         let _ = set;
         self.word
@@ -254,6 +256,7 @@ impl<T> Words<T> {
         ensures same { (seat.new.inner.table_id ≡ seat.old.inner.table_id) × (seat.new.inner.id ≡ seat.old.inner.id) }
         ensures step { seat.new.inner.me ≡ (having_emptied seat.old.inner.me.0, seat.old.inner.me.1) }
         ensures owed { result.list.id ≡ self.now.active }
+        ensures cause { IsOfStep result }
     {
         self.word
             .table
