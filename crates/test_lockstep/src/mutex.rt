@@ -2,7 +2,9 @@
 
 ghost use Rattle.std.specs.Prelude.{◌<◌};
 
-use crate::party::{Party, end, entry_of, new_party, put, release, set_starving, take, value};
+use crate::party::{
+    Party, end, entry_of, new_party, put, refuse, release, set_starving, take, value,
+};
 use crate::setting::{Setting, Table, Ways};
 use crate::whole::{leave, poll};
 use futures::test::MockTask;
@@ -24,6 +26,8 @@ pub(crate) enum Deed {
     Begin(Call),
     /// The next action of its call, by the driver; whether it has waited for too long.
     Go(bool),
+    /// The next action, which is a join and is refused memory.
+    Refuse,
     /// The first action of a first poll, past the driver.
     Take,
     /// A whole release, past the driver.
@@ -144,6 +148,9 @@ fn deed_of(stage: Stage, place: Place, ways: Ways, number: usize) -> Option<Deed
         (Stage::Holding, 1) if ways == Ways::All || ways == Ways::Whole => Some(Deed::Release),
         (Stage::Inside(_), 0) => Some(Deed::Go(false)),
         (Stage::Inside(_), 1) if matches!(place, Place::Retry) => Some(Deed::Go(true)),
+        (Stage::Inside(_), 1) if matches!(place, Place::Join { .. } | Place::JoinStarved) => {
+            Some(Deed::Refuse)
+        }
         _ => None,
     }
 }
@@ -271,6 +278,23 @@ impl Member {
         let put = self.put(answer);
         Dids {
             moves: [Some(moved(What::Go(given), answer)), put, None],
+        }
+    }
+
+    // A join that is refused memory.
+    fn refuse(&mut self) -> Dids {
+        let trying = self.stage == Stage::Inside(true);
+        let acted = refuse(&mut self.party);
+        let given = Inputs {
+            memory: false,
+            ..inputs(false)
+        };
+        Dids {
+            moves: [
+                Some(moved(What::Go(given), self.answer(trying, acted))),
+                None,
+                None,
+            ],
         }
     }
 
@@ -534,6 +558,7 @@ impl Shell for MutexShell {
             return match deed {
                 Deed::Begin(call) => member.begin(bench, task, call),
                 Deed::Go(starving) => member.go(bench, task, starving),
+                Deed::Refuse => member.refuse(),
                 Deed::Take => member.take(bench, task, goes_on),
                 Deed::Release => member.release(bench),
                 Deed::Poll(starving) => member.whole(bench, task, Some(starving)),

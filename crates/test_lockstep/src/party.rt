@@ -1,9 +1,11 @@
 //! A party of a shared mutex, driven by single actions.
 
+use async_driver::Carries;
 use lock_driver::{MutexParty, RawMutex};
 use lock_event::{EntryId, Mark};
-use lock_program::mutex::Place;
-use lockstep::{Bench, Walker};
+use lock_program::End;
+use lock_program::mutex::{Found, Place};
+use lockstep::{Acted, Bench, Walker};
 use std::mem;
 use std::sync::atomic::{AtomicBool, Ordering};
 use std::sync::{Arc, Wait};
@@ -59,6 +61,35 @@ pub(crate) fn take(walker: &mut Party) -> bool {
             }
             None => false,
         },
+        _ => false,
+    }
+}
+
+/// A join that is refused memory: it changes nothing, and the driver goes on as from one that found none.
+pub(crate) fn refuse(walker: &mut Party) -> Acted<End> {
+    let (next, end) = <MutexParty<RawMutex<u64>> as Carries>::decide(walker.place, Found::NoMemory);
+    match (turn_back(walker, next), end) {
+        (false, _) => Acted::Never,
+        (true, Some(end)) => Acted::Over(end),
+        (true, None) => Acted::On,
+    }
+}
+
+// Puts a party that has to join to the place after a refusal, if that is this one: it has already what that place says.
+fn turn_back(walker: &mut Party, next: Place) -> bool {
+    match (walker.place, next) {
+        (Place::Join { told: false }, Place::Out) => {
+            walker.place = Place::Out;
+            true
+        }
+        (Place::Join { told: true }, Place::RefuseNotifyMemory) => {
+            walker.place = Place::RefuseNotifyMemory;
+            true
+        }
+        (Place::JoinStarved, Place::RefuseUncount) => {
+            walker.place = Place::RefuseUncount;
+            true
+        }
         _ => false,
     }
 }

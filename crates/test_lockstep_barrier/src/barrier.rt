@@ -2,7 +2,8 @@
 
 use crate::codes::{code_of_entry, code_of_lock_place, code_of_place, code_of_standing};
 use crate::party::{
-    Party, end, entry_of, generation_of, locking_of, new_party, seen_by, set_starving,
+    Party, end, entry_of, generation_of, is_joining, locking_of, new_party, refuse, seen_by,
+    set_starving,
 };
 use async_barrier::{Call as PartyCall, RawBarrier, WaitEnd};
 use async_driver::WaitingList;
@@ -24,6 +25,8 @@ pub(crate) enum Deed {
     Begin(Call),
     /// The next action of its call, by the driver; whether it has waited for too long for the inner lock.
     Go(bool),
+    /// The next action, which is a join and is refused memory.
+    Refuse,
     /// A whole drop of a wait, past the driver.
     Cancel,
 }
@@ -36,6 +39,8 @@ pub(crate) struct Setting {
     pub(crate) size: u64,
     /// How many generations may be finished.
     pub(crate) generations: u64,
+    /// Whether each join may also be refused memory.
+    pub(crate) refuses: bool,
 }
 
 /// A party, and whether it has done nothing yet. It has no `Drop`, since its party has none.
@@ -51,6 +56,7 @@ pub(crate) struct BarrierShell {
     // How far it is, as whoever had the inner lock last has left it.
     count: u64,
     generation: u64,
+    refuses: bool,
 }
 
 /// A barrier's World.
@@ -118,6 +124,7 @@ fn deed_of(place: Left, lock_place: LockPlace, number: usize) -> Option<Deed> {
         (Left::Outside(Position::At(_)), 0) => Some(Deed::Go(false)),
         (Left::Outside(Position::At(Place::TakeLock(_))), 1)
             if matches!(lock_place, LockPlace::Retry) => { Some(Deed::Go(true)) }
+        (Left::Outside(Position::At(_)), 1) if is_joining(place, lock_place) => Some(Deed::Refuse),
         (Left::Outside(Position::Made(_) | Position::Locking(_) | Position::Waiting), 0) => {
             Some(Deed::Begin(Call::Poll))
         }
@@ -287,6 +294,18 @@ impl Member {
         }
     }
 
+    // A join that is refused memory.
+    fn refuse(&mut self) -> Dids {
+        let answer = answer(refuse(&mut self.party));
+        Dids {
+            moves: [
+                Some(moved(What::Go(inputs(false, false)), answer)),
+                None,
+                None,
+            ],
+        }
+    }
+
     fn go<R: Wait>(&mut self, bench: &Bench<R>, task: &MockTask, starving: bool) -> Dids {
         let before = self.standing();
         set_starving(&mut self.party, bench, starving);
@@ -443,6 +462,7 @@ impl Shell for BarrierShell {
             parties,
             size,
             generations,
+            refuses,
         } = setting;
         let world = World::with_limits(alloc, parties, size, u32::MAX, generations).ok()?;
         let raw = RawBarrier::new(alloc, size, generations).ok()?;
@@ -453,6 +473,7 @@ impl Shell for BarrierShell {
             members,
             count: 0,
             generation: 0,
+            refuses,
         };
         Some((shell, BarrierTwin { world }))
     }
@@ -463,6 +484,7 @@ impl Shell for BarrierShell {
             members,
             count: _,
             generation: _,
+            refuses: _,
         } = self;
         end_all(members, bench);
         drop(raw);
@@ -482,7 +504,10 @@ impl Shell for BarrierShell {
     fn deed(&self, party: usize, number: usize) -> Option<Deed> {
         let member = self.members.get(party)?;
         let (place, lock_place) = member.standing();
-        deed_of(place, lock_place, number)
+        match deed_of(place, lock_place, number) {
+            Some(Deed::Refuse) if !self.refuses => None,
+            deed => deed,
+        }
     }
 
     fn is_whole(deed: Deed) -> bool {
@@ -499,6 +524,7 @@ impl Shell for BarrierShell {
                 dids = match deed {
                     Deed::Begin(call) => member.begin(bench, task, call),
                     Deed::Go(starving) => member.go(bench, task, starving),
+                    Deed::Refuse => member.refuse(),
                     Deed::Cancel => member.cancel(bench, party),
                 };
             }

@@ -16,11 +16,11 @@ fn setting<R: AllocGlobal>(rt: &R, parties: u32, size: u64) -> Setting {
         parties,
         size,
         generations: 2,
+        refuses: parties == 2,
     }
 }
 
 // Each walk that was refused memory, and so is none, is begun once more.
-
 fn through_states<R: Wait>(bench: &Bench<R>, setting: Setting) -> Option<Walk> {
     through_first_states(bench, setting, MANY)
 }
@@ -116,6 +116,7 @@ fn three_parties_go_alike_by_chance(rt: HostRuntime) {
             let of_size = Setting {
                 size,
                 generations: 9,
+                refuses: true,
                 ..of_three
             };
             expect_alike(&bench, by_chance(&bench, of_size));

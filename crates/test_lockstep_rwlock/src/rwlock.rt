@@ -1,7 +1,7 @@
 //! The read-write lock's shell, beside its World.
 
 use crate::codes::{code_of_place, code_of_turn};
-use crate::party::{Party, Which, end, entry_of, new_party, set_starving};
+use crate::party::{Party, Which, end, entry_of, is_joining, new_party, refuse, set_starving};
 use crate::setting::{Calls, Setting, Table, Ways};
 use crate::straight::{VALUE, first_poll, straight};
 use futures::test::MockTask;
@@ -23,6 +23,8 @@ pub(crate) enum Deed {
     Begin(Call),
     /// The next action of its call, by the driver; whether it has waited for too long.
     Go(bool),
+    /// The next action, which is a join and is refused memory.
+    Refuse,
     /// A whole first poll, as the public types begin it.
     First(Call),
     /// Another whole call, past the driver.
@@ -51,6 +53,7 @@ pub(crate) struct RwLockShell {
     members: Vec<Member>,
     ways: Ways,
     calls: Calls,
+    refuses: bool,
 }
 
 /// A lock's World, which may go by another table than its own.
@@ -234,6 +237,18 @@ impl Member {
         }
     }
 
+    // A join that is refused memory.
+    fn refuse(&mut self) -> Dids {
+        let acted = refuse(&mut self.party);
+        let given = Inputs {
+            memory: false,
+            ..inputs(false)
+        };
+        Dids {
+            moves: [Some(moved(What::Go(given), self.answer(acted))), None, None],
+        }
+    }
+
     // A whole call past the driver, or a first poll.
     fn whole<R: Wait>(&mut self, bench: &Bench<R>, task: &MockTask, deed: Deed) -> Dids {
         let (call, answer) = match deed {
@@ -244,7 +259,7 @@ impl Member {
             Deed::Straight(call) | Deed::Begin(call) => {
                 (call, straight(&mut self.party, bench, call))
             }
-            Deed::Go(_) => (Call::Poll, Answer::NotPossible),
+            Deed::Go(_) | Deed::Refuse => (Call::Poll, Answer::NotPossible),
         };
         self.stage = Stage::Outside;
         // What the allocator did is an input of the World's, and the shell is asked for it.
@@ -265,6 +280,7 @@ impl Member {
             (Stage::Fresh | Stage::Outside, number) => by_ways(place.at, ways, calls, number),
             (Stage::Inside, 0) => Some(Deed::Go(false)),
             (Stage::Inside, 1) if matches!(place.turn, TurnPlace::Retry) => Some(Deed::Go(true)),
+            (Stage::Inside, 1) if is_joining(place) => Some(Deed::Refuse),
             _ => None,
         }
     }
@@ -438,6 +454,7 @@ impl Shell for RwLockShell {
             readers,
             ways,
             calls,
+            refuses,
             table,
         } = setting;
         let world = World::with_limits(alloc, parties, VALUE, limit, readers).ok()?;
@@ -448,6 +465,7 @@ impl Shell for RwLockShell {
             members,
             ways,
             calls,
+            refuses,
         };
         Some((shell, RwLockTwin { world, table }))
     }
@@ -458,6 +476,7 @@ impl Shell for RwLockShell {
             members,
             ways: _,
             calls: _,
+            refuses: _,
         } = self;
         end_all(members, bench);
         drop(lock);
@@ -475,7 +494,10 @@ impl Shell for RwLockShell {
     }
 
     fn deed(&self, party: usize, number: usize) -> Option<Deed> {
-        self.members.get(party)?.deed(self.ways, self.calls, number)
+        match self.members.get(party)?.deed(self.ways, self.calls, number) {
+            Some(Deed::Refuse) if !self.refuses => None,
+            deed => deed,
+        }
     }
 
     fn is_whole(deed: Deed) -> bool {
@@ -487,6 +509,7 @@ impl Shell for RwLockShell {
             return match deed {
                 Deed::Begin(call) => member.begin(bench, task, call),
                 Deed::Go(starving) => member.go(bench, task, starving),
+                Deed::Refuse => member.refuse(),
                 Deed::First(_) | Deed::Straight(_) => member.whole(bench, task, deed),
             };
         }

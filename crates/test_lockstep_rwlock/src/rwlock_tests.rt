@@ -23,6 +23,7 @@ fn setting<R: AllocGlobal>(rt: &R, parties: u32, limit: u32) -> Setting {
         readers: MOST_READERS,
         ways: Ways::Both,
         calls: Calls::All,
+        refuses: parties == 2,
         table: Table::Own,
     }
 }
@@ -170,7 +171,10 @@ fn by_chance<R: Wait + Abort>(bench: &Bench<R>, setting: Setting) {
 
 #[test]
 fn four_parties_go_alike_by_chance(rt: HostRuntime) {
-    let of_four = setting(&rt, 4, NO_LIMIT);
+    let of_four = Setting {
+        refuses: true,
+        ..setting(&rt, 4, NO_LIMIT)
+    };
     if let Some(bench) = Bench::new(rt, 4) {
         by_chance(&bench, of_four);
     }

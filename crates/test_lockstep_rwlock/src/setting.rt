@@ -34,7 +34,7 @@ pub(crate) enum Calls {
 }
 
 /// Of which lock: with how many parties, how many of which may be starved for the turn, and how many may read; which ways they
-/// go, by which calls; and beside which World.
+/// go, by which calls, and whether each join may also be refused memory; and beside which World.
 #[derive(Clone, Copy)]
 pub(crate) struct Setting {
     pub(crate) alloc: Global,
@@ -43,5 +43,6 @@ pub(crate) struct Setting {
     pub(crate) readers: u32,
     pub(crate) ways: Ways,
     pub(crate) calls: Calls,
+    pub(crate) refuses: bool,
     pub(crate) table: Table,
 }

@@ -5,12 +5,13 @@ ghost use Rattle.std.specs.Arc.{arc_value};
 ghost use Rattle.std.specs.Prelude.{◌≡◌};
 
 use crate::owing::Owing;
-use async_driver::WeightedListed;
-use lockstep::{Bench, Walker};
+use async_driver::{Carries, WeightedListed};
+use lock_program::End;
+use lockstep::{Acted, Bench, Walker};
 use semaphore_driver::{PermitParty, RawSemaphore};
 use std::marker::Model;
 use std::sync::{Arc, Wait};
-use sync_program::permits::{Place, Position};
+use sync_program::permits::{Found, Place, Position};
 use words_semaphore::Seat;
 
 /// A future.
@@ -129,6 +130,34 @@ pub(crate) fn settled(walker: Party) -> Having {
             party,
             place,
         }),
+    }
+}
+
+/// A join that is refused memory: it changes nothing, and the driver goes on as from one that found none.
+pub(crate) fn refuse(walker: &mut Party) -> Acted<End> {
+    let (next, end) = <PermitParty as Carries>::decide(walker.place, Found::NoMemory);
+    match (turn_back(walker, next), end) {
+        (false, _) => Acted::Never,
+        (true, Some(end)) => Acted::Over(end),
+        (true, None) => Acted::On,
+    }
+}
+
+// Puts a party that has to join to the place after a refusal, if that is this one: it has already what that place says.
+fn turn_back(walker: &mut Party, next: Position) -> bool {
+    let Position::At(Place::Join { permits, told }) = walker.place else {
+        return false;
+    };
+    match (told, next) {
+        (Some(available), Position::At(Place::RefuseFit { .. })) => {
+            walker.place = Position::At(Place::RefuseFit { permits, available });
+            true
+        }
+        (None, Position::Unlisted(_)) => {
+            walker.place = Position::Unlisted(permits);
+            true
+        }
+        _ => false,
     }
 }
 

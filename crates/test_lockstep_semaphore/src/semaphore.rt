@@ -2,7 +2,7 @@
 
 use crate::codes::code_of_position;
 use crate::party::{
-    Having, Held, Party, end_having, entry_of, is_passing_on, new_future, pass_on, settled,
+    Having, Held, Party, end_having, entry_of, is_passing_on, new_future, pass_on, refuse, settled,
 };
 use crate::setting::{Setting, Table, Ways};
 use crate::straight::{begin_addition, drop_future, drop_permits, go_straight};
@@ -42,6 +42,8 @@ pub(crate) enum Deed {
     Poll,
     /// The next action of a call.
     Go,
+    /// The next action of a poll, which is a join and is refused memory.
+    Refuse,
     /// The first action of the drop of a future or of permits.
     Drop,
     /// The drop of permits, whole.
@@ -131,6 +133,14 @@ fn go<R: Wait>(walker: Party, bench: &Bench<R>, party: usize) -> (Having, Dids) 
     let after = walker.place;
     let what = What::Go(inputs(found_memory(before, after)));
     (settled(walker), one(what, answer(acted, after)))
+}
+
+// A join that is refused memory.
+fn refused(walker: Party) -> (Having, Dids) {
+    let mut walker = walker;
+    let acted = refuse(&mut walker);
+    let dids = one(What::Go(inputs(false)), answer(acted, walker.place));
+    (settled(walker), dids)
 }
 
 // A poll's first action.
@@ -229,6 +239,7 @@ fn of_future<R: Wait>(
     match deed {
         Deed::Poll => begin(walker, bench, party, Call::Poll),
         Deed::Go => go(walker, bench, party),
+        Deed::Refuse => refused(walker),
         Deed::PollWhole => whole(walker, bench, party, Call::Poll),
         Deed::Leave => {
             let (having, answer) = leave(walker, bench);
@@ -449,6 +460,7 @@ impl SemaphoreShell {
     fn next_deed(&self, position: Position, number: usize) -> Option<Deed> {
         match (position, number) {
             (Position::At(_), 0) => Some(Deed::Go),
+            (Position::At(Place::Join { .. }), 1) if self.setting.refuses => Some(Deed::Refuse),
             (Position::Unlisted(_) | Position::Waiting(_), 0) => Some(Deed::Poll),
             (Position::Unlisted(_) | Position::Waiting(_), 1) => Some(Deed::Drop),
             (Position::Unlisted(_) | Position::Waiting(_), 2) if self.setting.ways == Ways::Whole =>

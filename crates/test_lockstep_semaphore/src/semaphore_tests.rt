@@ -19,12 +19,12 @@ fn setting<R: AllocGlobal>(rt: &R, parties: u32, permits: u64) -> Setting {
         sizes: (1, 2),
         most: 0,
         least: 0,
+        refuses: parties == 2,
         table: Table::Own,
     }
 }
 
 // Each walk that was refused memory, and so is none, is begun once more.
-
 fn through_states<R: Wait>(bench: &Bench<R>, setting: Setting, order: Order) -> Option<Walk> {
     match walk_states::<SemaphoreShell, R>(bench, setting, order, MANY) {
         None => walk_states::<SemaphoreShell, R>(bench, setting, order, MANY),
@@ -202,7 +202,10 @@ fn three_parties_go_alike_by_chance(rt: HostRuntime) {
 
 #[test]
 fn four_parties_go_alike_by_chance(rt: HostRuntime) {
-    let of_four = setting(&rt, 4, 2);
+    let of_four = Setting {
+        refuses: true,
+        ..setting(&rt, 4, 2)
+    };
     if let Some(bench) = Bench::new(rt, 4) {
         for ways in [Ways::Driver, Ways::All, Ways::Whole] {
             for most in [0, 4] {

@@ -47,5 +47,7 @@ pub(crate) struct Setting {
     pub(crate) most: u64,
     /// Permits are forgotten where the limit doesn't fall below so many by that.
     pub(crate) least: u64,
+    /// Whether each join may also be refused memory.
+    pub(crate) refuses: bool,
     pub(crate) table: Table,
 }
