@@ -142,7 +142,10 @@ impl<T: Drop, R: Waits> OnceCell<T, R> {
 
     /// A future of the value, which the closure's future makes if the cell is empty, and which may fail: then the cell stays empty,
     /// and the next one that would make the value is notified. It does nothing until it is polled. The closure is called once at
-    /// most.
+    /// most by each future: after a maker that failed or was cancelled another's closure is called, as in the Rust crate.
+    ///
+    /// The closure may be called (`call`), and what it answers may be polled (`poll`): of a closure without conditions, and a
+    /// future that may be polled at any time, that is so.
     pub fn get_or_try_init<E: Drop, F: FnOnce() -> Fut, Fut: Future<Output = Result<T, E>>>(
         &self,
         closure: F,
@@ -155,7 +158,7 @@ impl<T: Drop, R: Waits> OnceCell<T, R> {
     }
 
     /// A future of the value, which the closure's future makes if the cell is empty. It does nothing until it is polled. The closure
-    /// is called once at most.
+    /// is called once at most by each future. What it asks of the closure (`call`, `poll`) is as in [`OnceCell::get_or_try_init`].
     pub fn get_or_init<F: FnOnce() -> Fut, Fut: Future<Output = T>>(
         &self,
         closure: F,
@@ -175,9 +178,8 @@ impl<T: Drop, R: Waits> OnceCell<T, R> {
     }
 
     /// Puts this value in at once if the cell is empty, and else gives it back: also while another task makes the value. What it
-    /// gives back is what was handed in. It waits for nobody but for the lists' short locks, and takes no memory.
-    ///
-    /// The Rust crate has no such call.
+    /// gives back is what was handed in. It waits for nobody but for the lists' short locks. It takes memory for the wakers that are
+    /// due, and does without where that is refused.
     pub fn try_set(&self, value: T) -> Result<(), T>
         ensures { IfErr result (λ back. back ≡ value) }
     {
@@ -198,6 +200,9 @@ impl<T: Drop, R: Waits + Clock + RandomSource + AllocGlobal> OnceCell<T, R> {
     /// Waits for the value, blocking the calling thread until the cell has one. It is refused for memory alone (`memory`), and any
     /// error of `block_on` is [`Refusal::Memory`]; a cell that is full gives its value without. A refused call leaves no
     /// entry in the cell's lists. In an async context it may deadlock: use [`OnceCell::wait`] there.
+    ///
+    /// It asks the runtime to wait, and for the clock, memory and random numbers, which its executor takes; where those are refused, so
+    /// is the call, as for memory. So do the three below. In the Rust crate none of them is refused.
     pub fn wait_blocking(&self) -> Result<&T, Refusal>
         ensures memory { IfErr result (λ refusal. refusal ≡ Refusal.Memory) }
     {
@@ -224,7 +229,7 @@ impl<T: Drop, R: Waits + Clock + RandomSource + AllocGlobal> OnceCell<T, R> {
 
     /// Returns the value, which the closure makes if the cell is empty. It blocks the calling thread while another makes the value.
     /// Any error of `block_on` is [`Refusal::Memory`]; a cell that is full gives its value without. A refused call drops the closure,
-    /// which it hasn't called, and leaves the cell as it was. In an async context it may deadlock.
+    /// which it hasn't called, and leaves the cell as it was. In an async context it may deadlock. The closure may be called.
     pub fn get_or_init_blocking<F: FnOnce() -> T>(&self, closure: F) -> Result<&T, Refusal>
         requires { F.pre closure }
         ensures memory { IfErr result (λ refusal. refusal ≡ Refusal.Memory) }
@@ -249,7 +254,7 @@ impl<T: Drop, R: Waits + Clock + RandomSource + AllocGlobal> OnceCell<T, R> {
     /// makes the value. Any error of `block_on` is [`Refusal::Memory`]; a cell that is full gives its value without. A refused call
     /// drops the closure, which it hasn't called, and leaves the cell as it was. In an async context it may deadlock.
     ///
-    /// A failure is what the closure answered; it is refused for memory alone (`fault`).
+    /// A failure is what the closure answered; it is refused for memory alone (`fault`). The closure may be called.
     pub fn get_or_try_init_blocking<E: Drop, F: FnOnce() -> Result<T, E>>(
         &self,
         closure: F,

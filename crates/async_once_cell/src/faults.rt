@@ -2,7 +2,8 @@
 
 use lock_program::Refusal;
 
-/// Why an initialisation by a closure that may fail gave no value.
+/// Why an initialisation by a closure that may fail gave no value. The Rust crate's call fails as its closure does, and is never
+/// refused.
 #[derive(Debug, Drop, PartialEq, Eq)]
 pub enum InitFault<E> {
     /// The closure failed with this.
@@ -11,7 +12,7 @@ pub enum InitFault<E> {
     Refused(Refusal),
 }
 
-/// Why a set gave its value back.
+/// Why a set gave its value back. The Rust crate's call gives back the value alone, and is never refused.
 #[derive(Debug, Drop, PartialEq, Eq)]
 pub enum SetFault<T> {
     /// The cell had a value already.

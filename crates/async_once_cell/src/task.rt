@@ -121,6 +121,7 @@ pub(crate) fn drop_stage<'a, T: Drop, E: Drop, M: Drop, R: Wait>(
     };
     if let Some(resting) = waiting {
         let (party, place) = resting.resume::<T, E, M>(maker);
-        RawCell::cancel(&cell.raw, &cell.rt, party, place);
+        let seat = RawCell::cancel(&cell.raw, &cell.rt, party, place);
+        cell.raw.rise(seat);
     }
 }

@@ -91,7 +91,7 @@ impl<'a, T: Drop, E: Drop, M: Maker<T, E>> CellParty<'a, T, E, M> {
             State::Empty => Found::Empty,
             State::Making => Found::BeingMade,
             State::Full => {
-                put(&mut self.got, cell.made(rt));
+                put(&mut self.got, cell.words.lend(rt, &self.seat));
                 if let Some(owed) = self.passive.owed.take() {
                     cell.words.all_waiting_told(owed, &self.seat);
                 }
@@ -119,7 +119,7 @@ impl<'a, T: Drop, E: Drop, M: Maker<T, E>> CellParty<'a, T, E, M> {
             }
             State::Making => Found::BeingMade,
             State::Full => {
-                put(&mut self.got, cell.made(rt));
+                put(&mut self.got, cell.words.lend(rt, &self.seat));
                 if let Some(owed) = self.active.owed.take() {
                     cell.words.all_told(owed, &self.seat);
                 }
@@ -167,14 +167,9 @@ impl<'a, T: Drop, E: Drop, M: Maker<T, E>> CellParty<'a, T, E, M> {
         let Some(value) = self.work.made.take() else {
             unreachable!()
         };
-        let set = match cell.words.value().try_insert(rt, value) {
-            Ok(set) => set,
-            Err((set, value)) => {
-                self.work.made = Some(value);
-                set
-            }
-        };
-        put(&mut self.got, cell.words.value().value(&set));
+        let (set, back) = cell.words.put(rt, &self.seat, value);
+        self.work.made = back;
+        put(&mut self.got, cell.words.value(&set));
         let Filled { active, passive } = cell.words.fill(&mut self.seat, &set);
         put(&mut self.active.owed, active);
         put(&mut self.passive.owed, passive);

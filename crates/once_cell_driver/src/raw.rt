@@ -7,7 +7,7 @@ use futures::task::{Source, Waker};
 use std::alloc::{AllocError, Global};
 use std::marker::Model;
 use std::sync::{OnceToken, Wait};
-use words_once_cell::{State, Words};
+use words_once_cell::{Seat, State, Words};
 
 /// A once-cell without its runtime: its word, its value, and who waits.
 ///
@@ -74,11 +74,7 @@ impl<T> RawCell<T> {
 
     /// Returns the value of a full cell. It waits for nobody.
     pub fn get(&self) -> Option<&T> {
-        if self.words.is_full() {
-            self.words.value().get()
-        } else {
-            None
-        }
+        self.words.get()
     }
 
     /// Returns what shows the value of a full cell, by which [`RawCell::value`] reads it. It waits for nobody.
@@ -87,10 +83,7 @@ impl<T> RawCell<T> {
     pub fn witness(&self) -> Option<OnceToken<'_, T>>
         ensures { IfSome result (λ token. token.of ≡ self.now.word.store) }
     {
-        if !self.is_full() {
-            return None;
-        }
-        self.words.value().witness()
+        self.words.witness()
     }
 
     /// Returns the value that this shows. It waits for nobody.
@@ -98,13 +91,13 @@ impl<T> RawCell<T> {
         requires { shown.now.of ≡ self.now.word.store }
         ensures { result.now ≡ shown.now.value }
     {
-        self.words.value().value(shown)
+        self.words.value(shown)
     }
 
-    /// Returns the value of a cell that is full, or waits until there is one. The value stands there before the word says so, and
-    /// so who has found the cell full doesn't wait.
+    /// Returns the value, or waits until there is one. It stands there before the word says so: so who knows that the cell was full
+    /// doesn't wait.
     pub fn made<R: Wait>(&self, rt: &R) -> &T {
-        self.words.value().wait(rt)
+        self.words.made(rt)
     }
 
     /// Returns what the cell was at some moment of the call: one load, which waits for nobody.
@@ -113,6 +106,14 @@ impl<T> RawCell<T> {
         let state = self.words.look(&mut seat);
         self.words.rise(seat);
         state
+    }
+
+    /// Ends a seat that doesn't make.
+    pub fn rise(&self, seat: Seat)
+        requires table { seat.inner.table_id ≡ self.now.word.table }
+        requires nothing { seat.inner.me.0.makes ≡ false }
+    {
+        self.words.rise(seat);
     }
 
     /// Returns the value to be written.

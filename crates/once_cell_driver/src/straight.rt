@@ -93,10 +93,7 @@ impl<T: Drop> RawCell<T> {
         ensures shown { (result.shown.of ≡ self.now.word.store) × IfNone result.back (result.shown.value ≡ value) }
         ensures back { IfSome result.back (λ back. back ≡ value) }
     {
-        let (shown, back) = match self.words.value().try_insert(rt, value) {
-            Ok(shown) => (shown, None),
-            Err((shown, value)) => (shown, Some(value)),
-        };
+        let (shown, back) = self.words.put(rt, seat, value);
         let filled = self.words.fill(seat, &shown);
         Entered {
             filled,
@@ -107,14 +104,18 @@ impl<T: Drop> RawCell<T> {
 
     /// Gives back what a party has that waits between two polls. The program of it has no branch, and so its actions stand here in
     /// their order. Which rows of the table they are, `cancel_rows` says. What made the value is dropped first.
+    ///
+    /// By the contract its seat makes nothing then (`idle`); that it stands in no list and owes nothing, its parts say, which have no
+    /// `Drop`.
     pub fn cancel<'a, E: Drop, M: Drop, R: Wait>(
         cell: &'a RawCell<T>,
         rt: &R,
         party: CellParty<'a, T, E, M>,
         place: Left<()>,
-    )
+    ) -> Seat
         requires tied { IsTiedTo cell.now party }
         requires rests { CanPoll place × (having_of party ≡ having_at place) }
+        ensures idle { (result.inner.table_id ≡ cell.now.word.table) × (result.inner.me.0.makes ≡ false) }
     {
         let CellParty {
             seat,
@@ -124,7 +125,7 @@ impl<T: Drop> RawCell<T> {
             got: _,
         } = party;
         drop(work);
-        cell.give_back(rt, seat, active, passive, place);
+        cell.give_back(rt, seat, active, passive, place)
     }
 
     /// Gives back what a party has that waits between two polls, as [`RawCell::cancel`], and returns its maker.
@@ -145,7 +146,8 @@ impl<T: Drop> RawCell<T> {
             work,
             got: _,
         } = party;
-        cell.give_back(rt, seat, active, passive, place);
+        let seat = cell.give_back(rt, seat, active, passive, place);
+        cell.words.rise(seat);
         let Work {
             maker,
             made: _,
@@ -155,12 +157,20 @@ impl<T: Drop> RawCell<T> {
     }
 
     // The actions of a cancel.
-    fn give_back<R: Wait>(&self, rt: &R, seat: Seat, active: Side, passive: Side, place: Left<()>)
+    fn give_back<R: Wait>(
+        &self,
+        rt: &R,
+        seat: Seat,
+        active: Side,
+        passive: Side,
+        place: Left<()>,
+    ) -> Seat
         requires seat { seat.inner.table_id ≡ self.now.word.table }
         requires active { IsTied self.now.active active }
         requires passive { IsTied self.now.passive passive }
         requires polls { CanPoll place }
         requires rests { (got : Bool) × (having seat.inner.me.0.makes (half_of active) (half_of passive) got ≡ having_at place) }
+        ensures idle { (result.inner.table_id ≡ self.now.word.table) × (result.inner.me.0.makes ≡ false) }
     {
         cancel_rows();
         let mut seat = seat;
@@ -178,7 +188,7 @@ impl<T: Drop> RawCell<T> {
         }
         active.end();
         passive.end();
-        self.words.rise(seat);
+        seat
     }
 }
 

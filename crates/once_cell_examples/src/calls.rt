@@ -65,7 +65,9 @@ where
         Ok(settled) => *settled?,
         Err(_) => return Err(Refusal::Memory),
     };
-    Ok(has_failed && made == 5 && came_back && waited == 5)
+    // A set that is ended before it was ready has its value back.
+    let has_ended = cell.set(7).into_value() == Some(7);
+    Ok(has_failed && made == 5 && came_back && waited == 5 && has_ended)
 }
 
 /// Whether each call does as its comment here says.

@@ -260,7 +260,10 @@ pub(crate) fn end<E: Drop, M: Maker<u64, E>, O: Origin<M>, R: Wait>(
             | Position::Making(_)
             | Position::ToWait
             | Position::Waiting,
-        ) => RawCell::cancel(*shared, bench, party, place),
+        ) => {
+            let seat = RawCell::cancel(*shared, bench, party, place);
+            shared.rise(seat);
+        }
         _ => {
             for _ in bench.forever() {}
             unreachable!()

@@ -66,6 +66,28 @@ fn a_notification_of_a_dropped_future_goes_on(rt: HostRuntime) {
     assert_same(&rt, (second.counts(), third.counts()), ((0, 0), (1, 1)));
 }
 
+// So it is of one that can't fail.
+#[test]
+fn a_notification_of_a_dropped_future_that_can_not_fail_goes_on(rt: HostRuntime) {
+    let (one, two, three) = (task(&rt), task(&rt), task(&rt));
+    let (first, second, third) = (Step::new(), Step::new(), Step::new());
+    let cell = fresh::<u64, _>(rt);
+    let mut making = Settled(cell.get_or_init(|| Sure(first.future())));
+    let mut told = Settled(cell.get_or_init(|| Sure(second.future())));
+    let mut behind = Settled(cell.get_or_init(|| Sure(third.future())));
+    assert!(rt; pends(&one, &mut making));
+    assert!(rt; pends(&two, &mut told));
+    assert!(rt; pends(&three, &mut behind));
+    drop(making);
+    assert!(rt; two.is_woken() && !three.is_woken());
+    drop(told);
+    assert!(rt; three.is_woken() && !cell.is_initialized());
+    third.gives(3);
+    assert_same(&rt, three.poll(&mut behind), Poll::Ready(Ok(&3)));
+    assert_same(&rt, (second.counts(), third.counts()), ((0, 0), (1, 1)));
+    assert!(rt; is_unlisted(&cell));
+}
+
 // One that was notified, and makes now, and is dropped while its maker is pending: the next is woken and makes.
 #[test]
 fn a_dropped_future_that_makes_in_its_turn_notifies_the_next(rt: HostRuntime) {

@@ -36,6 +36,20 @@ fn two_that_wait_are_woken_by_a_try(rt: HostRuntime) {
     assert_same(&rt, two.poll(&mut second), Poll::Ready(Ok(&5)));
 }
 
+// A wait that one task polled, and then another: the later one is woken.
+#[test]
+fn a_wait_wakes_the_task_that_polled_it_last(rt: HostRuntime) {
+    let (one, two) = (task(&rt), task(&rt));
+    let cell = fresh::<u64, _>(rt);
+    let mut waiting = Settled(cell.wait());
+    assert!(rt; pends(&one, &mut waiting));
+    assert!(rt; pends(&two, &mut waiting));
+    assert!(rt; !two.is_woken());
+    assert_same(&rt, cell.try_set(5), Ok(()));
+    assert!(rt; two.is_woken());
+    assert_same(&rt, two.poll(&mut waiting), Poll::Ready(Ok(&5)));
+}
+
 // Whoever would make the value, and whoever only waits, is woken by the maker's value, and no closure is called then.
 #[test]
 fn a_value_wakes_all_that_would_make_one(rt: HostRuntime) {

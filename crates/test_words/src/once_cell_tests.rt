@@ -13,10 +13,7 @@ fn claim_once<R: Wait>(rt: &R, words: &Words<u32>, fills: bool) -> State {
     match words.claim(&mut seat) {
         State::Empty => {
             if fills {
-                let set = match words.value().try_insert(rt, 7) {
-                    Ok(set) => set,
-                    Err((set, _)) => set,
-                };
+                let (set, _) = words.put(rt, &seat, 7);
                 let Filled { active, passive } = words.fill(&mut seat, &set);
                 words.active().notify_additional(rt, usize::MAX, active);
                 words.passive().notify_additional(rt, usize::MAX, passive);
@@ -35,6 +32,27 @@ fn claim_once<R: Wait>(rt: &R, words: &Words<u32>, fills: bool) -> State {
         State::Full => {
             words.rise(seat);
             State::Full
+        }
+    }
+}
+
+// Puts this value in by a new seat, if the cell is empty: what came back, what was found before the word said so, and what
+// afterwards.
+fn put_in<R: Wait>(rt: &R, words: &Words<u32>, value: u32) -> Option<[Option<u32>; 3]> {
+    let mut seat = words.sit();
+    match words.claim(&mut seat) {
+        State::Empty => {
+            let (set, back) = words.put(rt, &seat, value);
+            let before = words.get().copied().or(words.witness().map(|_| 0));
+            let Filled { active, passive } = words.fill(&mut seat, &set);
+            words.active().notify_additional(rt, usize::MAX, active);
+            words.passive().notify_additional(rt, usize::MAX, passive);
+            words.rise(seat);
+            Some([back, before, words.get().copied()])
+        }
+        State::Making | State::Full => {
+            words.rise(seat);
+            None
         }
     }
 }
@@ -108,6 +126,27 @@ fn a_cell_is_claimed_filled_and_emptied(rt: HostRuntime) {
         &rt,
         "it is empty once more",
         look_once(&words) == State::Empty,
+    );
+}
+
+// A value is found only while the word says so, also where one stands there: that one stays, and another comes back.
+#[test]
+fn a_value_is_found_while_the_word_says_full(rt: HostRuntime) {
+    let Ok(words) = Words::<u32>::new(rt.alloc()) else {
+        return;
+    };
+    expect(
+        &rt,
+        "it is found once the word says so",
+        put_in(&rt, &words, 7) == Some([None, None, Some(7)]),
+    );
+    expect(&rt, "the word is empty", take_once(&words));
+    expect(&rt, "no value is found", words.get().is_none());
+    expect(&rt, "nor shown", words.witness().is_none());
+    expect(
+        &rt,
+        "the value that stands there stays",
+        put_in(&rt, &words, 8) == Some([Some(8), None, Some(7)]),
     );
 }
 

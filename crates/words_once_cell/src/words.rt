@@ -1,6 +1,6 @@
 //! The word of a once-cell with its value, and the steps on it.
 
-ghost use Rattle.std.specs.Prelude.{◌≡◌, ◌≢◌, ◌≤◌, ℕ, true, false, [], ◌∷◌, IfOk, MatchBool};
+ghost use Rattle.std.specs.Prelude.{◌≡◌, ◌≢◌, ◌≤◌, ℕ, true, false, [], ◌∷◌, IfNone, IfOk, IfSome, MatchBool};
 ghost use Rattle.async_driver.specs.Heard.{IsOfStep};
 ghost use Rattle.words_once_cell.specs.Steps.{first_view, having_found, having_claimed, having_filled, having_emptied, having_taken};
 ghost use Rattle.words_once_cell.specs.Words.{word_of};
@@ -14,7 +14,7 @@ use atomic_table::Table;
 use futures::task::Waker;
 use std::alloc::{AllocError, Global};
 use std::marker::Model;
-use std::sync::{OnceLock, OnceToken};
+use std::sync::{OnceLock, OnceToken, Wait};
 use words_base::Nothing;
 
 const WORD: usize = 0;
@@ -128,11 +128,65 @@ impl<T: Drop> Words<T> {
 }
 
 impl<T> Words<T> {
-    /// Where the value lies.
-    pub fn value(&self) -> &OnceLock<T>
-        ensures { result.now.id ≡ self.now.store }
+    /// Puts a value in, by the seat that has the right to make: what shows the cell's value, and this value back where another
+    /// stands there already.
+    ///
+    /// Nobody else puts one in meanwhile, since one seat at most has that right. So the call doesn't wait for another thread.
+    pub fn put<R: Wait>(&self, rt: &R, seat: &Seat, value: T) -> (OnceToken<'_, T>, Option<T>)
+        requires table { seat.now.inner.table_id ≡ self.now.table }
+        requires makes { seat.now.inner.me.0.makes ≡ true }
+        ensures shown { result.0.of ≡ self.now.store }
+        ensures set { IfNone result.1 (result.0.value ≡ value) }
+        ensures back { IfSome result.1 (λ back. back ≡ value) }
     {
-        &self.value
+        let _ = seat;
+        match self.value.try_insert(rt, value) {
+            Ok(shown) => (shown, None),
+            Err((shown, value)) => (shown, Some(value)),
+        }
+    }
+
+    /// Returns the value of a full cell. It needs no seat and waits for nobody.
+    pub fn get(&self) -> Option<&T> {
+        if self.is_full() {
+            self.value.get()
+        } else {
+            None
+        }
+    }
+
+    /// Returns what shows the value of a full cell, by which [`Words::value`] reads it. It needs no seat and waits for nobody.
+    pub fn witness(&self) -> Option<OnceToken<'_, T>>
+        ensures { IfSome result (λ shown. shown.of ≡ self.now.store) }
+    {
+        if self.is_full() {
+            self.value.witness()
+        } else {
+            None
+        }
+    }
+
+    /// Returns the value that this shows. It waits for nobody.
+    pub fn value<'a>(&'a self, shown: &OnceToken<'a, T>) -> &'a T
+        requires { shown.now.of ≡ self.now.store }
+        ensures { result.now ≡ shown.now.value }
+    {
+        self.value.value(shown)
+    }
+
+    /// Returns the value, for a seat that found the cell full. The value stands there before the word says so, and so the call
+    /// doesn't wait.
+    pub fn lend<R: Wait>(&self, rt: &R, seat: &Seat) -> &T
+        requires table { seat.now.inner.table_id ≡ self.now.table }
+        requires full { seat.now.inner.me.0.found ≡ 2 }
+    {
+        let _ = seat;
+        self.made(rt)
+    }
+
+    /// Returns the value, or waits until there is one. Who knows that the cell was full doesn't wait.
+    pub fn made<R: Wait>(&self, rt: &R) -> &T {
+        self.value.wait(rt)
     }
 
     /// Returns the value to be written.
