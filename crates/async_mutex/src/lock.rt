@@ -9,7 +9,7 @@ ghost use Rattle.async_mutex.specs.Futures.{HasReceipt, IsTurn, WaitsAt, future}
 use crate::guard::Guard;
 use crate::mutex::Mutex;
 use crate::owns::Owns;
-use crate::stage::{Stage, ask, drop_stage, first_turn, into_guard, take, told_turn};
+use crate::stage::{Stage, drop_stage, first_turn, into_guard, later_turn, take};
 use async_driver::{Polled, Turn};
 use futures::task::Context;
 use lock_driver::{RawMutex, Waiting};
@@ -84,10 +84,7 @@ impl<T, R: Wait + Clock, O: Owns<T, R>> LockFuture<T, R, O> {
             }
             return first_turn::<T, R, O>(&mut self.stage, cx, &mut self.waiting);
         }
-        match ask::<T, R, O>(&self.stage, cx, &mut self.waiting) {
-            None => Turn::Pending,
-            Some(owed) => told_turn::<T, R, O>(&mut self.stage, cx, owed, &mut self.waiting),
-        }
+        later_turn::<T, R, O>(&mut self.stage, cx, &mut self.waiting)
     }
 }
 

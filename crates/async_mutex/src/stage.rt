@@ -99,7 +99,7 @@ pub(crate) fn first_poll<T, R: Wait + Clock, O: Owns<T, R>>(
 
 /// Asks for the notification of what waits.
 #[inline(always)]
-pub(crate) fn ask<T, R: Wait, O: Owns<T, R>>(
+fn ask<T, R: Wait, O: Owns<T, R>>(
     stage: &Stage<O>,
     cx: &mut Context<'_>,
     waiting: &mut Option<Waiting<RawMutex<T>>>,
@@ -183,9 +183,29 @@ pub(crate) fn first_turn<T, R: Wait + Clock, O: Owns<T, R>>(
     into_turn::<T, R, O>(stage, outcome)
 }
 
+/// A poll of what waits. It stands apart, so that a poll is short where it is called that gets the lock at once.
+#[inline(never)]
+pub(crate) fn later_turn<T, R: Wait + Clock, O: Owns<T, R>>(
+    stage: &mut Stage<O>,
+    cx: &mut Context<'_>,
+    waiting: &mut Option<Waiting<RawMutex<T>>>,
+) -> Turn<Guard<T, R, O>>
+    requires { IsSomeAnd waiting.old (WaitsAs O.lock_of stage.old) }
+    ensures turn { IsTurn (λ guard. IsOf O.lock_of stage.old guard.mutex) (is_finished stage.old) result (is_finished stage.new) }
+    ensures share { is_finished stage.new ≡ false → stage.new ≡ stage.old }
+    ensures waiting { IfSome waiting.new (WaitsAs O.lock_of stage.new) }
+    ensures receipt { OnPending result (HasReceipt O.lock_of stage.old cx.new (entry_of waiting.new)) }
+    ensures kept { Keeps cx.old cx.new }
+{
+    match ask::<T, R, O>(stage, cx, waiting) {
+        None => Turn::Pending,
+        Some(owed) => told_turn::<T, R, O>(stage, cx, owed, waiting),
+    }
+}
+
 /// The rest of a poll that was told. It stands apart as [`first_turn`] does.
 #[inline(never)]
-pub(crate) fn told_turn<T, R: Wait + Clock, O: Owns<T, R>>(
+fn told_turn<T, R: Wait + Clock, O: Owns<T, R>>(
     stage: &mut Stage<O>,
     cx: &mut Context<'_>,
     owed: Owed,
