@@ -161,6 +161,8 @@ fn next_of(place: Place<()>, party: u64, number: usize) -> Option<Deed> {
 fn begin_of(party: u64, ways: Ways, number: usize) -> Option<Deed> {
     let tries = Call::TrySet(TRIED + party % 8);
     match (number, ways) {
+        (0, Ways::Makers) => Some(Deed::Begin(Call::Initialize)),
+        (_, Ways::Makers) => None,
         (0, Ways::Whole) => Some(Deed::Whole(tries)),
         (0, _) => Some(Deed::Begin(tries)),
         (1, _) => Some(Deed::Begin(Call::Initialize)),

@@ -24,7 +24,6 @@ fn setting<'g>(alloc: Global, ground: &'g Ground<RawCell<u64>>, parties: u32) ->
 }
 
 // Each walk that was refused memory, and so is none, is begun once more.
-
 fn through_states<R: Wait>(bench: &Bench<R>, setting: Setting<'_>, order: Order) -> Option<Walk> {
     match walk_states::<CellShell<'_>, R>(bench, setting, order, MANY) {
         None => walk_states::<CellShell<'_>, R>(bench, setting, order, MANY),
@@ -118,6 +117,20 @@ fn three_parties_go_alike_by_each_schedule(rt: HostRuntime) {
             ..setting(alloc, &ground, 3)
         };
         expect_alike(&bench, by_schedules(&bench, of_three, 7));
+    }
+}
+
+// By as many deeds as the parties of a mutex.
+#[test]
+fn three_initialisations_go_alike_by_each_schedule(rt: HostRuntime) {
+    let alloc = rt.alloc();
+    if let (Ok(ground), Some(bench)) = (Ground::new(alloc), Bench::new(rt, 3)) {
+        let of_three = Setting {
+            ways: Ways::Makers,
+            refuses: false,
+            ..setting(alloc, &ground, 3)
+        };
+        expect_alike(&bench, by_schedules(&bench, of_three, 10));
     }
 }
 

@@ -13,6 +13,8 @@ pub(crate) enum Ways {
     Whole,
     /// Either way, so that calls also go whole while others are inside a try or a drop.
     Both,
+    /// One action at a time, and what they begin is an initialisation.
+    Makers,
 }
 
 /// Which table the World goes by.
