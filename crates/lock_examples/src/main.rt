@@ -1,0 +1,24 @@
+//! The locks as their users meet them. Each lock has a module, and each of that module's own modules is one example. The program
+//! runs the examples, and prints a line for each, below the name of its lock.
+#![tactic(auto)]
+
+mod barrier;
+mod mutex;
+mod once_cell;
+mod rwlock;
+mod semaphore;
+
+use std::process::ExitCode;
+
+fn main(rt: HostRuntime) -> ExitCode {
+    let is_done = mutex::print_all(rt)
+        && rwlock::print_all(rt)
+        && semaphore::print_all(rt)
+        && once_cell::print_all(rt)
+        && barrier::print_all(rt);
+    if is_done {
+        ExitCode::SUCCESS
+    } else {
+        ExitCode::FAILURE
+    }
+}

@@ -1,0 +1,75 @@
+//! The mutex as its users meet it: shared by two threads, on an executor, cancelled, and owned by its guard; and what a user
+//! proves of the value that a guard lends. Each module is one example. The program runs all of them except [`read_twice`], which
+//! is only proved, and prints a line for each.
+
+mod calls;
+mod cancelled;
+mod executor;
+mod owned;
+mod read_twice;
+mod two_threads;
+
+use async_lock::{Mutex, Refusal};
+use futures::test::MockTask;
+use std::random::RandomSource;
+use std::sync::Wait;
+use std::thread::Threads;
+use std::time::Clock;
+
+// What each example returns, in order.
+struct Results {
+    sum: u64,
+    read: u64,
+    is_passed_on: bool,
+    owned: u64,
+    is_as_shown: bool,
+}
+
+fn run_all<R>(rt: R) -> Result<Results, Refusal>
+where
+    R: Wait + Clock + RandomSource + AllocGlobal + Threads + Sync + Copy + Drop,
+{
+    let sum = two_threads::run(rt)?;
+    let mutex = Mutex::new(rt, 7_u64)?;
+    let read = executor::read(&rt, &mutex)?;
+    let Ok(task) = MockTask::new(&rt) else {
+        return Err(Refusal::Memory);
+    };
+    let guard = mutex.lock_blocking()?;
+    let is_passed_on = cancelled::second_gets_it(&mutex, guard, &task)?;
+    let guard = owned::locked(rt, 9)?;
+    let owned = *guard;
+    let is_as_shown = calls::run(rt)?;
+    Ok(Results {
+        sum,
+        read,
+        is_passed_on,
+        owned,
+        is_as_shown,
+    })
+}
+
+/// Runs each example except [`read_twice`], and prints a line for each. Returns whether each was run and printed.
+pub(crate) fn print_all<R>(rt: R) -> bool
+where
+    R: Wait + Clock + RandomSource + AllocGlobal + Threads + Print + Sync + Copy + Drop,
+{
+    let Ok(
+        Results {
+            sum,
+            read,
+            is_passed_on,
+            owned,
+            is_as_shown,
+        },
+    ) = run_all(rt)
+    else {
+        return false;
+    };
+    match println!(rt;
+        "mutex:\ntwo threads: {sum}\nexecutor: {read}\ncancelled: {is_passed_on}\nowned: {owned}\neach call is as shown: {is_as_shown}"
+    ) {
+        Ok(()) => true,
+        Err(_) => false,
+    }
+}

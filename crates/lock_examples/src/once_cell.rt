@@ -1,0 +1,59 @@
+//! The once-cell as its users meet it: a value that the first thread makes and all others read. The program prints a line for
+//! each example.
+
+mod calls;
+mod made_once;
+mod set_once;
+mod shown;
+
+use async_lock::Refusal;
+use std::alloc::AllocGlobal;
+use std::random::RandomSource;
+use std::sync::Wait;
+use std::thread::Threads;
+use std::time::Clock;
+
+/// What the examples found.
+#[derive(Drop)]
+struct Found {
+    sum: u64,
+    is_first: bool,
+    read: Option<u64>,
+    is_so: bool,
+}
+
+fn run_all<R>(rt: R) -> Result<Found, Refusal>
+where
+    R: Wait + Clock + RandomSource + AllocGlobal + Threads + Sync + Copy + Drop,
+{
+    let sum = made_once::run(rt)?;
+    let is_first = set_once::is_first_kept(rt)?;
+    let read = shown::run(rt)?;
+    let is_so = calls::run(rt)?;
+    Ok(Found {
+        sum,
+        is_first,
+        read,
+        is_so,
+    })
+}
+
+/// Runs each example, and prints a line for each. Returns whether each was run and printed.
+pub(crate) fn print_all<R>(rt: R) -> bool
+where
+    R: Wait + Clock + RandomSource + AllocGlobal + Threads + Print + Sync + Copy + Drop,
+{
+    let Ok(found) = run_all(rt) else {
+        return false;
+    };
+    let Some(read) = found.read else {
+        return false;
+    };
+    let (sum, is_first, is_so) = (found.sum, found.is_first, found.is_so);
+    match println!(rt;
+        "once-cell:\nmade once: {sum}\nthe first is kept: {is_first}\nread again: {read}\neach call is as shown: {is_so}"
+    ) {
+        Ok(()) => true,
+        Err(_) => false,
+    }
+}

@@ -1,0 +1,78 @@
+//! The read-write lock as its users meet it: read by two threads at a time, upgraded without letting a writer in between, owned by
+//! its guard, round a cache that one refreshes, and with what a user proves of the values that its guards lend; and its other calls. Each module is
+//! one example. The program runs them all, and prints a line for each.
+
+mod cache;
+mod calls;
+mod lent;
+mod owned;
+mod two_readers;
+mod upgraded;
+
+use async_lock::{Refusal, RwLock};
+use std::alloc::AllocGlobal;
+use std::random::RandomSource;
+use std::sync::Wait;
+use std::thread::Threads;
+use std::time::Clock;
+
+// What each example returns, in order.
+struct Results {
+    sum: u64,
+    upgraded: u64,
+    owned: u64,
+    degrees: u64,
+    asked: u64,
+    read_again: u64,
+    is_as_shown: bool,
+}
+
+fn run_all<R>(rt: R) -> Result<Results, Refusal>
+where
+    R: Wait + Clock + RandomSource + AllocGlobal + Threads + Sync + Copy + Drop,
+{
+    let sum = two_readers::run(rt)?;
+    let lock = RwLock::new(rt, 40_u64)?;
+    let first = upgraded::add_if_even(&lock, 1)?;
+    let second = upgraded::add_if_even(&lock, 1)?;
+    let owned = owned::read(rt, 9)?;
+    let (degrees, asked) = cache::run(rt)?;
+    let read_again = lent::run(rt, 5)?;
+    let is_as_shown = calls::run(rt)?;
+    Ok(Results {
+        sum,
+        upgraded: first.saturating_add(second),
+        owned: *owned,
+        degrees,
+        asked,
+        read_again,
+        is_as_shown,
+    })
+}
+
+/// Runs each example, and prints a line for each. Returns whether each was run and printed.
+pub(crate) fn print_all<R>(rt: R) -> bool
+where
+    R: Wait + Clock + RandomSource + AllocGlobal + Threads + Print + Sync + Copy + Drop,
+{
+    let Ok(
+        Results {
+            sum,
+            upgraded,
+            owned,
+            degrees,
+            asked,
+            read_again,
+            is_as_shown,
+        },
+    ) = run_all(rt)
+    else {
+        return false;
+    };
+    match println!(rt;
+        "read-write lock:\ntwo readers: {sum}\nupgraded: {upgraded}\nowned: {owned}\ncache: {degrees}, refreshed {asked} time\nread again: {read_again}\neach call is as shown: {is_as_shown}"
+    ) {
+        Ok(()) => true,
+        Err(_) => false,
+    }
+}

@@ -1,0 +1,40 @@
+//! The semaphore as its users meet it: a limit on how many threads work at a time, permits that are acquired several at once, and its other
+//! calls. The program prints a line for each example.
+
+mod at_most_two;
+mod calls;
+mod several_at_once;
+
+use async_lock::Refusal;
+use std::alloc::AllocGlobal;
+use std::random::RandomSource;
+use std::sync::Wait;
+use std::thread::Threads;
+use std::time::Clock;
+
+fn run_all<R>(rt: R) -> Result<(u64, bool, usize, bool), Refusal>
+where
+    R: Wait + Clock + RandomSource + AllocGlobal + Threads + Sync + Copy + Drop,
+{
+    let most = at_most_two::run(rt)?;
+    let (three_more, left) = several_at_once::run(rt)?;
+    let is_as_shown = calls::run(rt)?;
+    Ok((most, three_more, left, is_as_shown))
+}
+
+/// Runs each example, and prints a line for each. Returns whether each was run and printed.
+pub(crate) fn print_all<R>(rt: R) -> bool
+where
+    R: Wait + Clock + RandomSource + AllocGlobal + Threads + Print + Sync + Copy + Drop,
+{
+    let Ok((most, three_more, left, is_as_shown)) = run_all(rt) else {
+        return false;
+    };
+    match println!(rt;
+        "semaphore:\nat most two: {}\nthree more: {three_more}\nleft of five: {left}\neach call is as shown: {is_as_shown}",
+        most <= 2
+    ) {
+        Ok(()) => true,
+        Err(_) => false,
+    }
+}

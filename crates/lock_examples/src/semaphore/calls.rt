@@ -1,0 +1,86 @@
+//! The other calls of a semaphore: tries, futures on an executor, and the forms that own their share of the semaphore.
+
+use async_lock::{Refusal, Semaphore, Settled};
+use futures::executor::block_on;
+use std::alloc::AllocGlobal;
+use std::random::RandomSource;
+use std::sync::{Arc, Wait};
+use std::time::Clock;
+
+/// By tries, which answer at once: of no permit none is had, and of two that are added one is left.
+fn by_tries<R>(rt: R) -> Result<bool, Refusal>
+where
+    R: Wait + AllocGlobal + Drop,
+{
+    let semaphore = Semaphore::new(rt, 0)?;
+    let is_empty = semaphore.try_acquire().is_none();
+    let given = semaphore.add_permits(2)?;
+    let Some(guard) = semaphore.try_acquire() else {
+        return Ok(false);
+    };
+    Ok(
+        is_empty
+            && given.available() == 2
+            && guard.permits() == 1
+            && semaphore.available_permits() == 1,
+    )
+}
+
+/// By futures on an executor, each `Settled`.
+fn by_futures<R>(rt: R) -> Result<bool, Refusal>
+where
+    R: Wait + Clock + RandomSource + AllocGlobal + Copy + Drop,
+{
+    let semaphore = Semaphore::new(rt, 3)?;
+    let one = match block_on(&rt, Settled(semaphore.acquire())) {
+        Ok(settled) => settled?,
+        Err(_) => return Err(Refusal::Memory),
+    };
+    let two = match block_on(&rt, Settled(semaphore.acquire_many(2))) {
+        Ok(settled) => settled?,
+        Err(_) => return Err(Refusal::Memory),
+    };
+    Ok(one.permits() == 1 && two.permits() == 2 && semaphore.available_permits() == 0)
+}
+
+/// By guards that own their share of the semaphore, which try or block.
+fn owned<R>(rt: R) -> Result<bool, Refusal>
+where
+    R: Wait + Clock + RandomSource + AllocGlobal + Copy + Drop,
+{
+    let Ok(semaphore) = Arc::new(rt.alloc(), Semaphore::new(rt, 3)?) else {
+        return Err(Refusal::Memory);
+    };
+    let one = Semaphore::try_acquire_arc(&semaphore).is_some();
+    let two = Semaphore::try_acquire_many_arc(&semaphore, 2).is_some();
+    let first = Semaphore::acquire_arc_blocking(&semaphore)?;
+    let others = Semaphore::acquire_many_arc_blocking(&semaphore, 2)?;
+    Ok(one && two && first.permits() == 1 && others.permits() == 2)
+}
+
+/// By futures that own their share of the semaphore and give it to their guards.
+fn owned_futures<R>(rt: R) -> Result<bool, Refusal>
+where
+    R: Wait + Clock + RandomSource + AllocGlobal + Copy + Drop,
+{
+    let Ok(semaphore) = Arc::new(rt.alloc(), Semaphore::new(rt, 3)?) else {
+        return Err(Refusal::Memory);
+    };
+    let one = match block_on(&rt, Settled(Semaphore::acquire_arc(&semaphore))) {
+        Ok(settled) => settled?,
+        Err(_) => return Err(Refusal::Memory),
+    };
+    let two = match block_on(&rt, Settled(Semaphore::acquire_many_arc(&semaphore, 2))) {
+        Ok(settled) => settled?,
+        Err(_) => return Err(Refusal::Memory),
+    };
+    Ok(one.permits() == 1 && two.permits() == 2)
+}
+
+/// Whether each call does as its comment here says.
+pub(crate) fn run<R>(rt: R) -> Result<bool, Refusal>
+where
+    R: Wait + Clock + RandomSource + AllocGlobal + Copy + Drop,
+{
+    Ok(by_tries(rt)? && by_futures(rt)? && owned(rt)? && owned_futures(rt)?)
+}
