@@ -21,7 +21,7 @@ impl Kept {
     ghost use Rattle.async_driver.specs.Tasks.{woken_by};
 
     /// Says which task this waker wakes, if there is one.
-    pub fn of(waker: &Option<Waker>) -> Kept
+    pub(crate) fn of(waker: &Option<Waker>) -> Kept
         ensures { result.by ≡ woken_by waker.now }
     {
         let _ = waker;

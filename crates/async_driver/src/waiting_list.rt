@@ -30,11 +30,11 @@ impl Wakes for Waker {
 /// An entry in a list.
 ///
 /// Only [`WaitingList::leave`] ends it, and a poll that finds it notified: it has no `Drop`. In clauses it is its list,
-/// and the task whose waker the entry keeps, once it has been polled.
+/// and the task whose waker the entry keeps, once it has been polled. Only this crate says either: its fields are closed to whoever has it.
 pub struct Listed {
     id: EntryId,
-    pub list: ListId,
-    pub keeps: Kept,
+    list: ListId,
+    keeps: Kept,
 }
 
 impl Listed {
@@ -98,6 +98,8 @@ pub struct WaitingList<W: Wakes> {
 
 // By hand, so that a drop is one call to prove, and not all of its parts again.
 impl<W: Wakes> Drop for WaitingList<W> {
+    // In line, since an `Arc` clears room for a whole value whose drop is a call.
+    #[inline(always)]
     fn drop(self) {
         let WaitingList {
             name: _,

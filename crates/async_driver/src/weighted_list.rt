@@ -24,9 +24,9 @@ use std::sync::{Mutex, Wait};
 /// the task whose waker the entry keeps, once it has been polled, and for how many units it waits.
 pub struct WeightedListed {
     id: EntryId,
-    pub list: ListId,
-    pub keeps: Kept,
-    pub weight: u64,
+    list: ListId,
+    keeps: Kept,
+    weight: u64,
 }
 
 impl WeightedListed {
