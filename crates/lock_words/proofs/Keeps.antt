@@ -1,21 +1,20 @@
 -- Each step on a mutex's table keeps its rule.
-use Rattle.std.proofs.Common.{◌≡◌, ℕ, zero, suc, ◌+◌, ◌-◌, ◌/◌, ◌%◌, ◌^◌, ◌<◌, true, false, eqb, List, [], ◌∷◌, ◌++◌, get_or, set, sym, refl, ap, ◌∙◌, subst, arith, ⊎_elim, eq-eqb, ne_eqb, bit_or}
-use mathlib.Core.Logic.{dite}
+use Rattle.std.proofs.Common.{◌≡◌, ℕ, zero, suc, ◌+◌, ◌-◌, ◌/◌, ◌%◌, ◌^◌, ◌<◌, true, false, List, [], ◌∷◌, ◌++◌, get_or, set, sym, refl, ap, ◌∙◌, subst, arith, ⊎_elim}
 use mathlib.Core.Option.{none, some, some-injective, some-ne-none}
-use native.Mathlib.Decide.{ℕ_discrete}
 use lib.ListN.{get_elem?}
-use prog.Atomic.{either}
-use Rattle.atomic_table.specs.Table.{State, Me, step, keeps, takes, gives, stepped, put_back, opening, Allows, Enters}
+use Rattle.atomic_table.specs.Table.{State, Me, step, keeps, takes, gives, stepped, put_back, opening, Enters}
 use Rattle.atomic_table.proofs.Lists.{set_here, at_set, at_snoc}
 use Rattle.lock_place.specs.Held.{RoomId}
 use Rattle.lock_words.specs.declared.seat.View.{View}
 use Rattle.lock_words.specs.declared.rested.Rested.{Rested}
 use Rattle.lock_words.specs.Right.{IsRight}
 use Rattle.lock_words.specs.Rule.{is_holder, is_starved, Ruled}
-use Rattle.lock_words.specs.Steps.{first_view, with_holds, without_holds, with_count, without_count, Got, Kept, Took, WasSet, Counts, Uncounts, Clears}
+use Rattle.lock_words.specs.Steps.{first_view, with_holds, without_holds, with_count, without_count, Got, Kept, Cleared}
+use Rattle.lock_words.specs.Word.{LetsLook, LetsTake, LetsSet, LetsCount, LetsUncount, LetsClear}
 use Rattle.words_base.specs.Sums.{weight, number}
 use Rattle.words_base.specs.MutexWord.{IsWord}
 use Rattle.words_base.proofs.MutexWord as word
+use Rattle.lock_words.proofs.WordSteps as steps
 use Rattle.words_base.proofs.Sums.{number-set, number-none}
 
 abbrev most : ℕ
@@ -83,64 +82,44 @@ module _ (T : Type 0) (room : RoomId) (deed : ℕ) where
     got_told : (even : x % 2 ≡ 0) → Got (x / 2) me (with_holds me.0 (x / 2), (0, (home even).0) ∷ me.1)
     got_told even = (refl, ((home even).0, refl, of_seat me key (home even).0 (home even).2))
 
-  -- from a free lock's word the seat gets the lock
-  pub taken : (slots id old new : ℕ) (me : M) → old % 2 ≡ 0 → new ≡ old + 1 → Allows R slots id me 0 (λ x. either (eqb x old) new x) (Took (step slots 0 old new none) me)
-  taken slots id old new me even one s r _ at _ = let x : ℕ = get_or s.words 0 0 in dite (ℕ_discrete x old)
-      (λ hit. let is_even : x % 2 ≡ 0 = ap (λ n. n % 2) hit ∙ even in let y : Rested T = (home s id me r at is_even).0 in let w : View = with_holds me.0 (x / 2) in
-      let up : x + 1 ≡ either (eqb x old) new x = subst (λ b. x + 1 ≡ either b new x) (sym (eq-eqb x old hit)) (ap (λ n. n + 1) hit ∙ sym one) in (
-        w,
-        takes 0 y,
-        (home s id me r at is_even).1,
-        subst (λ n. R (stepped s 0 n id me.1 w (takes 0 y))) up (got_home s id me r at is_even),
-        ((λ _. got_told s id me r at is_even), λ not. absurd (not hit)),
-      ))
-      (λ miss. (
-        me.0,
-        keeps,
-        tt,
-        subst (λ b. R (stepped s 0 (either b new x) id me.1 me.0 keeps)) (sym (ne_eqb x old miss)) (still s id me r at),
-        ((λ hit. absurd (miss hit)), λ _. refl),
-      ))
+  -- a look changes nothing
+  abbrev same : ℕ → View → View
+  same n v = v
 
-  -- the lowest bit is set: from a free lock's word the seat gets the lock
-  pub set_held : (slots id : ℕ) (me : M) → Allows R slots id me 0 (λ x. bit_or x 1) (WasSet (step slots 0 1 0 none) me)
-  set_held slots id me s r _ at _ = let x : ℕ = get_or s.words 0 0 in let low = word.or_one x in dite (ℕ_discrete (x % 2) 0)
-      (λ even. let y : Rested T = (home s id me r at even).0 in let w : View = with_holds me.0 (x / 2) in let up : x + 1 ≡ bit_or x 1 = omega arith in (
-        w,
-        takes 0 y,
-        (home s id me r at even).1,
-        subst (λ n. R (stepped s 0 n id me.1 w (takes 0 y))) up (got_home s id me r at even),
-        ((λ _. got_told s id me r at even), λ not. absurd (not even)),
-      ))
-      (λ odd. let same : x ≡ bit_or x 1 = omega arith in (
-        me.0,
-        keeps,
-        tt,
-        subst (λ n. R (stepped s 0 n id me.1 me.0 keeps)) same (still s id me r at),
-        ((λ even. absurd (odd even)), λ _. refl),
-      ))
+  abbrev gets : ℕ → M → M → Type 0
+  gets n = Got (n / 2)
 
-  -- below the limit the seat is counted
-  pub counted : (slots id old new : ℕ) (me : M) → old / 2 < most → new ≡ old + 2 → me.0.starved ≡ false → Allows R slots id me 0 (λ x. either (eqb x old) new x) (Counts (step slots 0 old new none) me)
-  counted slots id old new me below two not s r _ at _ = let x : ℕ = get_or s.words 0 0 in let w : View = with_count me.0 in dite (ℕ_discrete x old)
-      (λ hit. let few : x / 2 < most = subst (λ n. n / 2 < most) (sym hit) below in
-      let up : x + 2 ≡ either (eqb x old) new x = subst (λ b. x + 2 ≡ either b new x) (sym (eq-eqb x old hit)) (ap (λ n. n + 2) hit ∙ sym two) in (
-        w,
-        keeps,
-        tt,
-        subst (λ n. R (stepped s 0 n id me.1 w keeps)) up (unmoved s id me r at (x + 2) 0 w (word.counts is_holder is_starved most 0 s.words s.views id me.0 w r.0 at few refl not refl) (same_holders s id me r at w refl) (key s id me r at)),
-        ((λ _. refl), λ miss. absurd (miss hit)),
-      ))
-      (λ miss. (
-        me.0,
-        keeps,
-        tt,
-        subst (λ b. R (stepped s 0 (either b new x) id me.1 me.0 keeps)) (sym (ne_eqb x old miss)) (still s id me r at),
-        ((λ hit. absurd (miss hit)), λ _. refl),
-      ))
+  module _ (slots id : ℕ) (me : M) where
+    misses : steps.Misses R slots id 0 me same
+    misses s r at = still s id me r at
+
+    gets_free : steps.Gets R slots id 0 me same gets
+    gets_free s r at even = (
+      with_holds me.0 (get_or s.words 0 0 / 2),
+      takes 0 (home s id me r at even).0,
+      (home s id me r at even).1,
+      got_home s id me r at even,
+      got_told s id me r at even,
+    )
+
+    pub looked : LetsLook R slots id 0 me same
+    looked = steps.looks R slots id 0 me same misses
+
+    pub taken : (old : ℕ) → old % 2 ≡ 0 → LetsTake R slots id 0 me same gets old
+    taken old even = steps.takes R slots id 0 me same gets old even misses gets_free
+
+    pub set_held : LetsSet R slots id 0 me same gets
+    set_held = steps.sets R slots id 0 me same gets misses gets_free
+
+    -- below the limit the seat is counted
+    pub counted : (old : ℕ) → old / 2 < most → me.0.starved ≡ false → LetsCount R slots id 0 me with_count old
+    counted old below not = steps.counts R slots id 0 me with_count old
+        (λ s r at hit. let x : ℕ = get_or s.words 0 0 in let w : View = with_count me.0 in let few : x / 2 < most = subst (λ n. n / 2 < most) (sym hit) below in
+        unmoved s id me r at (x + 2) 0 w (word.counts is_holder is_starved most 0 s.words s.views id me.0 w r.0 at few refl not refl) (same_holders s id me r at w refl) (key s id me r at))
+        misses
 
   -- the seat's count goes off
-  pub uncounted : (slots id : ℕ) (me : M) → me.0.starved ≡ true → Allows R slots id me 0 (λ x. (x + (2 ^ 64 - 2)) % 2 ^ 64) (Uncounts (step slots 0 2 0 none) me)
+  pub uncounted : (slots id : ℕ) (me : M) → me.0.starved ≡ true → LetsUncount R slots id 0 me without_count
   uncounted slots id me is s r _ at small = let x : ℕ = get_or s.words 0 0 in let w : View = without_count me.0 in (
     w,
     keeps,
@@ -151,7 +130,7 @@ module _ (T : Type 0) (room : RoomId) (deed : ℕ) where
 
   -- the right goes home, and the lock is free
   pub cleared : (slots id : ℕ) (y : Rested T) (me : M) → me.0.holds ≡ true → me.1 ≡ (0, y) ∷ [] → IsRight me.0.room me.0.deed y → 0 < slots
-      → Allows R slots id me 0 (λ x. (x + (2 ^ 64 - 1)) % 2 ^ 64) (Clears (step slots 0 1 0 none) me)
+      → LetsClear R slots id 0 me Cleared
   cleared slots id y me is has good some_slot s r len at small = let w : View = without_holds me.0 in let k = key s id me r at in (
     w,
     gives,

@@ -1,2 +1,3 @@
 pub mod Keeps
 pub mod Seats
+pub mod WordSteps

@@ -4,3 +4,4 @@ pub mod Rule
 pub mod Seats
 pub mod Steps
 pub mod Tries
+pub mod Word

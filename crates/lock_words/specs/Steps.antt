@@ -1,5 +1,5 @@
 -- What each step on a mutex's table tells the seat that makes it.
-use Rattle.std.specs.Prelude.{◌≡◌, ◌≢◌, ℕ, ◌/◌, ◌%◌, true, false, ◌∷◌}
+use Rattle.std.specs.Prelude.{◌≡◌, ℕ, true, false, ◌∷◌}
 use Rattle.atomic_table.specs.Table.{Me, Step, rest}
 use Rattle.lock_place.specs.Held.{RoomId}
 use Rattle.lock_words.specs.declared.seat.View.{View}
@@ -32,21 +32,6 @@ Got {T} n m m' = (m'.0 ≡ with_holds m.0 n) × ((right : Rested T) × (m'.1 ≡
 abbrev pub Kept : {T : Type 0} → Step (Rested T) → Seen T → ℕ → Seen T → Type 0
 Kept st m r m' = m' ≡ m
 
--- from the word expected the seat has got the lock
-abbrev pub Took : {T : Type 0} → Step (Rested T) → Seen T → ℕ → Seen T → Type 0
-Took st m r m' = (r ≡ st.first → Got (r / 2) m m') × (r ≢ st.first → m' ≡ m)
-
--- from an even word the seat has got the lock
-abbrev pub WasSet : {T : Type 0} → Step (Rested T) → Seen T → ℕ → Seen T → Type 0
-WasSet st m r m' = (r % 2 ≡ 0 → Got (r / 2) m m') × (r % 2 ≢ 0 → m' ≡ m)
-
--- from the word expected the seat is counted
-abbrev pub Counts : {T : Type 0} → Step (Rested T) → Seen T → ℕ → Seen T → Type 0
-Counts st m r m' = (r ≡ st.first → m' ≡ (with_count m.0, m.1)) × (r ≢ st.first → m' ≡ m)
-
-abbrev pub Uncounts : {T : Type 0} → Step (Rested T) → Seen T → ℕ → Seen T → Type 0
-Uncounts st m r m' = m' ≡ (without_count m.0, m.1)
-
 -- the right is at home again
-abbrev pub Clears : {T : Type 0} → Step (Rested T) → Seen T → ℕ → Seen T → Type 0
-Clears st m r m' = m' ≡ (without_holds m.0, rest m.1)
+abbrev pub Cleared : {T : Type 0} → Seen T → Seen T → Type 0
+Cleared m m' = m' ≡ (without_holds m.0, rest m.1)

@@ -2,7 +2,7 @@
 
 ghost use Rattle.std.specs.Prelude.{◌≡◌, ◌%◌};
 
-use crate::look::Full;
+use crate::look::{Full, Look};
 
 /// A step found the lock held.
 #[derive(Drop)]
@@ -11,11 +11,11 @@ pub struct WasHeld {
 }
 
 impl WasHeld {
-    // The word was this.
-    pub(crate) fn of(word: u64) -> WasHeld
-        requires { word % 2 ≡ 1 }
+    // As a look found it.
+    pub(crate) fn of(look: &Look) -> WasHeld
+        requires { look.now.word % 2 ≡ 1 }
     {
-        let _ = word;
+        let _ = look;
         WasHeld { seal: () }
     }
 }

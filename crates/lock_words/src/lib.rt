@@ -2,7 +2,7 @@
 //!
 //! [`Words`] is a mutex's words with its waiting list: one word that says whether the lock is held and how
 //! many waiters are starved, the right to the value, and the value. Each of its tries is a single one,
-//! and none waits. A [`Seat`] is what a party steps with.
+//! and none waits. A [`Seat`] is what a party steps with. The steps on the word alone stand in [`word`], for any table that has one.
 #![tactic(auto)]
 
 mod duty;
@@ -11,6 +11,7 @@ mod look;
 mod rested;
 mod rule;
 mod seat;
+pub mod word;
 mod words;
 
 pub use found::Counting;

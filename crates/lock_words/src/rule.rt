@@ -2,6 +2,7 @@
 
 use crate::rested::Rested;
 use crate::seat::View;
+use crate::word::WordViews;
 use atomic_table::{Play, TableRule};
 use lock_place::Spare;
 
@@ -17,6 +18,26 @@ impl<T> TableRule<Rested<T>, View, Spare<T>> for MutexRule {
     ghost first = { λ spare. first_view spare.room_id spare.deed };
 }
 
+impl<T> WordViews<Rested<T>, View> for MutexRule {
+    ghost use Rattle.std.specs.Prelude.{◌/◌, refl};
+    ghost use Rattle.lock_words.specs.Steps.{with_count, without_count, Got, Cleared};
+
+    // A seat that got nothing is as it was.
+    ghost seeing = { λ _ v. v };
+
+    ghost counted = { with_count };
+
+    ghost uncounted = { without_count };
+
+    ghost got = { λ n. Got (n / 2) };
+
+    ghost cleared = { Cleared };
+
+    ghost sees_last = { λ _ _ _. refl };
+
+    ghost got_last = { λ _ _ _ _ got. got };
+}
+
 // Nothing changes for the seat.
 pub(crate) struct Keep;
 
@@ -24,44 +45,4 @@ impl<T> Play<Rested<T>, View> for Keep {
     ghost use Rattle.lock_words.specs.Steps.{Kept};
 
     ghost then = { Kept };
-}
-
-pub(crate) struct Take;
-
-impl<T> Play<Rested<T>, View> for Take {
-    ghost use Rattle.lock_words.specs.Steps.{Took};
-
-    ghost then = { Took };
-}
-
-pub(crate) struct Set;
-
-impl<T> Play<Rested<T>, View> for Set {
-    ghost use Rattle.lock_words.specs.Steps.{WasSet};
-
-    ghost then = { WasSet };
-}
-
-pub(crate) struct Count;
-
-impl<T> Play<Rested<T>, View> for Count {
-    ghost use Rattle.lock_words.specs.Steps.{Counts};
-
-    ghost then = { Counts };
-}
-
-pub(crate) struct Uncount;
-
-impl<T> Play<Rested<T>, View> for Uncount {
-    ghost use Rattle.lock_words.specs.Steps.{Uncounts};
-
-    ghost then = { Uncounts };
-}
-
-pub(crate) struct Clear;
-
-impl<T> Play<Rested<T>, View> for Clear {
-    ghost use Rattle.lock_words.specs.Steps.{Clears};
-
-    ghost then = { Clears };
 }

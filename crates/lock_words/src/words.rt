@@ -17,10 +17,12 @@ ghost use Rattle.lock_words.specs.declared.rested.Rested.{Rested};
 
 use crate::duty::Key;
 use crate::found::{Counting, WasHeld};
-use crate::look::{HELD, Look, Ruled, WORD, exchange, peek};
+use crate::look::{Look, Ruled, WORD, count, peek, set_held, take, take_alone};
 use crate::rested::Rested;
-use crate::rule::{Clear, Count, Keep, MutexRule, Set, Uncount};
+use crate::rule::{Keep, MutexRule};
 use crate::seat::{Seat, View};
+use crate::word;
+use crate::word::{FREE, HELD, STARVED};
 use async_driver::{Heard, Listed, Owed, WaitingList};
 use atomic_table::{Seat as TableSeat, Table};
 use futures::task::{Context, Source, Waker};
@@ -32,10 +34,6 @@ use words_base::{Setting, Taking, TakingAlone};
 
 /// The greatest number of seats that are counted as starved at once. [`Words::count`] meets it by name.
 pub const STARVED_LIMIT: u64 = 1_073_741_823;
-
-const FREE: u64 = 0;
-
-const STARVED: u64 = 2;
 
 // Where the right rests.
 const SLOT: usize = 0;
@@ -236,16 +234,15 @@ impl<T> Words<T> {
         ensures seat { OnTaking result (λ hold. (seat.new ≡ holding seat.old 0) × Holds self.now seat.new hold) (seat.new ≡ seat.old) (seat.new ≡ seat.old) }
         ensures owed { owed.new ≡ left_by_taking result owed.old }
     {
-        match self.take_from(seat, FREE) {
+        match self.try_take(seat) {
             Ok(hold) => Taking::Got(hold),
-            Err(found) => {
-                if found.word() == HELD {
+            Err(found) => match word::not_taken(found.word()) {
+                Taking::Held => {
                     self.leave_owed(owed, &found);
                     Taking::Held
-                } else {
-                    Taking::Starved
                 }
-            }
+                starved => starved,
+            },
         }
     }
 
@@ -260,39 +257,52 @@ impl<T> Words<T> {
         ensures seat { OnAlone result (λ hold. (seat.new ≡ holding seat.old 1) × Holds self.now seat.new hold) (seat.new ≡ seat.old) (seat.new ≡ seat.old) }
         ensures owed { owed.new ≡ left_by_alone result owed.old }
     {
-        match self.take_from(seat, STARVED) {
+        match self.try_take_alone(seat) {
             Ok(hold) => TakingAlone::Got(hold),
-            Err(found) => {
-                if found.word() % STARVED == HELD {
+            Err(found) => match word::not_taken_alone(found.word()) {
+                TakingAlone::Held => {
                     self.leave_owed(owed, &found);
                     TakingAlone::Held
-                } else {
-                    TakingAlone::FreeWithOthers
                 }
-            }
+                others => others,
+            },
         }
     }
 
-    // Takes the lock where the word is `free`, as of a free lock: one try, which is no exchange where the word is another.
-    // The answer has the right, or what was found.
+    // Takes the lock where nobody is starved. The answer has the right, or what was found.
     #[inline]
-    fn take_from(&self, seat: &mut Seat<T>, free: u64) -> Result<Hold<T>, Look>
+    fn try_take(&self, seat: &mut Seat<T>) -> Result<Hold<T>, Look>
         requires lock { seat.old.lock ≡ self.now.lock }
         requires idle { seat.old.holds ≡ false }
-        requires free { (free % 2 ≡ 0) × (free ≤ 2) }
-        ensures got { IfOk result (λ hold. (seat.new ≡ holding seat.old (free / 2)) × Holds self.now seat.new hold) }
+        ensures got { IfOk result (λ hold. (seat.new ≡ holding seat.old 0) × Holds self.now seat.new hold) }
+        ensures not { OnErr result (seat.new ≡ seat.old) }
+    {
+        let shared = &self.table.shared;
+        if self.left.is_some() {
+            return Err(peek(shared));
+        }
+        match take(shared, &mut seat.inner) {
+            Ok(()) => Ok(take_right(shared, &self.spare, &mut seat.inner)),
+            Err(found) => Err(found),
+        }
+    }
+
+    // Takes the lock where one seat alone is starved, after a look of its own. The answer has the right, or what was found.
+    fn try_take_alone(&self, seat: &mut Seat<T>) -> Result<Hold<T>, Look>
+        requires lock { seat.old.lock ≡ self.now.lock }
+        requires idle { seat.old.holds ≡ false }
+        ensures got { IfOk result (λ hold. (seat.new ≡ holding seat.old 1) × Holds self.now seat.new hold) }
         ensures not { OnErr result (seat.new ≡ seat.old) }
     {
         let shared = &self.table.shared;
         let seen = peek(shared);
-        if seen.word() != free || self.left.is_some() {
+        if seen.word() != STARVED || self.left.is_some() {
             return Err(seen);
         }
-        let found = exchange(shared, &mut seat.inner, free);
-        if found.word() != free {
-            return Err(found);
+        match take_alone(shared, &mut seat.inner) {
+            Ok(()) => Ok(take_right(shared, &self.spare, &mut seat.inner)),
+            Err(found) => Err(found),
         }
-        Ok(take_right(shared, &self.spare, &mut seat.inner))
     }
 
     // A look found the lock held: its holder notifies later.
@@ -332,18 +342,7 @@ impl<T> Words<T> {
         requires one { seat.old.starved ≡ false }
         ensures { OnCounting self.now.limit result (seat.new ≡ counted seat.old) (seat.new ≡ seat.old) }
     {
-        let shared = &self.table.shared;
-        let look = peek(shared);
-        if let Some(full) = look.full(self.limit) {
-            return Counting::AtLimit(full);
-        }
-        let found = look.word();
-        let more = found + STARVED;
-        if shared.compare_exchange::<Count>(&mut seat.inner, WORD, found, more) == found {
-            Counting::Counted
-        } else {
-            Counting::Changed
-        }
+        count(&self.table.shared, &mut seat.inner, self.limit)
     }
 
     /// Takes the seat's count off: one step.
@@ -352,9 +351,7 @@ impl<T> Words<T> {
         requires starved { seat.old.starved ≡ true }
         ensures { seat.new ≡ uncounted seat.old }
     {
-        self.table
-            .shared
-            .fetch_sub::<Uncount>(&mut seat.inner, WORD, STARVED);
+        word::uncount(&self.table.shared, &mut seat.inner, WORD);
     }
 
     /// Gives the lock back, and its right with it: one step. Whoever did so owes a notification.
@@ -446,11 +443,10 @@ fn seize<T>(
     ensures got { IfOk result (λ hold. (hold.room_id ≡ spare.now.room_id) × (inner.new.table_id ≡ inner.old.table_id) × (inner.new.me.0 ≡ with_holds inner.old.me.0 inner.new.me.0.passed) × HasSlots true inner.new.me.1) }
     ensures not { OnErr result ((inner.new.table_id ≡ inner.old.table_id) × (inner.new.me ≡ inner.old.me)) }
 {
-    let word = shared.fetch_or::<Set>(inner, WORD, HELD);
-    if word % STARVED == HELD {
-        return Err(WasHeld::of(word));
+    match set_held(shared, inner) {
+        Ok(()) => Ok(take_right(shared, spare, inner)),
+        Err(found) => Err(WasHeld::of(&found)),
     }
-    Ok(take_right(shared, spare, inner))
 }
 
 // Lays the right into the slot, and gives the lock back with it.
@@ -461,7 +457,7 @@ fn give_back<T>(shared: &Ruled<T>, inner: &mut TableSeat<Rested<T>, View>, right
     ensures { (inner.new.table_id ≡ inner.old.table_id) × (inner.new.me ≡ (without_holds inner.old.me.0, [])) }
 {
     drop(shared.exchange(inner, SLOT, right));
-    shared.fetch_sub::<Clear>(inner, WORD, HELD);
+    word::clear(shared, inner, WORD);
 }
 
 // Takes the right of a free lock, whoever is starved, and leaves a ticket of the spare in its stead.

@@ -1,5 +1,5 @@
 -- Each step on a read-write lock's table keeps its rule.
-use Rattle.std.proofs.Common.{◌≡◌, ◌≢◌, ℕ, zero, suc, ◌+◌, ◌*◌, ◌-◌, ◌/◌, ◌%◌, ◌^◌, ◌<◌, ◌≤◌, Bool, true, false, eqb, List, [], ◌∷◌, ◌++◌, get_or, set, sym, refl, ap, ◌∙◌, subst, arith, ⊎_elim, bit_or, length-set, get_or-set_same, get_or-set_other}
+use Rattle.std.proofs.Common.{◌≡◌, ◌≢◌, ℕ, zero, suc, ◌+◌, ◌*◌, ◌-◌, ◌/◌, ◌%◌, ◌^◌, ◌<◌, ◌≤◌, Bool, true, false, eqb, List, [], ◌∷◌, ◌++◌, get_or, set, sym, refl, ap, ◌∙◌, subst, arith, ⊎_elim, length-set, get_or-set_same, get_or-set_other}
 use mathlib.Core.Logic.{dite}
 use mathlib.Core.Option.{none, some, some-injective, some-ne-none}
 use native.Mathlib.Decide.{ℕ_discrete}
@@ -12,10 +12,12 @@ use Rattle.words_base.specs.declared.Nothing.{Nothing}
 use Rattle.words_rwlock.specs.declared.view.View.{View}
 use Rattle.words_rwlock.specs.Rule.{is_holder, is_starved, is_marked, is_reader, is_writer, Nested, AllNested, Ruled}
 use Rattle.words_base.proofs.Exchanges.{exchanged}
-use Rattle.words_rwlock.specs.Steps.{first_view, having_found, having_seen, Sees, SeesTurn, with_turn, without_turn, with_count, without_count, with_read, without_read, with_mark, with_write, upgraded, downgraded, without_mark, Kept, Took, WasSet, Counts, Uncounts, Clears, Reads, Offs, Adds, Marks, TriesWrite, Looks, TriesUpgrade, Upgrades, Downs, Unmarks}
+use Rattle.lock_words.specs.Word.{LetsLook, LetsTake, LetsSet, LetsCount, LetsUncount, LetsClear}
+use Rattle.words_rwlock.specs.Steps.{first_view, having_found, having_seen, Sees, with_turn, without_turn, with_count, without_count, with_read, without_read, with_mark, with_write, upgraded, downgraded, without_mark, Kept, Reads, Offs, Adds, Marks, TriesWrite, Looks, TriesUpgrade, Upgrades, Downs, Unmarks}
 use Rattle.words_base.specs.Sums.{weight, number}
 use Rattle.words_base.specs.MutexWord.{IsWord}
 use Rattle.words_base.proofs.MutexWord as word
+use Rattle.lock_words.proofs.WordSteps as steps
 use Rattle.words_base.proofs.Sums.{number-set, number-at, number-none}
 
 abbrev most : ℕ
@@ -200,8 +202,17 @@ module _ (slots id : ℕ) (me : M) where
   abbrev At : St → Type 0
   At s = get_elem? s.views id ≡ some me.0
 
-  pub sees_turn : Allows R slots id me 0 (λ x. x) (SeesTurn (step slots 0 0 0 none) me)
-  sees_turn s r _ at _ = let n : ℕ = get_or s.words 0 0 in (having_seen n me.0, keeps, tt, still_seen s id me r at n, refl)
+  abbrev gets : ℕ → M → M → Type 0
+  gets _ m m' = m' ≡ (with_turn m.0, m.1)
+
+  misses : steps.Misses R slots id 0 me having_seen
+  misses s r at = still_seen s id me r at (get_or s.words 0 0)
+
+  gets_free : steps.Gets R slots id 0 me having_seen gets
+  gets_free s r at even = (with_turn me.0, keeps, tt, got s id me r at even, refl)
+
+  pub sees_turn : LetsLook R slots id 0 me having_seen
+  sees_turn = steps.looks R slots id 0 me having_seen misses
 
   pub sees_state : Allows R slots id me 1 (λ x. x) (Sees (step slots 1 0 0 none) me)
   sees_state s r _ at _ = let n : ℕ = get_or s.words 1 0 in (having_found n me.0, keeps, tt, rests_found s id me r at n, refl)
@@ -212,24 +223,21 @@ module _ (slots id : ℕ) (me : M) where
   keeps_state : (s : St) → R s → At s → R (stepped s 1 (get_or s.words 1 0) id me.1 me.0 keeps)
   keeps_state s r at = rests s id me r at
 
-  pub taken : (old new : ℕ) → old % 2 ≡ 0 → new ≡ old + 1 → Allows R slots id me 0 (λ x. either (eqb x old) new x) (Took (step slots 0 old new none) me)
-  taken old new even one = exchanged R slots id me 0 old new (with_turn me.0) (λ n. having_seen n me.0) (λ s r at hit. subst (λ n. R (stepped s 0 n id me.1 (with_turn me.0) keeps)) (ap (λ n. n + 1) hit ∙ sym one) (got s id me r at (subst (λ n. n % 2 ≡ 0) (sym hit) even))) (λ s r at. still_seen s id me r at (get_or s.words 0 0))
+  pub taken : (old : ℕ) → old % 2 ≡ 0 → LetsTake R slots id 0 me having_seen gets old
+  taken old even = steps.takes R slots id 0 me having_seen gets old even misses gets_free
 
-  pub set_held : Allows R slots id me 0 (λ x. bit_or x 1) (WasSet (step slots 0 1 0 none) me)
-  set_held s r _ at _ = let x : ℕ = get_or s.words 0 0 in let low = word.or_one x in dite (ℕ_discrete (x % 2) 0)
-      (λ even. let up : x + 1 ≡ bit_or x 1 = omega arith in (with_turn me.0, keeps, tt, subst (λ n. R (stepped s 0 n id me.1 (with_turn me.0) keeps)) up (got s id me r at even), ((λ _. refl), λ not. absurd (not even))))
-      (λ odd. let same : x ≡ bit_or x 1 = omega arith in (having_seen x me.0, keeps, tt, subst (λ n. R (stepped s 0 n id me.1 (having_seen x me.0) keeps)) same (still_seen s id me r at x), ((λ even. absurd (odd even)), λ _. refl)))
+  pub set_held : LetsSet R slots id 0 me having_seen gets
+  set_held = steps.sets R slots id 0 me having_seen gets misses gets_free
 
-  pub counted : (old new : ℕ) → old / 2 < most → new ≡ old + 2 → me.0.starved ≡ false → Allows R slots id me 0 (λ x. either (eqb x old) new x) (Counts (step slots 0 old new none) me)
-  counted old new below two not = exchanged R slots id me 0 old new (with_count me.0) (λ _. me.0) (λ s r at hit. let x : ℕ = get_or s.words 0 0 in let few : x / 2 < most = subst (λ n. n / 2 < most) (sym hit) below in
-      subst (λ n. R (stepped s 0 n id me.1 (with_count me.0) keeps)) (ap (λ n. n + 2) hit ∙ sym two)
-      (turned s id me r at (with_count me.0) (x + 2) (word.counts is_holder is_starved most 0 s.words s.views id me.0 (with_count me.0) r.0 at few refl not refl) refl refl refl (mine s id me r at))) keeps_turn
+  pub counted : (old : ℕ) → old / 2 < most → me.0.starved ≡ false → LetsCount R slots id 0 me with_count old
+  counted old below not = steps.counts R slots id 0 me with_count old (λ s r at hit. let x : ℕ = get_or s.words 0 0 in let few : x / 2 < most = subst (λ n. n / 2 < most) (sym hit) below in
+      turned s id me r at (with_count me.0) (x + 2) (word.counts is_holder is_starved most 0 s.words s.views id me.0 (with_count me.0) r.0 at few refl not refl) refl refl refl (mine s id me r at)) keeps_turn
 
-  pub uncounted : me.0.starved ≡ true → Allows R slots id me 0 (λ x. (x + (2 ^ 64 - 2)) % 2 ^ 64) (Uncounts (step slots 0 2 0 none) me)
+  pub uncounted : me.0.starved ≡ true → LetsUncount R slots id 0 me without_count
   uncounted is s r _ at small = let x : ℕ = get_or s.words 0 0 in let w : View = without_count me.0 in
       (w, keeps, tt, turned s id me r at w ((x + (2 ^ 64 - 2)) % 2 ^ 64) (word.uncounts is_holder is_starved most 0 s.words s.views id me.0 w r.0 at small refl is refl) refl refl refl (mine s id me r at), refl)
 
-  pub cleared : me.0.holds ≡ true → me.0.marks ≡ false → Allows R slots id me 0 (λ x. (x + (2 ^ 64 - 1)) % 2 ^ 64) (Clears (step slots 0 1 0 none) me)
+  pub cleared : me.0.holds ≡ true → me.0.marks ≡ false → LetsClear R slots id 0 me (λ m m'. m' ≡ (without_turn m.0, m.1))
   cleared is clear s r _ at small = let x : ℕ = get_or s.words 0 0 in let w : View = without_turn me.0 in let z : weight me.0.marks ≡ 0 = ap weight clear in let b = (mine s id me r at).1 in
       (w, keeps, tt, turned s id me r at w ((x + (2 ^ 64 - 1)) % 2 ^ 64) (word.clears is_holder is_starved most 0 s.words s.views id me.0 w r.0 at small is refl refl) refl refl refl (omega arith, omega arith), refl)
 

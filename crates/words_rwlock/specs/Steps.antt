@@ -1,5 +1,5 @@
 -- What each step tells the seat that makes it.
-use Rattle.std.specs.Prelude.{◌≡◌, ◌≢◌, ℕ, ◌%◌, true, false}
+use Rattle.std.specs.Prelude.{◌≡◌, ◌≢◌, ℕ, true, false}
 use Rattle.atomic_table.specs.Table.{Me, Step}
 use Rattle.words_base.specs.declared.Nothing.{Nothing}
 use Rattle.words_rwlock.specs.declared.view.View.{View}
@@ -63,26 +63,7 @@ Kept step m r m' = m' ≡ m
 abbrev pub Sees : Made → Seen → ℕ → Seen → Type 0
 Sees step m r m' = m' ≡ (having_found r m.0, m.1)
 
-abbrev pub SeesTurn : Made → Seen → ℕ → Seen → Type 0
-SeesTurn step m r m' = m' ≡ (having_seen r m.0, m.1)
-
 -- from the word expected
-abbrev pub Took : Made → Seen → ℕ → Seen → Type 0
-Took step m r m' = (r ≡ step.first → m' ≡ (with_turn m.0, m.1)) × (r ≢ step.first → m' ≡ (having_seen r m.0, m.1))
-
--- from an even word
-abbrev pub WasSet : Made → Seen → ℕ → Seen → Type 0
-WasSet step m r m' = (r % 2 ≡ 0 → m' ≡ (with_turn m.0, m.1)) × (r % 2 ≢ 0 → m' ≡ (having_seen r m.0, m.1))
-
-abbrev pub Counts : Made → Seen → ℕ → Seen → Type 0
-Counts step m r m' = (r ≡ step.first → m' ≡ (with_count m.0, m.1)) × (r ≢ step.first → m' ≡ m)
-
-abbrev pub Uncounts : Made → Seen → ℕ → Seen → Type 0
-Uncounts step m r m' = m' ≡ (without_count m.0, m.1)
-
-abbrev pub Clears : Made → Seen → ℕ → Seen → Type 0
-Clears step m r m' = m' ≡ (without_turn m.0, m.1)
-
 abbrev pub Reads : Made → Seen → ℕ → Seen → Type 0
 Reads step m r m' = (r ≡ step.first → m' ≡ (with_read m.0, m.1)) × (r ≢ step.first → m' ≡ m)
 

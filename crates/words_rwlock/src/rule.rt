@@ -2,6 +2,7 @@
 
 use crate::view::View;
 use atomic_table::{Play, TableRule};
+use lock_words::word::WordViews;
 use words_base::Nothing;
 
 /// What always holds of the table.
@@ -14,6 +15,26 @@ impl TableRule<Nothing, View, ()> for RwRule {
     ghost holds = { λ _. Ruled };
 
     ghost first = { λ _. first_view };
+}
+
+// What the steps on the turn's word make of a seat.
+impl WordViews<Nothing, View> for RwRule {
+    ghost use Rattle.std.specs.Prelude.{◌≡◌, refl};
+    ghost use Rattle.words_rwlock.specs.Steps.{having_seen, with_turn, without_turn, with_count, without_count};
+
+    ghost seeing = { having_seen };
+
+    ghost counted = { with_count };
+
+    ghost uncounted = { without_count };
+
+    ghost got = { λ _ m m'. m' ≡ (with_turn m.0, m.1) };
+
+    ghost cleared = { λ m m'. m' ≡ (without_turn m.0, m.1) };
+
+    ghost sees_last = { λ _ _ _. refl };
+
+    ghost got_last = { λ _ _ _ _ got. got };
 }
 
 pub(crate) struct KeptStep;
@@ -30,54 +51,6 @@ impl Play<Nothing, View> for SeesStep {
     ghost use Rattle.words_rwlock.specs.Steps.{Sees};
 
     ghost then = { Sees };
-}
-
-pub(crate) struct SeesTurnStep;
-
-impl Play<Nothing, View> for SeesTurnStep {
-    ghost use Rattle.words_rwlock.specs.Steps.{SeesTurn};
-
-    ghost then = { SeesTurn };
-}
-
-pub(crate) struct TookStep;
-
-impl Play<Nothing, View> for TookStep {
-    ghost use Rattle.words_rwlock.specs.Steps.{Took};
-
-    ghost then = { Took };
-}
-
-pub(crate) struct WasSetStep;
-
-impl Play<Nothing, View> for WasSetStep {
-    ghost use Rattle.words_rwlock.specs.Steps.{WasSet};
-
-    ghost then = { WasSet };
-}
-
-pub(crate) struct CountsStep;
-
-impl Play<Nothing, View> for CountsStep {
-    ghost use Rattle.words_rwlock.specs.Steps.{Counts};
-
-    ghost then = { Counts };
-}
-
-pub(crate) struct UncountsStep;
-
-impl Play<Nothing, View> for UncountsStep {
-    ghost use Rattle.words_rwlock.specs.Steps.{Uncounts};
-
-    ghost then = { Uncounts };
-}
-
-pub(crate) struct ClearsStep;
-
-impl Play<Nothing, View> for ClearsStep {
-    ghost use Rattle.words_rwlock.specs.Steps.{Clears};
-
-    ghost then = { Clears };
 }
 
 pub(crate) struct ReadsStep;

@@ -9,13 +9,14 @@ ghost use Rattle.words_base.specs.Tries.{OnTaking, OnAlone, OnSetting};
 use crate::found::{Adding, Counting, Readers, Reading};
 use crate::lists::Lists;
 use crate::rule::{
-    AddsStep, ClearsStep, CountsStep, DownsStep, KeptStep, LooksStep, MarksStep, OffsStep,
-    ReadsStep, RwRule, SeesStep, SeesTurnStep, TookStep, TriesUpgradeStep, TriesWriteStep,
-    UncountsStep, UnmarksStep, UpgradesStep, WasSetStep,
+    AddsStep, DownsStep, KeptStep, LooksStep, MarksStep, OffsStep, ReadsStep, RwRule, SeesStep,
+    TriesUpgradeStep, TriesWriteStep, UnmarksStep, UpgradesStep,
 };
 use crate::view::{Pledge, Seat, View};
 use async_driver::Owed;
 use atomic_table::{Shared, Table};
+use lock_words::word;
+use lock_words::word::{HELD, STARVED, Tally};
 use std::alloc::{AllocError, Global};
 use std::marker::Model;
 use words_base::{Nothing, Setting, Taking, TakingAlone};
@@ -26,7 +27,7 @@ pub const STARVED_LIMIT: u64 = 1_073_741_823;
 /// The greatest number of readers.
 pub const READERS_LIMIT: u64 = 1_073_741_823;
 
-// The turn's word is 1 while the turn is held, and 2 more for each starved seat.
+// The turn's word is a mutex's (see `lock_words::word`).
 const TURN: usize = 0;
 
 // The state word is 1 while the writer's bit is set, and 2 more for each reader.
@@ -104,9 +105,16 @@ impl Words {
     pub fn sit(&self) -> Seat
         ensures { (result.inner.table_id ≡ self.now.table) × (result.inner.me ≡ (first_view, [])) }
     {
-        Seat {
-            inner: self.table.shared.load_new_seat::<KeptStep>(STATE).1,
-        }
+        self.sit_and_look().0
+    }
+
+    /// Returns a new seat as [`Words::sit`] does, with what its one load found in the state word.
+    #[inline]
+    pub fn sit_and_look(&self) -> (Seat, u64)
+        ensures { (result.0.inner.table_id ≡ self.now.table) × (result.0.inner.me ≡ (first_view, [])) }
+    {
+        let (seen, inner) = self.table.shared.load_new_seat::<KeptStep>(STATE);
+        (Seat { inner }, seen)
     }
 
     /// Ends a seat that has no right and isn't counted as starved.
@@ -153,12 +161,12 @@ impl Words {
 
     /// Whether the turn was held at some moment of the call. It needs no seat, as the next three.
     pub fn is_turn_held(&self) -> bool {
-        self.table.shared.peek(TURN) % 2 == 1
+        self.table.shared.peek(TURN) % STARVED == HELD
     }
 
     /// Returns how many seats were counted as starved for the turn at some moment of the call.
     pub fn starved(&self) -> u64 {
-        self.table.shared.peek(TURN) / 2
+        self.table.shared.peek(TURN) / STARVED
     }
 
     /// Whether the writer's bit was set at some moment of the call.
@@ -177,21 +185,9 @@ impl Words {
         ensures same { (seat.new.inner.table_id ≡ seat.old.inner.table_id) × (seat.new.inner.id ≡ seat.old.inner.id) }
         ensures step { OnTaking result (λ _. seat.new.inner.me ≡ (with_turn seat.old.inner.me.0, seat.old.inner.me.1)) ((seat.new.inner.me ≡ (having_seen seat.new.inner.me.0.seen seat.old.inner.me.0, seat.old.inner.me.1)) × (seat.new.inner.me.0.seen ≡ 1)) ((seat.new.inner.me ≡ (having_seen seat.new.inner.me.0.seen seat.old.inner.me.0, seat.old.inner.me.1)) × (2 ≤ seat.new.inner.me.0.seen)) }
     {
-        let shared = &self.table.shared;
-        let seen = shared.load::<SeesTurnStep>(&mut seat.inner, TURN);
-        if seen > 1 {
-            return Taking::Starved;
-        }
-        if seen == 1 {
-            return Taking::Held;
-        }
-        let found = shared.compare_exchange::<TookStep>(&mut seat.inner, TURN, 0, 1);
-        if found == 0 {
-            Taking::Got(())
-        } else if found == 1 {
-            Taking::Held
-        } else {
-            Taking::Starved
+        match word::take(&self.table.shared, &mut seat.inner, TURN) {
+            Ok(()) => Taking::Got(()),
+            Err(found) => word::not_taken(found),
         }
     }
 
@@ -202,14 +198,9 @@ impl Words {
         ensures same { (seat.new.inner.table_id ≡ seat.old.inner.table_id) × (seat.new.inner.id ≡ seat.old.inner.id) }
         ensures step { OnAlone result (λ _. seat.new.inner.me ≡ (with_turn seat.old.inner.me.0, seat.old.inner.me.1)) ((seat.new.inner.me ≡ (having_seen seat.new.inner.me.0.seen seat.old.inner.me.0, seat.old.inner.me.1)) × (seat.new.inner.me.0.seen % 2 ≡ 1)) ((seat.new.inner.me ≡ (having_seen seat.new.inner.me.0.seen seat.old.inner.me.0, seat.old.inner.me.1)) × (seat.new.inner.me.0.seen % 2 ≡ 0) × (seat.new.inner.me.0.seen ≢ 2)) }
     {
-        let shared = &self.table.shared;
-        let found = shared.compare_exchange::<TookStep>(&mut seat.inner, TURN, 2, 3);
-        if found == 2 {
-            TakingAlone::Got(())
-        } else if found % 2 == 1 {
-            TakingAlone::Held
-        } else {
-            TakingAlone::FreeWithOthers
+        match word::take_alone(&self.table.shared, &mut seat.inner, TURN) {
+            Ok(()) => TakingAlone::Got(()),
+            Err(found) => word::not_taken_alone(found),
         }
     }
 
@@ -219,14 +210,9 @@ impl Words {
         ensures same { (seat.new.inner.table_id ≡ seat.old.inner.table_id) × (seat.new.inner.id ≡ seat.old.inner.id) }
         ensures step { OnSetting result (λ _. seat.new.inner.me ≡ (with_turn seat.old.inner.me.0, seat.old.inner.me.1)) ((seat.new.inner.me ≡ (having_seen seat.new.inner.me.0.seen seat.old.inner.me.0, seat.old.inner.me.1)) × (seat.new.inner.me.0.seen % 2 ≡ 1)) }
     {
-        let found = self
-            .table
-            .shared
-            .fetch_or::<WasSetStep>(&mut seat.inner, TURN, 1);
-        if found % 2 == 0 {
-            Setting::Got(())
-        } else {
-            Setting::WasSet
+        match word::set(&self.table.shared, &mut seat.inner, TURN) {
+            Ok(()) => Setting::Got(()),
+            Err(_) => Setting::WasSet,
         }
     }
 
@@ -238,15 +224,10 @@ impl Words {
         ensures step { OnCounting result (seat.new.inner.me ≡ (with_count (having_seen seat.new.inner.me.0.seen seat.old.inner.me.0), seat.old.inner.me.1)) ((seat.new.inner.me ≡ (having_seen seat.new.inner.me.0.seen seat.old.inner.me.0, seat.old.inner.me.1)) × (self.now.starved ≤ seat.new.inner.me.0.seen / 2)) (seat.new.inner.me ≡ (having_seen seat.new.inner.me.0.seen seat.old.inner.me.0, seat.old.inner.me.1)) }
     {
         let shared = &self.table.shared;
-        let found = shared.load::<SeesTurnStep>(&mut seat.inner, TURN);
-        if found / 2 >= self.starved_limit {
-            return Counting::AtLimit;
-        }
-        let more = found + 2;
-        if shared.compare_exchange::<CountsStep>(&mut seat.inner, TURN, found, more) == found {
-            Counting::Counted
-        } else {
-            Counting::Changed
+        match word::count(shared, &mut seat.inner, TURN, self.starved_limit) {
+            Tally::Counted => Counting::Counted,
+            Tally::AtLimit(_) => Counting::AtLimit,
+            Tally::Changed => Counting::Changed,
         }
     }
 
@@ -257,9 +238,7 @@ impl Words {
         ensures same { (seat.new.inner.table_id ≡ seat.old.inner.table_id) × (seat.new.inner.id ≡ seat.old.inner.id) }
         ensures step { seat.new.inner.me ≡ (without_count seat.old.inner.me.0, seat.old.inner.me.1) }
     {
-        self.table
-            .shared
-            .fetch_sub::<UncountsStep>(&mut seat.inner, TURN, 2);
+        word::uncount(&self.table.shared, &mut seat.inner, TURN);
     }
 
     /// Gives the turn back: one step. The seat has cleared the writer's bit before. Somebody who waits for the turn is to be
@@ -271,9 +250,7 @@ impl Words {
         ensures step { seat.new.inner.me ≡ (without_turn seat.old.inner.me.0, seat.old.inner.me.1) }
         ensures owed { result.list.id ≡ self.now.turn }
     {
-        self.table
-            .shared
-            .fetch_sub::<ClearsStep>(&mut seat.inner, TURN, 1);
+        word::clear(&self.table.shared, &mut seat.inner, TURN);
         Owed::new(self.lists.turn.again())
     }
 
@@ -282,7 +259,7 @@ impl Words {
         requires table { seat.old.inner.table_id ≡ self.now.table }
         requires idle { seat.old.inner.me.0.reads ≡ false }
         ensures same { (seat.new.inner.table_id ≡ seat.old.inner.table_id) × (seat.new.inner.id ≡ seat.old.inner.id) }
-        ensures step { OnReading result (seat.new.inner.me ≡ (with_read (having_found seat.new.inner.me.0.found seat.old.inner.me.0), seat.old.inner.me.1)) ((seat.new.inner.me ≡ (having_found seat.new.inner.me.0.found seat.old.inner.me.0, seat.old.inner.me.1)) × (seat.new.inner.me.0.found % 2 ≡ 1)) ((seat.new.inner.me ≡ (having_found seat.new.inner.me.0.found seat.old.inner.me.0, seat.old.inner.me.1)) × (self.now.readers ≤ seat.new.inner.me.0.found / 2)) (seat.new.inner.me ≡ (having_found seat.new.inner.me.0.found seat.old.inner.me.0, seat.old.inner.me.1)) }
+        ensures step { OnReading result ((seat.new.inner.me ≡ (with_read (having_found seat.new.inner.me.0.found seat.old.inner.me.0), seat.old.inner.me.1)) × (seat.new.inner.me.0.found / 2 < self.now.readers)) ((seat.new.inner.me ≡ (having_found seat.new.inner.me.0.found seat.old.inner.me.0, seat.old.inner.me.1)) × (seat.new.inner.me.0.found % 2 ≡ 1)) ((seat.new.inner.me ≡ (having_found seat.new.inner.me.0.found seat.old.inner.me.0, seat.old.inner.me.1)) × (self.now.readers ≤ seat.new.inner.me.0.found / 2)) (seat.new.inner.me ≡ (having_found seat.new.inner.me.0.found seat.old.inner.me.0, seat.old.inner.me.1)) }
     {
         let shared = &self.table.shared;
         let found = shared.load::<SeesStep>(&mut seat.inner, STATE);
@@ -334,7 +311,7 @@ impl Words {
         requires table { seat.old.inner.table_id ≡ self.now.table }
         requires turn { (seat.old.inner.me.0.holds ≡ true) × (seat.old.inner.me.0.marks ≡ false) × (seat.old.inner.me.0.reads ≡ false) }
         ensures same { (seat.new.inner.table_id ≡ seat.old.inner.table_id) × (seat.new.inner.id ≡ seat.old.inner.id) }
-        ensures step { OnAdding result (seat.new.inner.me ≡ (with_read (having_found seat.new.inner.me.0.found seat.old.inner.me.0), seat.old.inner.me.1)) ((seat.new.inner.me ≡ (having_found seat.new.inner.me.0.found seat.old.inner.me.0, seat.old.inner.me.1)) × (self.now.readers ≤ seat.new.inner.me.0.found / 2)) (seat.new.inner.me ≡ (having_found seat.new.inner.me.0.found seat.old.inner.me.0, seat.old.inner.me.1)) }
+        ensures step { OnAdding result ((seat.new.inner.me ≡ (with_read (having_found seat.new.inner.me.0.found seat.old.inner.me.0), seat.old.inner.me.1)) × (seat.new.inner.me.0.found / 2 < self.now.readers)) ((seat.new.inner.me ≡ (having_found seat.new.inner.me.0.found seat.old.inner.me.0, seat.old.inner.me.1)) × (self.now.readers ≤ seat.new.inner.me.0.found / 2)) (seat.new.inner.me ≡ (having_found seat.new.inner.me.0.found seat.old.inner.me.0, seat.old.inner.me.1)) }
     {
         let shared = &self.table.shared;
         let found = shared.load::<SeesStep>(&mut seat.inner, STATE);
@@ -347,6 +324,23 @@ impl Words {
         } else {
             Adding::Changed
         }
+    }
+
+    /// Reads, by the seat that has the turn, if the state word is what somebody has `seen` there, below the limit: one exchange, with no
+    /// look of its own. Returns whether it reads.
+    #[inline]
+    pub fn add_from(&self, seat: &mut Seat, seen: u64) -> bool
+        requires table { seat.old.inner.table_id ≡ self.now.table }
+        requires turn { (seat.old.inner.me.0.holds ≡ true) × (seat.old.inner.me.0.marks ≡ false) × (seat.old.inner.me.0.reads ≡ false) }
+        ensures same { (seat.new.inner.table_id ≡ seat.old.inner.table_id) × (seat.new.inner.id ≡ seat.old.inner.id) }
+        ensures step { MatchBool result ((seat.new.inner.me ≡ (with_read seat.old.inner.me.0, seat.old.inner.me.1)) × (seen / 2 < self.now.readers)) (seat.new.inner.me ≡ seat.old.inner.me) }
+    {
+        if seen / 2 >= self.readers_limit {
+            return false;
+        }
+        let shared = &self.table.shared;
+        let more = seen + 2;
+        shared.compare_exchange::<AddsStep>(&mut seat.inner, STATE, seen, more) == seen
     }
 
     /// Sets the writer's bit: one step. If no reader is left the seat writes at once, else it waits to.

@@ -4,13 +4,10 @@ use Rattle.lock_words.specs.Right.{IsRight}
 use Rattle.lock_words.proofs.Keeps.{cleared}
 use Rattle.lock_words.proofs.words.give_back.Goals as goal
 
-pub fetch_sub-requires : goal.fetch_sub-requires
-fetch_sub-requires g c = let e = c.exchange.ensures in let asked = c.requires in let words = asked.table.1 in let slots = asked.table.2 in (
-  e.0 ∙ asked.table.0,
-  omega (arith, words),
-  cleared _ _ _ _ _ c.args.right _
-      (ap (λ m. m.0.holds) e.3 ∙ asked.holds.0)
-      (ap (λ m. m.1) e.3 ∙ ap (λ l. (0, c.args.right) ∷ rest l) asked.holds.1.1)
-      (subst (λ v. IsRight v.room v.deed c.args.right) (sym (ap (λ m. m.0) e.3)) asked.right)
-      (omega (arith, slots)),
-)
+pub clear-requires-clause-rule : goal.clear-requires-clause-rule
+clear-requires-clause-rule g c = let e = c.exchange.ensures in let asked = c.requires in let slots = asked.table.2 in
+    cleared _ _ _ _ _ c.args.right _
+    (ap (λ m. m.0.holds) e.3 ∙ asked.holds.0)
+    (ap (λ m. m.1) e.3 ∙ ap (λ l. (0, c.args.right) ∷ rest l) asked.holds.1.1)
+    (subst (λ v. IsRight v.room v.deed c.args.right) (sym (ap (λ m. m.0) e.3)) asked.right)
+    (omega (arith, slots))
