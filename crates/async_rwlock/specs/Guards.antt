@@ -1,7 +1,11 @@
 -- What contracts see of a guard.
+use Rattle.std.specs.Prelude.{ℕ}
+use Rattle.words_rwlock.specs.declared.view.View.{View}
 use Rattle.async_rwlock.specs.declared.rwlock.RwLock.{RwLock}
 
--- the lock that it holds, and the value
+-- the lock that it holds, the value, and which seat has its right, with all that the seat knows of itself
 pub record Held (T R : Type 0) : Type 0 where
   pub lock : RwLock T R
   pub value : T
+  pub seat : ℕ
+  pub view : View

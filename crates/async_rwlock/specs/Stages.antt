@@ -7,9 +7,10 @@ use Rattle.lock_program.specs.declared.refusal.Refusal.{Refusal}
 use Rattle.lock_program.specs.declared.refusal.Refusal.TheVariants.{Finished}
 use Rattle.words_rwlock.specs.declared.view.Seat.{Seat}
 use Rattle.rwlock_driver.specs.Polls.{HasReceipt, Refuses, WaitsFor, first_of, right_of}
-use Rattle.rwlock_driver.specs.Rights.{Has, awaits}
+use Rattle.rwlock_driver.specs.Rights.{Has, HasBegun}
 use Rattle.rwlock_driver.specs.declared.aim.Aim.{Aim}
 use Rattle.rwlock_driver.specs.declared.aim.Aim.TheVariants as aim
+use Rattle.rwlock_driver.specs.declared.straight.Begun.{Begun}
 use Rattle.rwlock_driver.specs.declared.waiting.Outcome.{Outcome}
 use Rattle.rwlock_driver.specs.declared.waiting.Outcome.TheVariants as outcome
 use Rattle.rwlock_driver.specs.declared.waiting.Waiting.{Waiting}
@@ -58,9 +59,9 @@ IsBegun aim.Upgrade (Waits owner) waiting = IsSome waiting
 IsBegun a stage waiting = ⊤
 
 -- one that was never polled has a seat alone, with the writer's bit and the turn
-abbrev pub IsUpgrading : {O T R : Type 0} → (O → RwLock T R) → Stage O → Option Seat → Option Waiting → Type 0
-IsUpgrading lock_of (Waits owner) (Some seat) waiting = Has (lock_of owner).raw awaits seat × (waiting ≡ None)
-IsUpgrading lock_of _ (Some seat) waiting = ⊥
+abbrev pub IsUpgrading : {O T R : Type 0} → (O → RwLock T R) → Stage O → Option Begun → Option Waiting → Type 0
+IsUpgrading lock_of (Waits owner) (Some begun) waiting = HasBegun (lock_of owner).raw begun × (waiting ≡ None)
+IsUpgrading lock_of _ (Some begun) waiting = ⊥
 IsUpgrading lock_of stage None waiting = IsBegun aim.Upgrade stage waiting
 
 -- its party has a receipt of the list of what it wants next

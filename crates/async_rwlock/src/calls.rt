@@ -31,7 +31,7 @@ use std::time::Clock;
 impl<T, R: Wait> RwLock<T, R> {
     /// Attempts to acquire a right to read: it does if nobody writes or waits for readers to leave, and fewer read than may.
     ///
-    /// By the contract a guard that it returns is of this lock. That a free lock is acquired is tested.
+    /// The contract guarantees that a returned guard belongs to this lock. That a free lock is acquired is only tested.
     pub fn try_read(&self) -> Option<RwLockReadGuard<'_, T, R>>
         ensures { IfSome result (λ guard. guard.lock ≡ self.now) }
     {
@@ -84,6 +84,7 @@ impl<T, R: Wait> RwLock<T, R> {
 impl<T: Drop, R: Wait + Clock + RandomSource + AllocGlobal> RwLock<T, R> {
     /// Acquires a right to read, blocking the calling thread until it has it. Any error of `block_on` is
     /// [`Refusal::Memory`]; the others are those of [`RwLock::read`]'s polls.
+    /// Don't call it in an async context: it blocks the thread that runs the other tasks, and may deadlock.
     pub fn read_blocking(&self) -> Result<RwLockReadGuard<'_, T, R>, Refusal>
         ensures lock { IfOk result (λ guard. guard.lock ≡ self.now) }
         ensures refused { IfErr result (Refuses aims.Read) }
@@ -99,6 +100,7 @@ impl<T: Drop, R: Wait + Clock + RandomSource + AllocGlobal> RwLock<T, R> {
 
     /// Acquires the right to read that can become a right to write, blocking the calling thread until it has it. Any error of `block_on` is
     /// [`Refusal::Memory`]; the others are those of [`RwLock::upgradable_read`]'s polls.
+    /// Don't call it in an async context: it blocks the thread that runs the other tasks, and may deadlock.
     pub fn upgradable_read_blocking(&self) -> Result<RwLockUpgradableReadGuard<'_, T, R>, Refusal>
         ensures lock { IfOk result (λ guard. guard.lock ≡ self.now) }
         ensures refused { IfErr result (Refuses aims.UpgradableRead) }
@@ -114,6 +116,7 @@ impl<T: Drop, R: Wait + Clock + RandomSource + AllocGlobal> RwLock<T, R> {
 
     /// Acquires the right to write, blocking the calling thread until it has it. Any error of `block_on` is
     /// [`Refusal::Memory`]; the others are those of [`RwLock::write`]'s polls.
+    /// Don't call it in an async context: it blocks the thread that runs the other tasks, and may deadlock.
     pub fn write_blocking(&self) -> Result<RwLockWriteGuard<'_, T, R>, Refusal>
         ensures lock { IfOk result (λ guard. guard.lock ≡ self.now) }
         ensures refused { IfErr result (Refuses aims.Write) }

@@ -12,7 +12,7 @@ impl<T, R> RwLock<T, R> {
         requires seat { (seat.inner.table_id ≡ self.now.raw.words.table) × (seat.inner.me.1 ≡ []) }
         requires reads { seat.inner.me.0.reads ≡ true }
         ensures vault { result.0.vault_id ≡ self.now.vault.vault_id }
-        ensures view { result.0.view ≡ seat.inner.me.0 }
+        ensures view { (result.0.id ≡ seat.inner.id) × (result.0.view ≡ seat.inner.me.0) }
         ensures pledged { result.1.badge.views ≡ [] }
     {
         let mut pledge = self.raw.words.pledge(seat);
@@ -25,7 +25,7 @@ impl<T, R> RwLock<T, R> {
         requires vault { glance.vault_id ≡ self.now.vault.vault_id }
         requires pledged { pledge.badge.views ≡ [] }
         ensures seat { (result.inner.table_id ≡ self.now.raw.words.table) × (result.inner.me.1 ≡ []) }
-        ensures view { result.inner.me.0 ≡ glance.view }
+        ensures view { (result.inner.id ≡ glance.id) × (result.inner.me.0 ≡ glance.view) }
     {
         let mut pledge = pledge;
         glance.give_back(&self.vault, &mut pledge.badge);
@@ -37,7 +37,7 @@ impl<T, R> RwLock<T, R> {
         requires seat { (seat.inner.table_id ≡ self.now.raw.words.table) × (seat.inner.me.1 ≡ []) }
         requires writes { seat.inner.me.0.writes ≡ true }
         ensures vault { result.0.vault_id ≡ self.now.vault.vault_id }
-        ensures view { result.0.view ≡ seat.inner.me.0 }
+        ensures view { (result.0.id ≡ seat.inner.id) × (result.0.view ≡ seat.inner.me.0) }
         ensures pledged { result.1.badge.views ≡ [] }
     {
         let mut pledge = self.raw.words.pledge(seat);
@@ -50,7 +50,7 @@ impl<T, R> RwLock<T, R> {
         requires vault { grip.vault_id ≡ self.now.vault.vault_id }
         requires pledged { pledge.badge.views ≡ [] }
         ensures seat { (result.inner.table_id ≡ self.now.raw.words.table) × (result.inner.me.1 ≡ []) }
-        ensures view { result.inner.me.0 ≡ grip.view }
+        ensures view { (result.inner.id ≡ grip.id) × (result.inner.me.0 ≡ grip.view) }
     {
         let mut pledge = pledge;
         grip.give_back(&self.vault, &mut pledge.badge);

@@ -13,7 +13,8 @@ use words_rwlock::{Pledge, Seat};
 
 /// A right to read, and the value to read. Dropping it ends the right; the last reader notifies the writer that waits for this.
 ///
-/// Its type keeps that its seat reads, and that the value is lent against that. Contracts see the lock, and the value.
+/// Its type keeps that its seat reads, and that the value is lent against that. Contracts see the lock, the value, and the seat
+/// (`seat`, and what it knows of itself, `view`).
 pub struct ReadGuard<T, R: Wait, O: Owns<T, R>> {
     owner: O,
     glance: Glance<T>,
@@ -29,7 +30,7 @@ impl<T, R: Wait, O: Owns<T, R>> Model for ReadGuard<T, R, O> {
 
     ghost Value = { Held T R };
 
-    ghost view = { λ g. record { lock = O.lock_of g.owner; value = g.glance.value } };
+    ghost view = { λ g. record { lock = O.lock_of g.owner; value = g.glance.value; seat = g.glance.id; view = g.glance.view } };
 
     ghost invariant = { λ g. (g.glance.vault_id ≡ (O.lock_of g.owner).vault.vault_id) × Shows g.glance.view reader × (g.pledge.badge.views ≡ []) };
 }
@@ -38,7 +39,8 @@ impl<T, R: Wait, O: Owns<T, R>> ReadGuard<T, R, O> {
     #[inline]
     pub(crate) fn new(owner: O, seat: Seat) -> ReadGuard<T, R, O>
         requires { Has (O.lock_of owner).raw reader seat }
-        ensures { result.lock ≡ O.lock_of owner }
+        ensures lock { result.lock ≡ O.lock_of owner }
+        ensures seat { (result.seat ≡ seat.inner.id) × (result.view ≡ seat.inner.me.0) }
     {
         let (glance, pledge) = owner.lock().lend_read(seat);
         ReadGuard {

@@ -12,7 +12,7 @@ use crate::owns::Owns;
 use async_driver::nothing;
 use futures::task::Context;
 use lock_program::Refusal;
-use rwlock_driver::{Aim, Outcome, Waiting};
+use rwlock_driver::{Aim, Begun, Outcome, Waiting};
 use std::mem;
 use std::sync::Wait;
 use std::time::Clock;
@@ -110,22 +110,25 @@ pub(crate) fn poll_as<T, R: Wait + Clock, O: Owns<T, R>>(
 // The first poll of an upgrade, by who has the lock.
 #[inline]
 fn look_stage<T, R: Wait + Clock, O: Owns<T, R>>(
-    seat: Seat,
+    begun: Begun,
     stage: &Stage<O>,
     waiting: &mut Option<Waiting>,
     cx: &mut Context<'_>,
 ) -> Outcome
-    requires begun { IsUpgrading O.lock_of stage.now (Some seat) waiting.old }
+    requires begun { IsUpgrading O.lock_of stage.now (Some begun) waiting.old }
     ensures waits { IfSome waiting.new (WaitsAs O.lock_of aims.Upgrade stage.now) }
     ensures open { is_finished stage.now ≡ false }
     ensures polled { OnPolled O.lock_of aims.Upgrade cx.new stage.now result waiting.new }
     ensures kept { Keeps cx.old cx.new }
 {
     match stage {
-        Stage::Waits(owner) => {
-            let lock = owner.lock();
-            lock.raw.poll_upgrading(&lock.rt, cx, seat, waiting)
-        }
+        Stage::Waits(owner) => match begun {
+            Begun::Writes(seat) => Outcome::Got(seat),
+            Begun::Awaits(seat) => {
+                let lock = owner.lock();
+                lock.raw.poll_upgrading(&lock.rt, cx, seat, waiting)
+            }
+        },
         Stage::Unowned | Stage::Finished => unreachable!(),
     }
 }
@@ -133,12 +136,12 @@ fn look_stage<T, R: Wait + Clock, O: Owns<T, R>>(
 /// The first poll of an upgrade, whose seat has set the writer's bit.
 #[inline]
 pub(crate) fn poll_begun<T, R: Wait + Clock, O: Owns<T, R>>(
-    seat: Seat,
+    begun: Begun,
     stage: &mut Stage<O>,
     waiting: &mut Option<Waiting>,
     cx: &mut Context<'_>,
 ) -> Went<O>
-    requires begun { IsUpgrading O.lock_of stage.old (Some seat) waiting.old }
+    requires begun { IsUpgrading O.lock_of stage.old (Some begun) waiting.old }
     ensures waits { IfSome waiting.new (WaitsAs O.lock_of aims.Upgrade stage.new) }
     ensures begun { IsBegun aims.Upgrade stage.new waiting.new }
     ensures went { Goes O.lock_of aims.Upgrade stage.old result stage.new }
@@ -147,7 +150,7 @@ pub(crate) fn poll_begun<T, R: Wait + Clock, O: Owns<T, R>>(
     ensures refused { OnGaveUp result (IsAsMade aims.Upgrade waiting.new) }
     ensures kept { Keeps cx.old cx.new }
 {
-    match look_stage::<T, R, O>(seat, stage, waiting, cx) {
+    match look_stage::<T, R, O>(begun, stage, waiting, cx) {
         Outcome::Got(seat) => match mem::replace(stage, Stage::Finished) {
             Stage::Waits(owner) => Went::Got(owner, seat),
             Stage::Unowned | Stage::Finished => unreachable!(),
@@ -160,18 +163,21 @@ pub(crate) fn poll_begun<T, R: Wait + Clock, O: Owns<T, R>>(
 /// What an upgrade gives back that was never polled: the writer's bit and the turn, and its share of the lock last.
 #[inline(never)]
 pub(crate) fn drop_begun<T, R: Wait, O: Owns<T, R>>(
-    seat: Seat,
+    begun: Begun,
     stage: Stage<O>,
     waiting: Option<Waiting>,
 )
-    requires begun { IsUpgrading O.lock_of stage (Some seat) waiting }
+    requires begun { IsUpgrading O.lock_of stage (Some begun) waiting }
 {
     nothing(waiting);
     let Stage::Waits(owner) = stage else {
         unreachable!()
     };
     let lock = owner.lock();
-    lock.raw.cancel_upgrading(&lock.rt, seat);
+    match begun {
+        Begun::Writes(seat) => lock.raw.drop_write(&lock.rt, seat),
+        Begun::Awaits(seat) => lock.raw.cancel_upgrading(&lock.rt, seat),
+    }
     drop(owner);
 }
 

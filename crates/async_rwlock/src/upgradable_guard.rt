@@ -3,6 +3,7 @@
 ghost use Rattle.std.specs.Prelude.{◌≡◌, IfOk, IfErr};
 ghost use Rattle.lock_program.specs.declared.refusal.Refusal.{Refusal};
 ghost use Rattle.rwlock_driver.specs.Rights.{Has, upgradable};
+ghost use Rattle.words_rwlock.specs.Steps.{without_turn};
 ghost use Rattle.async_rwlock.specs.Stages.{IsOf};
 
 use crate::owns::Owns;
@@ -26,7 +27,7 @@ use words_rwlock::{Pledge, Seat};
 /// right: who waits to write or to read upgradably is notified.
 ///
 /// Its type keeps that its seat reads and has the lock's turn, and that the value is lent against that. Contracts see the lock,
-/// and the value.
+/// the value, and the seat (`seat`, and what it knows of itself, `view`).
 pub struct UpgradableGuard<T, R: Wait, O: Owns<T, R>> {
     owner: O,
     glance: Glance<T>,
@@ -42,7 +43,7 @@ impl<T, R: Wait, O: Owns<T, R>> Model for UpgradableGuard<T, R, O> {
 
     ghost Value = { Held T R };
 
-    ghost view = { λ g. record { lock = O.lock_of g.owner; value = g.glance.value } };
+    ghost view = { λ g. record { lock = O.lock_of g.owner; value = g.glance.value; seat = g.glance.id; view = g.glance.view } };
 
     ghost invariant = { λ g. (g.glance.vault_id ≡ (O.lock_of g.owner).vault.vault_id) × Shows g.glance.view upgradable × (g.pledge.badge.views ≡ []) };
 }
@@ -51,7 +52,8 @@ impl<T, R: Wait, O: Owns<T, R>> UpgradableGuard<T, R, O> {
     #[inline]
     pub(crate) fn new(owner: O, seat: Seat) -> UpgradableGuard<T, R, O>
         requires { Has (O.lock_of owner).raw upgradable seat }
-        ensures { result.lock ≡ O.lock_of owner }
+        ensures lock { result.lock ≡ O.lock_of owner }
+        ensures seat { (result.seat ≡ seat.inner.id) × (result.view ≡ seat.inner.me.0) }
     {
         let (glance, pledge) = owner.lock().lend_read(seat);
         UpgradableGuard {
@@ -67,6 +69,7 @@ impl<T, R: Wait, O: Owns<T, R>> UpgradableGuard<T, R, O> {
     fn into_seat(self) -> (O, Seat)
         ensures owner { O.lock_of result.0 ≡ self.lock }
         ensures seat { Has self.lock.raw upgradable result.1 }
+        ensures same { (result.1.inner.id ≡ self.seat) × (result.1.inner.me.0 ≡ self.view) }
     {
         let Self {
             owner,
@@ -78,9 +81,11 @@ impl<T, R: Wait, O: Owns<T, R>> UpgradableGuard<T, R, O> {
         (owner, seat)
     }
 
-    /// Reads on without the right to upgrade: upgradable readers and writers that wait may go on.
+    /// Reads on without the right to upgrade: upgradable readers and writers that wait may go on. It is the same seat, by one step
+    /// (`same`).
     pub fn downgrade(guard: Self) -> ReadGuard<T, R, O>
-        ensures { result.lock ≡ guard.lock }
+        ensures lock { result.lock ≡ guard.lock }
+        ensures same { (result.seat ≡ guard.seat) × (result.view ≡ without_turn guard.view) }
     {
         let (owner, seat) = guard.into_seat();
         let lock = owner.lock();
@@ -108,8 +113,8 @@ impl<T, R: Wait, O: Owns<T, R>> UpgradableGuard<T, R, O> {
         ensures { IsOf O.lock_of result.stage guard.lock }
     {
         let (owner, seat) = guard.into_seat();
-        let seat = owner.lock().raw.upgrade(seat);
-        UpgradeFuture::new(owner, seat)
+        let begun = owner.lock().raw.begin_upgrade(seat);
+        UpgradeFuture::new(owner, begun)
     }
 }
 
@@ -157,12 +162,17 @@ impl<T: Drop, R: Wait + Clock + RandomSource + AllocGlobal, O: Owns<T, R>> Upgra
     R,
     O,
 > {
-    /// Writes once nobody else reads, blocking the calling thread until then. If it is refused, which is for memory alone, the right is
-    /// given up.
+    /// Writes once nobody else reads, blocking the calling thread until then. It takes no memory where nobody else reads now. If it is
+    /// refused, which is for memory alone, the right is given up.
+    /// Don't call it in an async context: it blocks the thread that runs the other tasks, and may deadlock.
     pub fn upgrade_blocking(guard: Self) -> Result<WriteGuard<T, R, O>, Refusal>
         ensures lock { IfOk result (λ writer. writer.lock ≡ guard.lock) }
         ensures memory { IfErr result (λ refusal. refusal ≡ Refusal.Memory) }
     {
+        let guard = match UpgradableGuard::try_upgrade(guard) {
+            Ok(writer) => return Ok(writer),
+            Err(guard) => guard,
+        };
         let Some(owner) = guard.owner.again() else {
             return Err(Refusal::Memory);
         };

@@ -5,19 +5,18 @@ ghost use Rattle.futures.specs.Task.{Covers, Keeps};
 ghost use Rattle.async_driver.specs.Turns.{OnPending};
 ghost use Rattle.async_rwlock.specs.Stages.{HasReceiptAt, IsAsMade, IsOf, IsTurn, IsUpgrading, OnRefused, WaitsAt, future, is_finished};
 ghost use Rattle.rwlock_driver.specs.declared.aim.Aim.TheVariants as aims;
-ghost use Rattle.rwlock_driver.specs.Rights.{Has, awaits};
+ghost use Rattle.rwlock_driver.specs.Rights.{HasBegun};
 
 use crate::owns::Owns;
 use crate::stage::{Stage, Went, drop_as, drop_begun, poll_as, poll_begun};
 use crate::write_guard::WriteGuard;
 use async_driver::{Polled, Turn};
 use futures::task::Context;
-use rwlock_driver::{Aim, Waiting};
+use rwlock_driver::{Aim, Begun, Waiting};
 use std::fmt;
 use std::marker::{Model, PhantomData};
 use std::sync::Wait;
 use std::time::Clock;
-use words_rwlock::Seat;
 
 /// A future of the right to write in place of an upgradable read. From the call on that makes it nobody begins to read, and it is ready
 /// once no reader is left. Until then it lends nothing. Dropping it gives up the right: readers and writers that wait are
@@ -27,7 +26,7 @@ use words_rwlock::Seat;
 pub struct UpgradeFuture<T, R: Wait, O: Owns<T, R>> {
     stage: Stage<O>,
     // There before the first poll.
-    begun: Option<Seat>,
+    begun: Option<Begun>,
     // There from the first poll on that wasn't ready.
     waiting: Option<Waiting>,
     lock: PhantomData<(T, R)>,
@@ -47,13 +46,13 @@ impl<T, R: Wait, O: Owns<T, R>> Model for UpgradeFuture<T, R, O> {
 
 impl<T, R: Wait, O: Owns<T, R>> UpgradeFuture<T, R, O> {
     #[inline]
-    pub(crate) fn new(owner: O, seat: Seat) -> UpgradeFuture<T, R, O>
-        requires { Has (O.lock_of owner).raw awaits seat }
+    pub(crate) fn new(owner: O, begun: Begun) -> UpgradeFuture<T, R, O>
+        requires { HasBegun (O.lock_of owner).raw begun }
         ensures { IsOf O.lock_of result.stage (O.lock_of owner) }
     {
         UpgradeFuture {
             stage: Stage::Waits(owner),
-            begun: Some(seat),
+            begun: Some(begun),
             waiting: None,
             lock: PhantomData,
         }
@@ -79,7 +78,7 @@ impl<T, R: Wait + Clock, O: Owns<T, R>> UpgradeFuture<T, R, O> {
         ensures kept { Keeps cx.old cx.new }
     {
         let went = match self.begun.take() {
-            Some(seat) => poll_begun::<T, R, O>(seat, &mut self.stage, &mut self.waiting, cx),
+            Some(begun) => poll_begun::<T, R, O>(begun, &mut self.stage, &mut self.waiting, cx),
             None => poll_as::<T, R, O>(Aim::Upgrade, &mut self.stage, &mut self.waiting, cx),
         };
         match went {
@@ -115,7 +114,7 @@ impl<T, R: Wait, O: Owns<T, R>> Drop for UpgradeFuture<T, R, O> {
             lock: _,
         } = self;
         match begun {
-            Some(seat) => drop_begun::<T, R, O>(seat, stage, waiting),
+            Some(begun) => drop_begun::<T, R, O>(begun, stage, waiting),
             None => drop_as::<T, R, O>(Aim::Upgrade, stage, waiting),
         }
     }

@@ -2,6 +2,7 @@
 
 ghost use Rattle.std.specs.Prelude.{◌≡◌};
 ghost use Rattle.rwlock_driver.specs.Rights.{Has, writer};
+ghost use Rattle.words_rwlock.specs.Steps.{downgraded, without_turn};
 
 use crate::owns::Owns;
 use crate::read_guard::ReadGuard;
@@ -13,10 +14,11 @@ use std::ops::Deref;
 use std::sync::Wait;
 use words_rwlock::{Pledge, Seat};
 
-/// The right to write, and the value to read and write. Dropping it ends the right: readers that wait are notified, and one of those
-/// who wait for the right.
+/// The right to write, and the value to read and write. Dropping it ends the right. It notifies the readers that wait, and one of
+/// those who wait to write or to read upgradably.
 ///
-/// Its type keeps that its seat writes, and that the value is lent against that. Contracts see the lock, and the value.
+/// Its type keeps that its seat writes, and that the value is lent against that. Contracts see the lock, the value, and the seat
+/// (`seat`, and what it knows of itself, `view`).
 pub struct WriteGuard<T, R: Wait, O: Owns<T, R>> {
     pub(crate) owner: O,
     pub(crate) grip: Grip<T>,
@@ -32,7 +34,7 @@ impl<T, R: Wait, O: Owns<T, R>> Model for WriteGuard<T, R, O> {
 
     ghost Value = { Held T R };
 
-    ghost view = { λ g. record { lock = O.lock_of g.owner; value = g.grip.value } };
+    ghost view = { λ g. record { lock = O.lock_of g.owner; value = g.grip.value; seat = g.grip.id; view = g.grip.view } };
 
     ghost invariant = { λ g. (g.grip.vault_id ≡ (O.lock_of g.owner).vault.vault_id) × Shows g.grip.view writer × (g.pledge.badge.views ≡ []) };
 }
@@ -41,7 +43,8 @@ impl<T, R: Wait, O: Owns<T, R>> WriteGuard<T, R, O> {
     #[inline]
     pub(crate) fn new(owner: O, seat: Seat) -> WriteGuard<T, R, O>
         requires { Has (O.lock_of owner).raw writer seat }
-        ensures { result.lock ≡ O.lock_of owner }
+        ensures lock { result.lock ≡ O.lock_of owner }
+        ensures seat { (result.seat ≡ seat.inner.id) × (result.view ≡ seat.inner.me.0) }
     {
         let (grip, pledge) = owner.lock().lend_write(seat);
         WriteGuard {
@@ -56,6 +59,7 @@ impl<T, R: Wait, O: Owns<T, R>> WriteGuard<T, R, O> {
     fn into_seat(self) -> (O, Seat)
         ensures owner { O.lock_of result.0 ≡ self.lock }
         ensures seat { Has self.lock.raw writer result.1 }
+        ensures same { (result.1.inner.id ≡ self.seat) × (result.1.inner.me.0 ≡ self.view) }
     {
         let Self {
             owner,
@@ -68,8 +72,11 @@ impl<T, R: Wait, O: Owns<T, R>> WriteGuard<T, R, O> {
     }
 
     /// Reads in place of writing, and notifies the readers that wait. Upgradable readers and writers that wait may go on.
+    ///
+    /// It is the same seat throughout, and by two steps alone (`same`): at no time has it neither right, so nobody writes in between.
     pub fn downgrade(guard: Self) -> ReadGuard<T, R, O>
-        ensures { result.lock ≡ guard.lock }
+        ensures lock { result.lock ≡ guard.lock }
+        ensures same { (result.seat ≡ guard.seat) × (result.view ≡ without_turn (downgraded guard.view)) }
     {
         let (owner, seat) = guard.into_seat();
         let lock = owner.lock();
@@ -77,9 +84,11 @@ impl<T, R: Wait, O: Owns<T, R>> WriteGuard<T, R, O> {
         ReadGuard::new(owner, seat)
     }
 
-    /// Reads in place of writing, with the right to upgrade, and notifies the readers that wait.
+    /// Reads in place of writing, with the right to upgrade, and notifies the readers that wait. It is the same seat, by one step
+    /// (`same`).
     pub fn downgrade_to_upgradable(guard: Self) -> UpgradableGuard<T, R, O>
-        ensures { result.lock ≡ guard.lock }
+        ensures lock { result.lock ≡ guard.lock }
+        ensures same { (result.seat ≡ guard.seat) × (result.view ≡ downgraded guard.view) }
     {
         let (owner, seat) = guard.into_seat();
         let lock = owner.lock();

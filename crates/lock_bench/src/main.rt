@@ -110,7 +110,7 @@ where
 }
 
 /// What is timed of a read-write lock that nobody else wants, but for the last: a reader beside which another stays.
-const USES: [(&str, Use); 7] = [
+const USES: [(&str, Use); 10] = [
     ("try_read and drop", Use::TryRead),
     ("try_write and drop", Use::TryWrite),
     ("read ready and drop", Use::Read),
@@ -118,6 +118,9 @@ const USES: [(&str, Use); 7] = [
     ("upgradable read, upgrade and drop", Use::Upgrade),
     ("read_arc ready and drop", Use::ReadArc),
     ("write_arc ready and drop", Use::WriteArc),
+    ("try_read_arc and drop", Use::TryReadArc),
+    ("try_write_arc and drop", Use::TryWriteArc),
+    ("upgradable_read_arc, upgrade and drop", Use::UpgradeArc),
 ];
 
 /// A read-write lock.

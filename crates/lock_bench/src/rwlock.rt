@@ -1,7 +1,7 @@
 //! What is timed of a read-write lock on one thread.
 
 use crate::timing::Row;
-use async_lock::{RwLock, RwLockUpgradableReadGuard, Turn};
+use async_lock::{RwLock, RwLockUpgradableReadGuard, RwLockUpgradableReadGuardArc, Turn};
 use futures::test::MockTask;
 use std::hint::black_box;
 use std::sync::{Arc, Wait};
@@ -16,8 +16,11 @@ pub(crate) enum Use {
     Write,
     /// An upgradable read that becomes a write at once.
     Upgrade,
+    TryReadArc,
+    TryWriteArc,
     ReadArc,
     WriteArc,
+    UpgradeArc,
 }
 
 /// One such use, and the drop of its guard.
@@ -39,6 +42,9 @@ impl<R: Wait + Clock + Drop> Row for Pair<'_, '_, R> {
             Use::Upgrade => self.upgrade(times),
             Use::ReadArc => self.read_arc(times),
             Use::WriteArc => self.write_arc(times),
+            Use::TryReadArc => self.try_read_arc(times),
+            Use::TryWriteArc => self.try_write_arc(times),
+            Use::UpgradeArc => self.upgrade_arc(times),
         }
     }
 }
@@ -90,6 +96,36 @@ impl<R: Wait + Clock + Drop> Pair<'_, '_, R> {
                     if let Turn::Ready(mut guard) = RwLockUpgradableReadGuard::upgrade(guard).poll(
                         cx,
                     ) {
+                        *guard = guard.wrapping_add(1);
+                    }
+                }
+            }
+        });
+    }
+
+    fn try_read_arc(&self, times: u64) {
+        for _ in 0..times {
+            if let Some(guard) = RwLock::try_read_arc(black_box(self.owned)) {
+                black_box(*guard);
+            }
+        }
+    }
+
+    fn try_write_arc(&self, times: u64) {
+        for _ in 0..times {
+            if let Some(mut guard) = RwLock::try_write_arc(black_box(self.owned)) {
+                *guard = guard.wrapping_add(1);
+            }
+        }
+    }
+
+    fn upgrade_arc(&self, times: u64) {
+        let owned = self.owned;
+        self.task.enter(|cx| {
+            for _ in 0..times {
+                if let Turn::Ready(guard) = RwLock::upgradable_read_arc(black_box(owned)).poll(cx) {
+                    let mut upgrade = RwLockUpgradableReadGuardArc::upgrade(guard);
+                    if let Turn::Ready(mut guard) = upgrade.poll(cx) {
                         *guard = guard.wrapping_add(1);
                     }
                 }

@@ -1,8 +1,10 @@
 -- What a seat has on a read-write lock.
-use Rattle.std.specs.Prelude.{◌≡◌, ◌≤◌, ◌/◌, ◌%◌, ◌⊎◌, Bool, true, false, []}
+use Rattle.std.specs.Prelude.{◌≡◌, ◌≢◌, ◌≤◌, ◌/◌, ◌%◌, ◌⊎◌, Bool, true, false, []}
 use Rattle.words_rwlock.specs.declared.view.Seat.{Seat}
 use Rattle.words_rwlock.specs.declared.view.View.{View}
 use Rattle.rwlock_driver.specs.declared.raw.RawRwLock.{RawRwLock}
+use Rattle.rwlock_driver.specs.declared.straight.Begun.{Begun}
+use Rattle.rwlock_driver.specs.declared.straight.Begun.TheVariants.{Writes, Awaits}
 
 -- whether it has the turn, is counted as starved, has set the writer's bit, reads, and writes
 pub record Flags : Type 0 where
@@ -49,3 +51,12 @@ IsFull raw seat = raw.words.readers ≤ seat.inner.me.0.found / 2
 -- its last look found a writer's bit, or as many readers as may be
 abbrev pub IsClosed : RawRwLock → Seat → Type 0
 IsClosed raw seat = (seat.inner.me.0.found % 2 ≡ 1) ⊎ IsFull raw seat
+
+-- its last look at the state word found more than its own reading
+abbrev pub ReadsBeside : Seat → Type 0
+ReadsBeside seat = seat.inner.me.0.found ≢ 2
+
+-- an upgrade that has begun has the turn and the writer's bit: it writes, or waits to, where it found another reader
+abbrev pub HasBegun : RawRwLock → Begun → Type 0
+HasBegun raw (Writes seat) = Has raw writer seat
+HasBegun raw (Awaits seat) = Has raw awaits seat × ReadsBeside seat

@@ -1,16 +1,18 @@
 //! The keys of a lock's lists, and where a duty to notify ends by one: each time somebody else is bound to notify, or to look.
 //!
 //! The keys are fields of this module alone, which makes the lists: no other function has one, and so ends a duty but by a
-//! notification or by one of the calls here, each of which asks for its reason. The key of the list of those that wait until no
-//! writer is nobody has: each duty to it ends by a notification.
+//! notification or by one of the calls here, each of which asks for its reason. Of the turn's duties only the calls by which
+//! `lock_driver` knows the turn end any. The key of the list of those that wait until no writer is nobody has: each duty to it ends by a
+//! notification.
 
-ghost use Rattle.std.specs.Prelude.{◌≡◌, ◌%◌, true};
+ghost use Rattle.std.specs.Prelude.{◌≡◌, ◌≤◌, ◌%◌, ◌/◌, ⊤, true, false, [], ◌∷◌, None, IfSome};
 
 use crate::raw::RawRwLock;
 use async_driver::{ListKey, Listed, Owed, WaitingList};
-use futures::task::Waker;
+use futures::task::{Source, Waker};
+use lock_driver::{Counting, MutexWord};
 use std::alloc::Global;
-use words_rwlock::Seat;
+use words_rwlock::{Counting as CountingWord, Seat, Setting, Taking, TakingAlone};
 
 /// The keys of a lock's lists.
 pub(crate) struct Keys {
@@ -56,9 +58,93 @@ impl KeyedLists {
     }
 }
 
+// The turn as a mutex's word and list.
+impl MutexWord for RawRwLock {
+    type Seat = Seat;
+
+    type Right = ();
+
+    type Full = ();
+
+    ghost is_of = { λ raw seat. (seat.inner.table_id ≡ raw.words.table) × (seat.inner.me.1 ≡ []) × (seat.inner.me.0.marks ≡ false) };
+
+    ghost holds = { λ seat. seat.inner.me.0.holds };
+
+    ghost starved = { λ seat. seat.inner.me.0.starved };
+
+    ghost beside = { λ seat. seat.inner.me.0.marks ∷ seat.inner.me.0.reads ∷ seat.inner.me.0.writes ∷ [] };
+
+    ghost right_of = { λ raw right. ⊤ };
+
+    ghost is_full = { λ raw seat full. raw.words.starved ≤ seat.inner.me.0.seen / 2 };
+
+    ghost list_id = { λ raw. raw.turn.name.id };
+
+    ghost source_id = { λ raw. raw.source.id };
+
+    fn take(&self, seat: &mut Seat, owed: &mut Option<Owed>) -> Taking<()> {
+        match self.words.take(seat) {
+            Taking::Got(()) => Taking::Got(()),
+            Taking::Held => {
+                self.leave_all_to_holder(owed, seat);
+                Taking::Held
+            }
+            Taking::Starved => Taking::Starved,
+        }
+    }
+
+    fn take_alone(&self, seat: &mut Seat, owed: &mut Option<Owed>) -> TakingAlone<()> {
+        match self.words.take_alone(seat) {
+            TakingAlone::Got(()) => TakingAlone::Got(()),
+            TakingAlone::Held => {
+                self.leave_all_to_holder(owed, seat);
+                TakingAlone::Held
+            }
+            TakingAlone::FreeWithOthers => TakingAlone::FreeWithOthers,
+        }
+    }
+
+    fn set(&self, seat: &mut Seat) -> Setting<()> {
+        self.words.set(seat)
+    }
+
+    fn count(&self, seat: &mut Seat) -> Counting<()> {
+        match self.words.count(seat) {
+            CountingWord::Counted => Counting::Counted,
+            CountingWord::AtLimit => Counting::AtLimit(()),
+            CountingWord::Changed => Counting::Changed,
+        }
+    }
+
+    fn uncount(&self, seat: &mut Seat) {
+        self.words.uncount(seat);
+    }
+
+    fn clear(&self, seat: &mut Seat, right: ()) -> Owed {
+        let () = right;
+        self.words.clear(seat)
+    }
+
+    fn put_off(&self, owed: Owed, holder: &Seat) {
+        self.put_off_turn(owed, holder);
+    }
+
+    fn leave_to_list(&self, owed: Owed, waiter: &Seat, entry: &Listed) {
+        self.leave_turn_to_list(owed, waiter, entry);
+    }
+
+    fn list(&self) -> &WaitingList<Waker> {
+        &self.turn
+    }
+
+    fn source(&self) -> &Source {
+        &self.source
+    }
+}
+
 impl RawRwLock {
-    /// Ends the duty of a seat that has the turn: when it gives the turn back, it notifies.
-    pub(crate) fn put_off_turn(&self, owed: Owed, holder: &Seat)
+    // Ends the duty of a seat that has the turn: when it gives the turn back, it notifies.
+    fn put_off_turn(&self, owed: Owed, holder: &Seat)
         requires list { owed.list.id ≡ self.now.turn.name.id }
         requires table { holder.now.inner.table_id ≡ self.now.words.table }
         requires holds { holder.now.inner.me.0.holds ≡ true }
@@ -67,9 +153,9 @@ impl RawRwLock {
         owed.end(&self.keys.turn);
     }
 
-    /// Ends the duty of a seat whose last look at the turn's word found the turn held: whoever holds it notifies when it gives
-    /// it back.
-    pub(crate) fn leave_turn_to_holder(&self, owed: Owed, seat: &Seat)
+    // Ends the duty of a seat whose last look at the turn's word found the turn held: whoever holds it notifies when it gives
+    // it back. Only a try calls it, with what that try has found: a look of long ago is no reason.
+    fn leave_turn_to_holder(&self, owed: Owed, seat: &Seat)
         requires list { owed.list.id ≡ self.now.turn.name.id }
         requires table { seat.now.inner.table_id ≡ self.now.words.table }
         requires held { seat.now.inner.me.0.seen % 2 ≡ 1 }
@@ -78,8 +164,20 @@ impl RawRwLock {
         owed.end(&self.keys.turn);
     }
 
-    /// Ends the duty of a starved seat that stands in the turn's list: whoever gets the turn, or has found it held, notifies it.
-    pub(crate) fn leave_turn_to_list(&self, owed: Owed, waiter: &Seat, entry: &Listed)
+    // Ends the duty, if there is one, of a seat whose last look at the turn's word found the turn held.
+    fn leave_all_to_holder(&self, owed: &mut Option<Owed>, seat: &Seat)
+        requires list { IfSome owed.old (λ o. o.list.id ≡ self.now.turn.name.id) }
+        requires table { seat.now.inner.table_id ≡ self.now.words.table }
+        requires held { seat.now.inner.me.0.seen % 2 ≡ 1 }
+        ensures { owed.new ≡ None }
+    {
+        if let Some(owed) = owed.take() {
+            self.leave_turn_to_holder(owed, seat);
+        }
+    }
+
+    // Ends the duty of a starved seat that stands in the turn's list: whoever gets the turn, or has found it held, notifies it.
+    fn leave_turn_to_list(&self, owed: Owed, waiter: &Seat, entry: &Listed)
         requires list { owed.list.id ≡ self.now.turn.name.id }
         requires table { waiter.now.inner.table_id ≡ self.now.words.table }
         requires starved { waiter.now.inner.me.0.starved ≡ true }

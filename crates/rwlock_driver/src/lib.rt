@@ -21,4 +21,5 @@ pub use at_list::AtList;
 pub use finding::{Finding, Standing};
 pub use party::RwLockParty;
 pub use raw::RawRwLock;
+pub use straight::Begun;
 pub use waiting::{Outcome, Waiting};

@@ -17,12 +17,20 @@ ghost use Rattle.lock_program.specs.declared.rwlock.Place.TheVariants as at;
 ghost use Rattle.lock_program.specs.declared.rwlock.Purpose.{Purpose};
 ghost use Rattle.lock_program.specs.declared.rwlock.Purpose.TheVariants as purpose;
 ghost use Rattle.lock_program.specs.declared.rwlock.RwLockCall.TheVariants as calls;
-ghost use Rattle.rwlock_driver.specs.Rights.{Has, IsClosed, IsFull, idle, passing, reader, upgradable, awaits, writer};
+ghost use Rattle.rwlock_driver.specs.Rights.{Has, HasBegun, IsClosed, IsFull, ReadsBeside, idle, passing, reader, upgradable, awaits, writer};
 ghost use Rattle.words_rwlock.specs.Steps.{downgraded, upgraded, without_turn};
 
 use crate::raw::RawRwLock;
 use std::sync::Wait;
 use words_rwlock::{Adding, Reading, Seat, Taking};
+
+/// An upgrade that has begun: its seat has the turn and the writer's bit.
+pub enum Begun {
+    /// Nobody else read: it writes.
+    Writes(Seat),
+    /// Others read: it waits until none does.
+    Awaits(Seat),
+}
 
 impl RawRwLock {
     /// Reads at once, if no writer's bit is set and there are fewer readers than may be. A word that changed meanwhile is tried
@@ -44,8 +52,8 @@ impl RawRwLock {
         ensures { IfSome result (Has self.now upgradable) }
     {
         try_rows();
-        let mut seat = self.try_turn()?;
-        if self.add(rt, &mut seat) {
+        let (mut seat, seen) = self.try_turn()?;
+        if self.add_after(rt, &mut seat, seen) {
             return Some(seat);
         }
         self.release_turn(rt, &mut seat);
@@ -58,7 +66,7 @@ impl RawRwLock {
         ensures { IfSome result (Has self.now writer) }
     {
         try_rows();
-        let mut seat = self.try_turn()?;
+        let (mut seat, _) = self.try_turn()?;
         if self.words.try_write(&mut seat) {
             return Some(seat);
         }
@@ -67,13 +75,13 @@ impl RawRwLock {
         None
     }
 
-    // The turn, if it is free and nobody is starved for it.
-    pub(crate) fn try_turn(&self) -> Option<Seat>
-        ensures { IfSome result (Has self.now passing) }
+    // The turn, if it is free and nobody is starved for it, with what the state word was a moment before.
+    pub(crate) fn try_turn(&self) -> Option<(Seat, u64)>
+        ensures { IfSome result (λ got. Has self.now passing got.0) }
     {
-        let mut seat = self.words.sit();
+        let (mut seat, seen) = self.words.sit_and_look();
         match self.words.take(&mut seat) {
-            Taking::Got(()) => Some(seat),
+            Taking::Got(()) => Some((seat, seen)),
             Taking::Held | Taking::Starved => {
                 self.words.rise(seat);
                 None
@@ -96,8 +104,20 @@ impl RawRwLock {
         unreachable!()
     }
 
+    // Reads with the turn as `add` does, first from what was seen in the state word before the turn was got: then it need not look.
+    #[inline]
+    pub(crate) fn add_after<R: Wait>(&self, rt: &R, seat: &mut Seat, seen: u64) -> bool
+        requires { Has self.now passing seat.old }
+        ensures { MatchBool result (Has self.now upgradable seat.new) (Has self.now passing seat.new × IsFull self.now seat.new) }
+    {
+        if self.words.add_from(seat, seen) {
+            return true;
+        }
+        self.add(rt, seat)
+    }
+
     // Reads with the turn, if there are fewer readers than may be, however often the word changes meanwhile.
-    pub(crate) fn add<R: Wait>(&self, rt: &R, seat: &mut Seat) -> bool
+    fn add<R: Wait>(&self, rt: &R, seat: &mut Seat) -> bool
         requires { Has self.now passing seat.old }
         ensures { MatchBool result (Has self.now upgradable seat.new) (Has self.now passing seat.new × IsFull self.now seat.new) }
     {
@@ -209,13 +229,30 @@ impl RawRwLock {
         seat
     }
 
-    /// Writes in place of reading with the turn, if nobody else reads. Returns whether it writes.
+    /// Writes in place of reading with the turn, if nobody else reads. Returns whether it writes: it doesn't only where it found
+    /// another reader.
     pub fn try_upgrade(&self, seat: &mut Seat) -> bool
         requires { Has self.now upgradable seat.old }
-        ensures { MatchBool result (Has self.now writer seat.new) (Has self.now upgradable seat.new) }
+        ensures { MatchBool result (Has self.now writer seat.new) (Has self.now upgradable seat.new × ReadsBeside seat.new) }
     {
         change_rows();
         self.words.try_upgrade(seat)
+    }
+
+    /// Begins to write in place of reading with the turn: from now on nobody begins to read. If nobody else reads, it writes by the one
+    /// step of [`RawRwLock::try_upgrade`], as an upgrade does whose first look finds no reader; else by the step of [`RawRwLock::upgrade`]
+    /// it waits until none is left.
+    #[inline]
+    pub fn begin_upgrade(&self, seat: Seat) -> Begun
+        requires { Has self.now upgradable seat }
+        ensures { HasBegun self.now result }
+    {
+        let mut seat = seat;
+        if self.try_upgrade(&mut seat) {
+            Begun::Writes(seat)
+        } else {
+            Begun::Awaits(self.upgrade(seat))
+        }
     }
 
     /// Waits to write in place of reading with the turn: from now on nobody begins to read. It is the same seat, by that one step

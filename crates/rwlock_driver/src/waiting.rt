@@ -166,11 +166,11 @@ impl RawRwLock {
                 None => self.poll_on(rt, cx, aim, waiting),
             },
             Aim::UpgradableRead => match self.try_turn() {
-                Some(seat) => self.add_first(rt, cx, seat, waiting),
+                Some((seat, seen)) => self.add_first(rt, cx, seat, seen, waiting),
                 None => self.poll_on(rt, cx, aim, waiting),
             },
             Aim::Write => match self.try_turn() {
-                Some(seat) => self.mark_first(rt, cx, seat, waiting),
+                Some((seat, _)) => self.mark_first(rt, cx, seat, waiting),
                 None => self.poll_on(rt, cx, aim, waiting),
             },
             Aim::Upgrade => unreachable!(),
@@ -184,6 +184,7 @@ impl RawRwLock {
         rt: &R,
         cx: &mut Context<'_>,
         seat: Seat,
+        seen: u64,
         waiting: &mut Option<Waiting>,
     ) -> Outcome
         requires seat { Has self.now passing seat }
@@ -193,7 +194,7 @@ impl RawRwLock {
         ensures kept { Keeps cx.old cx.new }
     {
         let mut seat = seat;
-        if self.add(rt, &mut seat) {
+        if self.add_after(rt, &mut seat, seen) {
             return Outcome::Got(seat);
         }
         let place = Place::Add { trying: false };
