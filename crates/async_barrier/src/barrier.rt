@@ -83,7 +83,7 @@ impl<R: Wait + Clock + RandomSource + AllocGlobal> Barrier<R> {
     /// Waits at this barrier, blocking the calling thread until its generation is finished. Any error of `block_on` is
     /// [`Refusal::Memory`]. It is refused by the names by which a wait gives up, and never as finished (`refused`).
     ///
-    /// It isn't for tasks that share an executor's thread: none of them goes on meanwhile.
+    /// Don't call it in an async context: it blocks the thread that runs the other tasks, and may deadlock.
     pub fn wait_blocking(&self) -> Result<BarrierWaitResult, Refusal>
         ensures refused { IfErr result IsGivenUp }
     {

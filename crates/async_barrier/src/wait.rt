@@ -25,10 +25,10 @@ pub struct Waiting {
     pub(crate) standing: Left,
 }
 
-/// A future of a barrier's wait. Dropped, it gives back what it has: its entry in the barrier's list or in the inner lock's,
-/// with a notification that it was given. An arrival that was counted stays counted.
+/// A future of a barrier's wait. Dropping it leaves the list that it waits in, the barrier's or the inner lock's, and forwards an
+/// unused notification. An arrival that was counted stays counted.
 ///
-/// In clauses it is its barrier, whether it was ready before (`is_over`), and its entries in the barrier's list (`entry`) and
+/// Contracts see its barrier, whether it was ready before (`is_over`), and its entries in the barrier's list (`entry`) and
 /// in the inner lock's (`locking`).
 pub struct BarrierWait<'a, R: Wait> {
     barrier: &'a Barrier<R>,

@@ -12,7 +12,7 @@ use std::marker::{Model, PhantomData};
 use std::ops::Deref;
 use std::sync::{Arc, Wait};
 
-/// Holds a mutex, and lends its value. Dropped, it gives the mutex back.
+/// Holds a mutex, and lends its value. Dropping it releases the mutex.
 ///
 /// Its type keeps that its seat holds the lock, with the right to the lock's value. Contracts see the mutex, and the value.
 pub struct Guard<T, R: Wait, O: Owns<T, R>> {

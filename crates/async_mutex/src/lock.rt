@@ -19,10 +19,10 @@ use std::sync::Wait;
 use std::time::Clock;
 use std::{fmt, mem};
 
-/// A future of a mutex's lock. Dropped, it gives back what it has: its entry in the list, a notification that it was
-/// given, and its count as starved.
+/// A future of a mutex's lock. Dropping it leaves the waiting list, forwards an unused notification, and removes its count as
+/// starved.
 ///
-/// In clauses it is how far it is (`stage`), and its entry in the mutex's list (`entry`).
+/// Contracts see how far it is (`stage`), and its entry in the mutex's list (`entry`).
 pub struct LockFuture<T, R: Wait, O: Owns<T, R>> {
     stage: Stage<O>,
     // `None` before the first poll that didn't get the lock, and once it was ready.

@@ -42,10 +42,11 @@ impl<T: Drop, R: Drop> Drop for Mutex<T, R> {
 impl<T: Drop, R: AllocGlobal + Drop> Mutex<T, R> {
     /// Creates a free mutex over a value. If memory is refused, it returns [`Refusal::Memory`] and drops the value.
     ///
-    /// No forgotten guard has left the mutex held (`is_left`).
+    /// No forgotten guard has left the mutex held (`is_left`), and as many waiters may be starved as [`STARVED_LIMIT`] says (`limit`).
     pub fn new(rt: R, value: T) -> Result<Mutex<T, R>, Refusal>
         ensures memory { IfErr result (λ refusal. refusal ≡ Refusal.Memory) }
         ensures is_left { IfOk result (λ mutex. mutex.raw.words.is_left ≡ false) }
+        ensures limit { IfOk result (λ mutex. mutex.raw.words.limit ≡ 1073741823) }
     {
         Mutex::with_limit(rt, value, STARVED_LIMIT)
     }
@@ -55,6 +56,7 @@ impl<T: Drop, R: AllocGlobal + Drop> Mutex<T, R> {
         requires { limit ≤ 1073741823 }
         ensures memory { IfErr result (λ refusal. refusal ≡ Refusal.Memory) }
         ensures is_left { IfOk result (λ mutex. mutex.raw.words.is_left ≡ false) }
+        ensures limit { IfOk result (λ mutex. mutex.raw.words.limit ≡ limit) }
     {
         let alloc = rt.alloc();
         let Ok(words) = Words::with_limit(alloc, value, limit) else {
@@ -88,7 +90,7 @@ impl<T, R> Mutex<T, R> {
 impl<T, R: Wait> Mutex<T, R> {
     /// Takes the lock at once, if it is free and nobody is starved.
     ///
-    /// By the contract a guard that it answers is this mutex's. That a free lock is got is tested.
+    /// The contract guarantees that a returned guard belongs to this mutex. That a free lock is acquired is only tested.
     pub fn try_lock(&self) -> Option<MutexGuard<'_, T, R>>
         ensures { IfSome result (λ guard. guard.mutex ≡ self.now) }
     {
@@ -148,6 +150,7 @@ impl<T: Drop, R: Wait + Drop> Mutex<T, R> {
 impl<T: Drop, R: Wait + Clock + RandomSource + AllocGlobal> Mutex<T, R> {
     /// Acquires the lock, blocking the calling thread until it is available. Any error of `block_on` is
     /// [`Refusal::Memory`]. It is refused as this, or as [`Refusal::Starved`] (`refused`).
+    /// Don't call it in an async context: it blocks the thread that runs the other tasks, and may deadlock.
     pub fn lock_blocking(&self) -> Result<MutexGuard<'_, T, R>, Refusal>
         ensures mutex { IfOk result (λ guard. guard.mutex ≡ self.now) }
         ensures refused { IfErr result IsGivenUp }

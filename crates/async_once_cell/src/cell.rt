@@ -229,7 +229,8 @@ impl<T: Drop, R: Waits + Clock + RandomSource + AllocGlobal> OnceCell<T, R> {
 
     /// Returns the value, which the closure makes if the cell is empty. It blocks the calling thread while another makes the value.
     /// Any error of `block_on` is [`Refusal::Memory`]; a cell that is full gives its value without. A refused call drops the closure,
-    /// which it hasn't called, and leaves the cell as it was. In an async context it may deadlock. The closure may be called.
+    /// which it hasn't called, and leaves the cell as it was. In an async context it may deadlock. It asks for a closure that may be
+    /// called: one without conditions of its own always may.
     pub fn get_or_init_blocking<F: FnOnce() -> T>(&self, closure: F) -> Result<&T, Refusal>
         requires { F.pre closure }
         ensures memory { IfErr result (λ refusal. refusal ≡ Refusal.Memory) }
@@ -254,7 +255,8 @@ impl<T: Drop, R: Waits + Clock + RandomSource + AllocGlobal> OnceCell<T, R> {
     /// makes the value. Any error of `block_on` is [`Refusal::Memory`]; a cell that is full gives its value without. A refused call
     /// drops the closure, which it hasn't called, and leaves the cell as it was. In an async context it may deadlock.
     ///
-    /// A failure is what the closure answered; it is refused for memory alone (`fault`). The closure may be called.
+    /// A failure is what the closure answered; it is refused for memory alone (`fault`). It asks for a closure that may be called, as
+    /// the call above.
     pub fn get_or_try_init_blocking<E: Drop, F: FnOnce() -> Result<T, E>>(
         &self,
         closure: F,

@@ -85,9 +85,9 @@ impl<
     /// closure in it (`memory`), and may be polled again. Once it was ready it is refused as `Refusal::Finished`, and nothing
     /// changes (`turn`, `over`). A closure is called once at most, and what it failed with is what its future gave (`turn`).
     ///
-    /// Pending, either it has an entry in the cell's list of those that would make the value, which keeps a waker of the task that
-    /// polls, and the task has registered with the cell's source; or it makes the value, and its closure's future has registered
-    /// with what that one waits for (`receipt`). It keeps what the task had registered before (`kept`).
+    /// If it is pending, one of two things holds (`receipt`). It has an entry in the cell's list of those that would make the value, which
+    /// keeps a waker of the polling task, and the task has registered with the cell's source. Or it makes the value, and its closure's
+    /// future has registered with what it waits for. What the task had registered before stays registered (`kept`).
     #[inline]
     pub fn poll(&mut self, cx: &mut Context<'_>) -> Turn<Result<&'a T, E>>
         requires { IfSome self.old.maker (CanTry F.pre F.post Fut.can_poll) }

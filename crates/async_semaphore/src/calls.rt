@@ -82,6 +82,7 @@ impl<R: Wait> Semaphore<R> {
 impl<R: Wait + Clock + RandomSource + AllocGlobal> Semaphore<R> {
     /// Acquires a permit, blocking the calling thread until it has one. It is refused for memory
     /// alone (`memory`), and any error of `block_on` is [`Refusal::Memory`].
+    /// Don't call it in an async context: it blocks the thread that runs the other tasks, and may deadlock.
     pub fn acquire_blocking(&self) -> Result<SemaphoreGuard<'_, R>, Refusal>
         ensures permits { IfOk result (λ guard. (guard.semaphore ≡ self.now) × (guard.permits ≡ 1)) }
         ensures memory { IfErr result (λ refusal. refusal ≡ Refusal.Memory) }
@@ -91,6 +92,7 @@ impl<R: Wait + Clock + RandomSource + AllocGlobal> Semaphore<R> {
 
     /// Acquires this many permits at once, as [`Semaphore::acquire_many`], blocking the calling thread until it has them. Any
     /// error of `block_on` is [`Refusal::Memory`].
+    /// Don't call it in an async context: it blocks the thread that runs the other tasks, and may deadlock.
     pub fn acquire_many_blocking(&self, permits: usize) -> Result<SemaphoreGuard<'_, R>, Refusal>
         ensures permits { IfOk result (λ guard. (guard.semaphore ≡ self.now) × (guard.permits ≡ permits)) }
         ensures memory { IfErr result (λ refusal. refusal ≡ Refusal.Memory) }
