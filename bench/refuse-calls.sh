@@ -48,7 +48,9 @@ for call in Mutex::new Mutex::lock Mutex::lock_arc RwLock::new 'RwLock::read, a 
     'Semaphore::acquire_many_blocking, none left' 'Semaphore::acquire_arc_blocking, none left' \
     'Semaphore::acquire_many_arc_blocking, none left' 'OnceCell::wait_blocking, an empty cell' \
     'RwLock::read_blocking, a writer' 'RwLock::upgradable_read_blocking, a writer' 'RwLock::write_blocking, a writer' \
-    RwLockUpgradableReadGuard::upgrade_blocking 'OnceCell::set_blocking, a maker' \
+    RwLockUpgradableReadGuard::upgrade_blocking 'RwLock::read_arc_blocking, a writer' \
+    'RwLock::upgradable_read_arc_blocking, a writer' 'RwLock::write_arc_blocking, a writer' \
+    RwLockUpgradableReadGuardArc::upgrade_blocking 'OnceCell::set_blocking, a maker' \
     'OnceCell::get_or_init_blocking, a maker' 'OnceCell::get_or_try_init_blocking, a maker' Barrier::new \
     'Barrier::wait, the first' Barrier::wait_blocking; do
     grep -qxF "refused: $call" "$work/log" || {

@@ -104,8 +104,10 @@ fn in_threads<R: Runtime + Threads + Sync>(book: &Book<R>) -> Option<(u64, u64, 
     threads::added(book, &mutex, &lock, &semaphore)
 }
 
+type Blocked = (usize, u64, (u64, u64), (u64, u64));
+
 // What blocking calls get that have to wait for another thread.
-fn blocked<R: Runtime + Threads + Send + Sync>(book: &Book<R>) -> Option<(usize, u64, u64, u64)> {
+fn blocked<R: Runtime + Threads + Send + Sync>(book: &Book<R>) -> Option<Blocked> {
     let rt = book.rt();
     let semaphore = twice!(book, "Semaphore::new", Semaphore::new(rt, 0))?;
     let permits = waits::permits(book, &book.shared(semaphore)?)?;
@@ -113,7 +115,9 @@ fn blocked<R: Runtime + Threads + Send + Sync>(book: &Book<R>) -> Option<(usize,
     let value = waits::value(book, &cell)?;
     let lock = twice!(book, "RwLock::new", RwLock::new(rt, 0u64))?;
     let written = waits::written(book, &lock)?;
-    Some((permits, value, written, waits::upgraded(book, &lock)?))
+    let lock = twice!(book, "RwLock::new", RwLock::new(rt, 0u64))?;
+    let as_owner = waits::written_as_owner(book, &book.shared(lock)?)?;
+    Some((permits, value, written, as_owner))
 }
 
 // Whether a set behind a maker that fails puts its value in, and initialisations behind others give the maker's.
@@ -126,10 +130,7 @@ fn behind_makers<R: Runtime + Threads + Sync>(book: &Book<R>, counts: &Counts) -
 }
 
 // What [`blocked`] finds, if the calls behind makers give what they should.
-fn waited<R: Runtime + Threads + Send + Sync>(
-    book: &Book<R>,
-    counts: &Counts,
-) -> Option<(usize, u64, u64, u64)> {
+fn waited<R: Runtime + Threads + Send + Sync>(book: &Book<R>, counts: &Counts) -> Option<Blocked> {
     let found = blocked(book)?;
     if behind_makers(book, counts)? {
         Some(found)

@@ -3,7 +3,10 @@
 use crate::book::{Book, Runtime, twice};
 use crate::once_cell::{Cell, set_twice};
 use crate::token::{Counts, Token};
-use async_lock::{InitFault, OnceCell, Refusal, RwLock, RwLockUpgradableReadGuard, Semaphore};
+use async_lock::{
+    InitFault, OnceCell, Refusal, RwLock, RwLockUpgradableReadGuard, RwLockUpgradableReadGuardArc,
+    Semaphore,
+};
 use std::sync::Arc;
 use std::sync::atomic::{AtomicU64, Ordering};
 use std::thread::{self, Threads};
@@ -293,6 +296,84 @@ fn in_vain_at_first<R: Runtime>(
     }
 }
 
+// As [`in_vain_at_first`], and then upgrades while the other thread still reads: what is written before and by that. An upgrade that is
+// refused has given its right up, and begins anew.
+fn upgrade_at_last<R: Runtime>(
+    book: &Book<R>,
+    lock: &RwLock<u64, R>,
+    steps: &Steps,
+) -> Option<(u64, u64)> {
+    let written = in_vain_at_first(book, lock, steps)?;
+    steps.reach(6);
+    steps.wait_for(7);
+    steps.reach(8);
+    let writer = twice!(
+        book,
+        "RwLockUpgradableReadGuard::upgrade_blocking",
+        RwLockUpgradableReadGuard::upgrade_blocking(lock.try_upgradable_read()?)
+    );
+    let mut writer = writer?;
+    *writer = writer.saturating_add(1);
+    Some((written, *writer))
+}
+
+// As [`in_vain_at_first`], by guards that own the lock.
+fn in_vain_at_first_as_owner<R: Runtime>(
+    book: &Book<R>,
+    lock: &Arc<RwLock<u64, R>>,
+    steps: &Steps,
+) -> Option<u64> {
+    steps.wait_for(1);
+    let reader = twice!(
+        book,
+        "RwLock::read_arc_blocking, a writer",
+        RwLock::read_arc_blocking(lock)
+    );
+    let first = *reader?;
+    steps.reach(2);
+    steps.wait_for(3);
+    let reader = twice!(
+        book,
+        "RwLock::upgradable_read_arc_blocking, a writer",
+        RwLock::upgradable_read_arc_blocking(lock)
+    );
+    let second = *reader?;
+    steps.reach(4);
+    steps.wait_for(5);
+    let writer = twice!(
+        book,
+        "RwLock::write_arc_blocking, a writer",
+        RwLock::write_arc_blocking(lock)
+    );
+    let mut writer = writer?;
+    *writer = writer.saturating_add(1);
+    if first >= 10 && second >= 20 {
+        Some(*writer)
+    } else {
+        None
+    }
+}
+
+// As [`upgrade_at_last`], by guards that own the lock.
+fn upgrade_at_last_as_owner<R: Runtime>(
+    book: &Book<R>,
+    lock: &Arc<RwLock<u64, R>>,
+    steps: &Steps,
+) -> Option<(u64, u64)> {
+    let written = in_vain_at_first_as_owner(book, lock, steps)?;
+    steps.reach(6);
+    steps.wait_for(7);
+    steps.reach(8);
+    let writer = twice!(
+        book,
+        "RwLockUpgradableReadGuardArc::upgrade_blocking",
+        RwLockUpgradableReadGuardArc::upgrade_blocking(RwLock::try_upgradable_read_arc(lock)?)
+    );
+    let mut writer = writer?;
+    *writer = writer.saturating_add(1);
+    Some((written, *writer))
+}
+
 // Writes three times, and keeps the lock each time until the other thread may have begun to wait.
 fn write_in_between<R: Runtime>(lock: &RwLock<u64, R>, steps: &Steps) -> bool {
     let mut all = true;
@@ -314,28 +395,41 @@ fn write_in_between<R: Runtime>(lock: &RwLock<u64, R>, steps: &Steps) -> bool {
     all
 }
 
-/// What the blocking calls of a read-write lock read that a thread wrote meanwhile.
+// Reads once that is over, and goes on reading until the other thread may have begun to wait.
+fn read_at_last<R: Runtime>(lock: &RwLock<u64, R>, steps: &Steps) -> bool {
+    steps.wait_for(6);
+    let reader = lock.try_read();
+    steps.reach(7);
+    steps.pause_after(8);
+    reader.is_some()
+}
+
+/// What the blocking calls of a read-write lock write in the end, each of which had to wait: a write, if the reads before it have read
+/// what a thread wrote meanwhile, and an upgrade.
 pub(crate) fn written<R: Runtime + Threads + Sync>(
     book: &Book<R>,
     lock: &RwLock<u64, R>,
-) -> Option<u64> {
+) -> Option<(u64, u64)> {
     let steps = &Steps::new();
-    let (read, wrote) = thread::join(
+    let (found, gave) = thread::join(
         &book.rt(),
-        || in_vain_at_first(book, lock, steps),
-        || write_in_between(lock, steps),
+        || upgrade_at_last(book, lock, steps),
+        || write_in_between(lock, steps) && read_at_last(lock, steps),
     );
-    if wrote { read } else { None }
+    if gave { found } else { None }
 }
 
-/// What an upgradable reader writes by a blocking upgrade. One that is refused has given its right up, and begins anew.
-pub(crate) fn upgraded<R: Runtime>(book: &Book<R>, lock: &RwLock<u64, R>) -> Option<u64> {
-    let writer = twice!(
-        book,
-        "RwLockUpgradableReadGuard::upgrade_blocking",
-        RwLockUpgradableReadGuard::upgrade_blocking(lock.try_upgradable_read()?)
+/// As [`written`], by guards that own the lock.
+pub(crate) fn written_as_owner<R: Runtime + Threads + Send + Sync>(
+    book: &Book<R>,
+    lock: &Arc<RwLock<u64, R>>,
+) -> Option<(u64, u64)> {
+    let steps = &Steps::new();
+    let borrowed = &**lock;
+    let (found, gave) = thread::join(
+        &book.rt(),
+        || upgrade_at_last_as_owner(book, lock, steps),
+        || write_in_between(borrowed, steps) && read_at_last(borrowed, steps),
     );
-    let mut writer = writer?;
-    *writer = writer.saturating_add(1);
-    Some(*writer)
+    if gave { found } else { None }
 }

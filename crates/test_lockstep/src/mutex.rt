@@ -463,18 +463,24 @@ impl MutexShell {
 impl Beside for MutexTwin {
     fn follow(&mut self, m: Move) -> Answer {
         let Move { party, what } = m;
-        self.world.step(&Move {
-            party,
-            what: exchanged(self.table, what),
-        })
+        let what = match self.world.place(party) {
+            Some(place) => exchanged(self.table, place, what),
+            None => what,
+        };
+        self.world.step(&Move { party, what })
     }
 }
 
-// The move, by whose inputs a World takes the row of another table.
-fn exchanged(table: Table, what: What) -> What {
-    match what {
-        What::Begin(call, inputs) => What::Begin(call, other_inputs(table, inputs)),
-        What::Go(inputs) => What::Go(other_inputs(table, inputs)),
+// The move, by whose inputs a World takes the other of two rows, at the one place whose rows the table has exchanged.
+fn exchanged(table: Table, place: Place, what: What) -> What {
+    match (table, place, what) {
+        (Table::WaitsExchanged, Place::Retry, What::Go(inputs)) => {
+            What::Go(other_inputs(table, inputs))
+        }
+        (Table::JoinsExchanged, Place::Join { told: false }, What::Go(inputs)) => {
+            What::Go(other_inputs(table, inputs))
+        }
+        _ => what,
     }
 }
 

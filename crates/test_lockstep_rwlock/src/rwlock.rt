@@ -10,7 +10,7 @@ use lock_program::mutex::Place as TurnPlace;
 use lock_program::rwlock::{Place, RwLockCall};
 use lock_program::{End, Refusal};
 use lockstep::{Acted, Bench, Beside, Dids, Shell, moved};
-use rwlock_driver::{Call as Asked, RawRwLock};
+use rwlock_driver::{Call as Asked, RawRwLock, Standing};
 use std::alloc::{AllocFailed, Global};
 use std::sync::{Arc, Wait};
 use world_base::{Answer, Call, Got, Inputs, Made, Move, What};
@@ -45,6 +45,8 @@ enum Stage {
 struct Member {
     party: Party,
     stage: Stage,
+    /// It has begun an upgrade past the driver, writes already, and was not polled since.
+    begun: bool,
 }
 
 /// A read-write lock with its parties.
@@ -72,7 +74,11 @@ pub(crate) fn new_lock(alloc: Global, limit: u32, readers: u32) -> Option<Arc<Ra
 fn end_all<R: Wait>(members: Vec<Member>, bench: &Bench<R>) {
     let mut members = members;
     while let Some(member) = members.pop() {
-        let Member { party, stage: _ } = member;
+        let Member {
+            party,
+            stage: _,
+            begun: _,
+        } = member;
         end(party, bench, members.len());
     }
     members.destroy_empty();
@@ -86,12 +92,17 @@ fn add<R: Wait>(members: &mut Vec<Member>, bench: &Bench<R>, lock: &Arc<RawRwLoc
     let member = Member {
         party: new_party(shared),
         stage: Stage::Fresh,
+        begun: false,
     };
     match members.push(member) {
         Ok(()) => true,
         Err(failed) => {
             let AllocFailed { value } = failed;
-            let Member { party, stage: _ } = value;
+            let Member {
+                party,
+                stage: _,
+                begun: _,
+            } = value;
             end(party, bench, 0);
             false
         }
@@ -193,6 +204,17 @@ fn inputs(starving: bool) -> Inputs {
 }
 
 impl Member {
+    // Where it stands in the World: an upgrade that writes already stands there as one that has begun, until its first poll.
+    fn standing(&self) -> Standing {
+        let Standing { at, turn } = self.party.place;
+        let at = if self.begun {
+            Place::LookUnlisted { upgrade: true }
+        } else {
+            at
+        };
+        Standing { at, turn }
+    }
+
     // The shell's answer to an action, and how the party stands then.
     fn answer(&mut self, acted: Acted<End>) -> Answer {
         let answer = match acted {
@@ -252,6 +274,8 @@ impl Member {
     // A whole call past the driver, or a first poll.
     fn whole<R: Wait>(&mut self, bench: &Bench<R>, task: &MockTask, deed: Deed) -> Dids {
         let (call, answer) = match deed {
+            // It has what it is polled for.
+            Deed::First(call) if self.begun => (call, Answer::Ready(Got::Value(VALUE))),
             Deed::First(call) => (
                 call,
                 task.enter(|cx| first_poll(&mut self.party, bench, cx, call)),
@@ -261,6 +285,7 @@ impl Member {
             }
             Deed::Go(_) | Deed::Refuse => (Call::Poll, Answer::NotPossible),
         };
+        self.begun = answer == Answer::Waiting && matches!(self.party.place.at, Place::Writing);
         self.stage = Stage::Outside;
         // What the allocator did is an input of the World's, and the shell is asked for it.
         let memory = answer != Answer::Refused(Refusal::Memory.number());
@@ -275,7 +300,9 @@ impl Member {
 
     // What it can do next.
     fn deed(&self, ways: Ways, calls: Calls, number: usize) -> Option<Deed> {
-        let place = self.party.place;
+        let place = self.standing();
+        // The driver knows no upgrade that writes before its first poll: what has begun so goes on past it.
+        let ways = if self.begun { Ways::Public } else { ways };
         match (self.stage, number) {
             (Stage::Fresh | Stage::Outside, number) => by_ways(place.at, ways, calls, number),
             (Stage::Inside, 0) => Some(Deed::Go(false)),
@@ -373,7 +400,7 @@ impl RwLockShell {
             let (Some(at), Some(turn)) = (world.place(number), world.turn_place(number)) else {
                 return false;
             };
-            let here = member.party.place;
+            let here = member.standing();
             if code_of_place(at) != code_of_place(here.at)
                 || code_of_turn(turn) != code_of_turn(here.turn)
             {
@@ -541,6 +568,7 @@ impl Shell for RwLockShell {
         for member in self.members.iter() {
             let inside = u64::from(member.stage == Stage::Inside);
             key = mixed(key, inside);
+            key = mixed(key, u64::from(member.begun));
             key = mixed(key, code_of_place(member.party.place.at));
             key = mixed(key, code_of_turn(member.party.place.turn));
         }

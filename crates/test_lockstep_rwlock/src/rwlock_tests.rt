@@ -2,7 +2,7 @@
 
 use crate::rwlock::RwLockShell;
 use crate::setting::{Calls, Setting, Table, Ways};
-use lockstep::{Bench, Order, Walk, walk_by_chance, walk_states};
+use lockstep::{Bench, Order, Walk, walk_by_chance, walk_schedules, walk_states};
 use std::alloc::AllocGlobal;
 use std::process::Abort;
 use std::sync::Wait;
@@ -73,9 +73,11 @@ fn two_parties_go_alike_in_each_state(rt: HostRuntime) {
 
 #[test]
 fn two_parties_are_refused_alike(rt: HostRuntime) {
-    let of_two = setting(&rt, 2, 0);
+    let of_two = setting(&rt, 2, NO_LIMIT);
     if let Some(bench) = Bench::new(rt, 2) {
-        in_each_state(&bench, of_two);
+        for limit in [0, 1] {
+            in_each_state(&bench, Setting { limit, ..of_two });
+        }
     }
 }
 
@@ -102,19 +104,32 @@ fn three_parties_go_alike_in_each_state(rt: HostRuntime) {
     }
 }
 
-// Each call, as the public types go, also where a starved party is refused, or one that reads.
+// Each call, as the public types go, and each join also refused memory.
 #[test]
 fn three_parties_go_alike_past_the_driver_in_each_state(rt: HostRuntime) {
+    let of_three = Setting {
+        ways: Ways::Public,
+        refuses: true,
+        ..setting(&rt, 3, NO_LIMIT)
+    };
+    if let Some(bench) = Bench::new(rt, 3) {
+        in_each_state(&bench, of_three);
+    }
+}
+
+// The same where a starved party is refused, or one that reads: there are too many states there to refuse joins too.
+#[test]
+fn three_parties_are_refused_alike_past_the_driver(rt: HostRuntime) {
     let of_three = Setting {
         ways: Ways::Public,
         ..setting(&rt, 3, NO_LIMIT)
     };
     if let Some(bench) = Bench::new(rt, 3) {
-        in_each_state(&bench, of_three);
         in_each_state(
             &bench,
             Setting {
                 limit: 0,
+                refuses: true,
                 ..of_three
             },
         );
@@ -140,24 +155,43 @@ fn three_parties_are_refused_alike_where_one_may_starve(rt: HostRuntime) {
     }
 }
 
-// Each action of reads that are refused, also such that were notified, beside writes.
-#[test]
-fn three_parties_are_refused_alike_where_one_or_nobody_may_read(rt: HostRuntime) {
-    let of_three = Setting {
+// Three that read and write, action by action, of a lock at which so many may read. Each join is also refused memory.
+fn read_and_write<R: AllocGlobal>(rt: &R, readers: u32) -> Setting {
+    Setting {
         ways: Ways::Driver,
         calls: Calls::ReadsAndWrites,
-        ..setting(&rt, 3, NO_LIMIT)
-    };
+        refuses: true,
+        ..limited(rt, 3, readers)
+    }
+}
+
+// Each action of reads that are refused, also such that were notified, beside writes.
+#[test]
+fn three_parties_are_refused_alike_where_one_may_read(rt: HostRuntime) {
+    let of_one = read_and_write(&rt, 1);
     if let Some(bench) = Bench::new(rt, 3) {
-        for readers in [1, 0] {
-            in_each_state(
-                &bench,
-                Setting {
-                    readers,
-                    ..of_three
-                },
-            );
-        }
+        in_each_state(&bench, of_one);
+    }
+}
+
+#[test]
+fn three_parties_are_refused_alike_where_nobody_may_read(rt: HostRuntime) {
+    let of_nobody = read_and_write(&rt, 0);
+    if let Some(bench) = Bench::new(rt, 3) {
+        in_each_state(&bench, of_nobody);
+    }
+}
+
+// One by one, also those that come to the same state: so nothing rests on the number by which a walk tells states apart.
+#[test]
+fn three_parties_go_alike_by_each_schedule(rt: HostRuntime) {
+    let of_three = read_and_write(&rt, MOST_READERS);
+    if let Some(bench) = Bench::new(rt, 3) {
+        let walk = match walk_schedules::<RwLockShell, _>(&bench, of_three, 8) {
+            None => walk_schedules::<RwLockShell, _>(&bench, of_three, 8),
+            walk => walk,
+        };
+        expect_alike(&bench, walk);
     }
 }
 
@@ -169,6 +203,12 @@ fn by_chance<R: Wait + Abort>(bench: &Bench<R>, setting: Setting) {
     expect_alike(bench, walk);
 }
 
+fn each_way_by_chance<R: Wait + Abort>(bench: &Bench<R>, setting: Setting) {
+    for ways in [Ways::Driver, Ways::Public, Ways::Both] {
+        by_chance(bench, Setting { ways, ..setting });
+    }
+}
+
 #[test]
 fn four_parties_go_alike_by_chance(rt: HostRuntime) {
     let of_four = Setting {
@@ -176,17 +216,28 @@ fn four_parties_go_alike_by_chance(rt: HostRuntime) {
         ..setting(&rt, 4, NO_LIMIT)
     };
     if let Some(bench) = Bench::new(rt, 4) {
-        by_chance(&bench, of_four);
+        for limit in [NO_LIMIT, 0, 1] {
+            each_way_by_chance(&bench, Setting { limit, ..of_four });
+        }
     }
 }
 
 #[test]
 fn three_parties_are_refused_alike_by_chance(rt: HostRuntime) {
-    let of_one = limited(&rt, 3, 1);
-    let of_nobody = limited(&rt, 3, 0);
+    let of_three = Setting {
+        refuses: true,
+        ..setting(&rt, 3, NO_LIMIT)
+    };
     if let Some(bench) = Bench::new(rt, 3) {
-        by_chance(&bench, of_one);
-        by_chance(&bench, of_nobody);
+        for readers in [1, 0] {
+            each_way_by_chance(
+                &bench,
+                Setting {
+                    readers,
+                    ..of_three
+                },
+            );
+        }
     }
 }
 

@@ -14,7 +14,7 @@ use futures::task::Context;
 use lock_program::mutex::Place as TurnPlace;
 use lock_program::rwlock::{Place, Purpose, Wanted};
 use lockstep::{Bench, Walker};
-use rwlock_driver::{Aim, Outcome, RawRwLock, RwLockParty, Standing, Waiting};
+use rwlock_driver::{Aim, Begun, Outcome, RawRwLock, RwLockParty, Standing, Waiting};
 use std::mem;
 use std::sync::{Arc, Wait};
 use words_rwlock::Seat;
@@ -187,7 +187,7 @@ fn tried<R: Wait>(shared: Arc<RawRwLock>, bench: &Bench<R>, call: Call) -> (Part
     }
 }
 
-// A call of a party that reads with the turn.
+// A call of a party that reads with the turn. An upgrade that writes already waits too: for its first poll.
 fn of_upgradable<R: Wait>(
     shared: Arc<RawRwLock>,
     bench: &Bench<R>,
@@ -197,16 +197,18 @@ fn of_upgradable<R: Wait>(
     requires { Has (arc_value shared) (right_of aims.UpgradableRead) seat }
 {
     match call {
-        Call::Upgrade => {
-            let seat = shared.upgrade(seat);
-            let Waiting { party, place } = shared.upgrading(seat);
-            let walker = Walker {
-                shared,
-                party,
-                place,
-            };
-            (walker, Answer::Waiting)
-        }
+        Call::Upgrade => match shared.begin_upgrade(seat) {
+            Begun::Writes(seat) => (seated(shared, seat, Aim::Upgrade), Answer::Waiting),
+            Begun::Awaits(seat) => {
+                let Waiting { party, place } = shared.upgrading(seat);
+                let walker = Walker {
+                    shared,
+                    party,
+                    place,
+                };
+                (walker, Answer::Waiting)
+            }
+        },
         Call::TryUpgrade => {
             let mut seat = seat;
             if shared.try_upgrade(&mut seat) {

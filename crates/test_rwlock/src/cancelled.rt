@@ -127,11 +127,54 @@ fn starved_told(first: Deed, behind: Deed) -> [(u64, Row); 13] {
     ]
 }
 
+// A reader doesn't wait for the turn, and so is notified beside the starved one. Once that is dropped nobody is starved any more: the
+// turn goes to whoever comes.
+fn starved_told_before_a_read(first: Deed) -> [(u64, Row); 11] {
+    [
+        (0, (Name::One, Deed::Write, Answer::Ready(0), NOBODY)),
+        (0, (Name::Two, first, Answer::Pending, NOBODY)),
+        (501, (Name::One, Deed::Drop, Answer::GivenBack, TWO)),
+        (501, (Name::Four, Deed::TryWrite, Answer::Granted(0), TWO)),
+        (501, (Name::Two, Deed::Poll, Answer::Pending, NOBODY)),
+        (501, (Name::Three, Deed::Read, Answer::Pending, NOBODY)),
+        (
+            501,
+            (Name::Four, Deed::Drop, Answer::GivenBack, TWO_AND_THREE),
+        ),
+        (
+            501,
+            (Name::Four, Deed::TryWrite, Answer::Nothing, TWO_AND_THREE),
+        ),
+        (
+            501,
+            (Name::Two, Deed::Drop, Answer::GivenBack, TWO_AND_THREE),
+        ),
+        (
+            501,
+            (
+                Name::Four,
+                Deed::TryUpgradableRead,
+                Answer::Granted(0),
+                TWO_AND_THREE,
+            ),
+        ),
+        (501, (Name::Three, Deed::Poll, Answer::Ready(0), TWO)),
+    ]
+}
+
 #[test]
 fn a_starved_future_that_is_cancelled_takes_its_count_off(rt: HostRuntime) {
     for (first, behind) in FOR_THE_TURN {
         of_timed(rt, 10, &starved_untold(first, behind));
         of_timed(rt, 10, &starved_told(first, behind));
+    }
+}
+
+#[test]
+fn a_starved_future_that_is_cancelled_leaves_the_turn_beside_a_reader(rt: HostRuntime) {
+    for first in [Deed::Write, Deed::UpgradableRead] {
+        of_timed(rt, 10, &starved_untold(first, Deed::Read));
+        of_timed(rt, 10, &starved_told_before_a_read(first));
     }
 }
 
@@ -290,10 +333,29 @@ fn an_upgrade_that_waits_gives_the_turn_to_a_write(rt: HostRuntime) {
     of_both(rt, 0, &CANCEL_TOLD_UPGRADE_BEFORE_WRITE);
 }
 
-// An upgrade that was never polled has set the bit already: one reads, and one waits for the turn.
+// An upgrade that was never polled has set the bit already, and writes where nobody else reads: one reads, and one waits for the turn.
 fn never_polled(behind: Deed, answer: Answer) -> [Row; 7] {
     [
         (Name::One, Deed::UpgradableRead, Answer::Ready(0), NOBODY),
+        (Name::One, Deed::Upgrade, Answer::Waiting, NOBODY),
+        (Name::Three, Deed::Read, Answer::Pending, NOBODY),
+        (Name::Four, behind, Answer::Pending, NOBODY),
+        (
+            Name::One,
+            Deed::Drop,
+            Answer::GivenBack,
+            (false, false, true, true),
+        ),
+        (Name::Three, Deed::Poll, Answer::Ready(0), FOUR),
+        (Name::Four, Deed::Poll, answer, NOBODY),
+    ]
+}
+
+// The same where a reader is left, so that the upgrade would have to wait for it.
+fn never_polled_beside_a_reader(behind: Deed, answer: Answer) -> [Row; 8] {
+    [
+        (Name::One, Deed::UpgradableRead, Answer::Ready(0), NOBODY),
+        (Name::Two, Deed::Read, Answer::Ready(0), NOBODY),
         (Name::One, Deed::Upgrade, Answer::Waiting, NOBODY),
         (Name::Three, Deed::Read, Answer::Pending, NOBODY),
         (Name::Four, behind, Answer::Pending, NOBODY),
@@ -312,4 +374,14 @@ fn never_polled(behind: Deed, answer: Answer) -> [Row; 7] {
 fn an_upgrade_that_was_never_polled_tells_who_waits(rt: HostRuntime) {
     of_both(rt, 0, &never_polled(Deed::UpgradableRead, Answer::Ready(0)));
     of_both(rt, 0, &never_polled(Deed::Write, Answer::Pending));
+    of_both(
+        rt,
+        0,
+        &never_polled_beside_a_reader(Deed::UpgradableRead, Answer::Ready(0)),
+    );
+    of_both(
+        rt,
+        0,
+        &never_polled_beside_a_reader(Deed::Write, Answer::Pending),
+    );
 }

@@ -148,6 +148,34 @@ const AT_THE_LIMIT: [(u64, Row); 6] = [
     (501, (Name::Three, Deed::Drop, Answer::GivenBack, NOBODY)),
 ];
 
+// A refused write that is polled again waits anew: 98 microseconds after it began to, it isn't refused once more.
+const A_REFUSED_WAIT_BEGINS_ANEW: [(u64, Row); 11] = [
+    (0, (Name::One, Deed::Write, Answer::Ready(0), NOBODY)),
+    (0, (Name::Two, Deed::Write, Answer::Pending, NOBODY)),
+    (501, (Name::One, Deed::Drop, Answer::GivenBack, TWO)),
+    (501, (Name::Three, Deed::TryWrite, Answer::Granted(0), TWO)),
+    (
+        501,
+        (
+            Name::Two,
+            Deed::Poll,
+            Answer::Refused(Refusal::Starved),
+            NOBODY,
+        ),
+    ),
+    (502, (Name::Two, Deed::Poll, Answer::Pending, NOBODY)),
+    (600, (Name::Three, Deed::Drop, Answer::GivenBack, TWO)),
+    (600, (Name::Four, Deed::TryWrite, Answer::Granted(0), TWO)),
+    (600, (Name::Two, Deed::Poll, Answer::Pending, NOBODY)),
+    (600, (Name::Four, Deed::Drop, Answer::GivenBack, TWO)),
+    (600, (Name::Two, Deed::Poll, Answer::Ready(0), NOBODY)),
+];
+
+#[test]
+fn a_refused_wait_begins_anew(rt: HostRuntime) {
+    of_timed(rt, 0, &A_REFUSED_WAIT_BEGINS_ANEW);
+}
+
 #[test]
 fn too_many_starved_waiters_are_refused(rt: HostRuntime) {
     of_timed(rt, 0, &AT_THE_LIMIT);

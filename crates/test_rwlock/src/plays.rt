@@ -6,8 +6,8 @@ use rwlock_scene::{Fake, Form, Row, Scene, Tasks, owned, shared};
 use std::alloc::AllocGlobal;
 use std::process::Abort;
 use std::random::RandomSource;
-use std::sync::Wait;
 use std::sync::atomic::{AtomicU64, Ordering};
+use std::sync::{Arc, Wait};
 use std::time::Clock;
 
 // Carries out these rows in a scene, and compares.
@@ -49,13 +49,27 @@ where
     }
 }
 
+// As [`play`], of an owned lock, of which no guard and no future leaves a share behind.
+fn play_owned<R, Q>(rt: &Q, lock: Arc<RwLock<u64, R>>, rows: &[Row]) -> bool
+where
+    R: Wait + Clock + RandomSource + AllocGlobal + Drop,
+    Q: RandomSource + AllocGlobal + Abort,
+{
+    let Ok(kept) = Arc::try_clone(&lock) else {
+        return false;
+    };
+    let played = play(rt, lock, rows);
+    assert_same(rt, Arc::strong_count(&kept), 1);
+    played
+}
+
 // As [`in_borrowed`], of an owned lock.
 fn in_owned<R>(rt: R, number: u64, rows: &[Row]) -> bool
 where
     R: Wait + Clock + RandomSource + AllocGlobal + Abort + Copy + Drop,
 {
     match owned(rt, number) {
-        Some(lock) => play(&rt, lock, rows),
+        Some(lock) => play_owned(&rt, lock, rows),
         None => false,
     }
 }
@@ -105,7 +119,7 @@ where
         return false;
     };
     match shared(&rt, lock) {
-        Some(lock) => play(&rt, lock, rows),
+        Some(lock) => play_owned(&rt, lock, rows),
         None => false,
     }
 }
@@ -137,6 +151,25 @@ where
     true
 }
 
+// As [`play_owned`], each row at its time by this clock.
+fn play_owned_timed<R, Q>(
+    rt: &Q,
+    lock: Arc<RwLock<u64, R>>,
+    micros: &AtomicU64,
+    rows: &[(u64, Row)],
+) -> bool
+where
+    R: Wait + Clock + RandomSource + AllocGlobal + Drop,
+    Q: RandomSource + AllocGlobal + Abort,
+{
+    let Ok(kept) = Arc::try_clone(&lock) else {
+        return false;
+    };
+    let played = play_timed(rt, lock, micros, rows);
+    assert_same(rt, Arc::strong_count(&kept), 1);
+    played
+}
+
 // As [`in_borrowed`], of a lock of 0 where at most so many may be starved for the turn, each row at its time.
 fn in_timed<R>(rt: R, starved: u64, rows: &[(u64, Row)]) -> bool
 where
@@ -159,7 +192,7 @@ where
         return false;
     };
     match shared(&rt, lock) {
-        Some(lock) => play_timed(&rt, lock, &micros, rows),
+        Some(lock) => play_owned_timed(&rt, lock, &micros, rows),
         None => false,
     }
 }
