@@ -44,3 +44,15 @@ for shell in $shells; do
     fi
 done
 echo 'the locks for threads stand on no crate of a World'
+
+# A seat in pledge, and the table against which a value is lent, are open to crates above the words. Only the module that lends names
+# them, and the constructor that deals the vault: so nobody steps on a read-write lock's words past their own calls.
+lending='crates/async_rwlock/src/lending\.rt:|Vault::deal'
+named=$(grep -rnE '\.badge\b|\bshared\(\)|\bBadge\b|\bload_new_seat\b|\batomic_table\b' crates/rwlock_driver/src crates/async_rwlock/src \
+    --include='*.rt' | grep -vE "(ghost |requires |ensures |$lending)" || true)
+if [ -n "$named" ]; then
+    echo "$named" >&2
+    echo 'these lines reach past the calls of the words of a read-write lock' >&2
+    exit 1
+fi
+echo 'the words of a read-write lock are stepped on by their calls alone'
