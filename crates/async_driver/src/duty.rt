@@ -107,8 +107,14 @@ impl Owed {
         if is_listed.is_set() {
             return Some(self);
         }
-        let Owed { list: _, cause: _ } = self;
+        self.end_unlisted();
         None
+    }
+
+    // The same where its list was never made, since nobody joined it.
+    #[inline]
+    pub(crate) fn end_unlisted(self) {
+        let Owed { list: _, cause: _ } = self;
     }
 }
 

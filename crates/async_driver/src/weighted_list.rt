@@ -56,7 +56,9 @@ pub struct WeightedList<W: Wakes> {
     // Which list it is. Nobody registers with it.
     name: Source,
     is_listed: Flag,
-    entries: Mutex<WeightedEvent<W>>,
+    // Where the list is made, when somebody first joins.
+    alloc: Global,
+    entries: Mutex<Option<Box<WeightedEvent<W>>>>,
 }
 
 // By hand, so that a drop is one call to prove, and not all of its parts again.
@@ -65,6 +67,7 @@ impl<W: Wakes> Drop for WeightedList<W> {
         let WeightedList {
             name: _,
             is_listed: _,
+            alloc: _,
             entries: _,
         } = self;
     }
@@ -80,7 +83,8 @@ impl<W: Wakes> WeightedList<W> {
         let list = WeightedList {
             name,
             is_listed: Flag::new(),
-            entries: Mutex::new(WeightedEvent::new(alloc)),
+            alloc,
+            entries: Mutex::new(None),
         };
         (list, key)
     }
@@ -102,13 +106,18 @@ impl<W: Wakes> WeightedList<W> {
 
     /// Returns how many entries the list has. It is for tests.
     pub fn len<R: Wait>(&self, rt: &R) -> usize {
-        locked(&self.entries, rt).len()
+        match &*locked(&self.entries, rt) {
+            Some(entries) => entries.len(),
+            None => 0,
+        }
     }
 
     /// Returns whether the entry of this id stands in the list and is notified. It is for tests.
     pub fn is_notified<R: Wait>(&self, rt: &R, id: EntryId) -> bool {
-        let entries = locked(&self.entries, rt);
-        entries.contains(id) && entries.is_notified(id)
+        match &*locked(&self.entries, rt) {
+            Some(entries) => entries.contains(id) && entries.is_notified(id),
+            None => false,
+        }
     }
 
     /// Adds a waiting entry for so many units at the back, with no waker. [`Memory`] comes only if memory was refused,
@@ -116,7 +125,13 @@ impl<W: Wakes> WeightedList<W> {
     pub fn join<R: Wait>(&self, rt: &R, weight: u64) -> Result<WeightedListed, Memory>
         ensures { IfOk result (λ entry. (entry.list.id ≡ self.now.name.id) × (entry.weight ≡ weight) × (entry.keeps.by ≡ None)) }
     {
-        match join_locked(&mut locked(&self.entries, rt), &self.is_listed, weight) {
+        let joined = join_first(
+            &mut locked(&self.entries, rt),
+            self.alloc,
+            &self.is_listed,
+            weight,
+        );
+        match joined {
             Ok(id) => Ok(WeightedListed {
                 id,
                 list: self.id(),
@@ -145,12 +160,12 @@ impl<W: Wakes> WeightedList<W> {
             keeps: _,
             weight,
         } = entry;
-        let asked = ask_locked(
-            &mut locked(&self.entries, rt),
-            &self.is_listed,
-            id,
-            waker.take(),
-        );
+        let asked = match &mut *locked(&self.entries, rt) {
+            Some(entries) => ask_locked(entries, &self.is_listed, id, waker.take()),
+            None => Asked::Unlisted {
+                unused: waker.take(),
+            },
+        };
         match asked {
             Asked::Waiting { kept } => {
                 *waker = kept;
@@ -184,11 +199,10 @@ impl<W: Wakes> WeightedList<W> {
             keeps: _,
             weight: _,
         } = entry;
-        let (was_notified, kept) = remove_locked(
-            &mut locked(&self.entries, rt),
-            &self.is_listed,
-            id,
-        );
+        let (was_notified, kept) = match &mut *locked(&self.entries, rt) {
+            Some(entries) => remove_locked(entries, &self.is_listed, id),
+            None => (false, None),
+        };
         drop(kept);
         if was_notified {
             Some(Owed::told(list))
@@ -203,15 +217,31 @@ impl<W: Wakes> WeightedList<W> {
     pub fn fit<R: Wait>(&self, rt: &R, available: u64, owed: Owed)
         requires { owed.list.id ≡ self.now.name.id }
     {
-        if let Some(owed) = owed.unless_listed(&self.is_listed) {
+        if let Some(owed) = self.unless_listed(owed) {
             self.fit_listed(rt, available, owed);
         }
+    }
+
+    /// Ends the duty if the list had no entries at some moment of the call: nobody waits to be notified. Else the duty comes back.
+    /// It waits for nobody, so whoever has it first asks here, and calls [`WeightedList::fit`] only where somebody may wait.
+    #[inline]
+    pub fn unless_listed(&self, owed: Owed) -> Option<Owed>
+        requires { owed.list.id ≡ self.now.name.id }
+        ensures { IfSome result (λ left. left ≡ owed) }
+    {
+        owed.unless_listed(&self.is_listed)
     }
 
     // As `fit`, of a list that had entries.
     #[inline(never)]
     fn fit_listed<R: Wait>(&self, rt: &R, available: u64, owed: Owed) {
-        let due = fit_locked(&mut locked(&self.entries, rt), available, owed);
+        let due = match &mut *locked(&self.entries, rt) {
+            Some(entries) => fit_locked(entries, available, owed),
+            None => {
+                owed.end_unlisted();
+                None
+            }
+        };
         if let Some(waker) = due {
             waker.wake();
         }
@@ -241,13 +271,10 @@ impl WeightedList<Waker> {
             keeps: _,
             weight,
         } = entry;
-        let polled = poll_locked(
-            &mut locked(&self.entries, rt),
-            &self.is_listed,
-            id,
-            source,
-            cx,
-        );
+        let polled = match &mut *locked(&self.entries, rt) {
+            Some(entries) => poll_locked(entries, &self.is_listed, id, source, cx),
+            None => Polled::Notified(None),
+        };
         match polled {
             Polled::Waiting(keeps) => WeightedHeard::Waiting(WeightedListed {
                 id,
@@ -264,6 +291,24 @@ impl WeightedList<Waker> {
 }
 
 // The calls as they are under the list's lock.
+
+// Joins a list that is made where nobody joined before.
+fn join_first<W: Wakes>(
+    entries: &mut Option<Box<WeightedEvent<W>>>,
+    alloc: Global,
+    is_listed: &Flag,
+    weight: u64,
+) -> Result<EntryId, Memory> {
+    if let Some(entries) = entries {
+        return join_locked(entries, is_listed, weight);
+    }
+    let Ok(mut made) = Box::new(alloc, WeightedEvent::new(alloc)) else {
+        return Err(Memory);
+    };
+    let joined = join_locked(&mut made, is_listed, weight);
+    *entries = Some(made);
+    joined
+}
 
 fn join_locked<W: Wakes>(
     entries: &mut WeightedEvent<W>,
