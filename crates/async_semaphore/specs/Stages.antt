@@ -11,6 +11,9 @@ use Rattle.lock_program.specs.declared.refusal.Refusal.{Refusal}
 use Rattle.lock_program.specs.declared.refusal.Refusal.TheVariants.{Memory, Finished}
 use Rattle.semaphore_driver.specs.Polls.{HasReceipt, WaitsFor}
 use Rattle.semaphore_driver.specs.Semaphores.{Has}
+use Rattle.semaphore_driver.specs.Straight.{IsShort}
+use Rattle.semaphore_driver.specs.declared.straight.Tried.{Tried}
+use Rattle.semaphore_driver.specs.declared.straight.Tried.TheVariants as tried
 use Rattle.semaphore_driver.specs.declared.waiting.Outcome.{Outcome}
 use Rattle.semaphore_driver.specs.declared.waiting.Outcome.TheVariants as outcome
 use Rattle.semaphore_driver.specs.declared.waiting.Waiting.{Waiting}
@@ -63,6 +66,17 @@ HasReceiptAt semaphore_of _ k cx waiting = ⊥
 abbrev pub GotAt : {O R : Type 0} → (O → Semaphore R) → Stage O → ℕ → Seat → Type 0
 GotAt semaphore_of (Waits owner) k seat = Has (semaphore_of owner).raw k seat
 GotAt semaphore_of _ k seat = ⊥
+
+-- a seat of a first try found fewer permits than it is for
+abbrev pub ShortAt : {O R : Type 0} → (O → Semaphore R) → Stage O → ℕ → Seat → Type 0
+ShortAt semaphore_of (Waits owner) k seat = IsShort (semaphore_of owner).raw k seat
+ShortAt semaphore_of _ k seat = ⊥
+
+-- what a first try came to: the permits that it is for, or a seat without any, which found fewer or whose word changed
+abbrev pub OnTriedAt : {O R : Type 0} → (O → Semaphore R) → Stage O → ℕ → Tried → Type 0
+OnTriedAt semaphore_of stage k (tried.Got seat) = GotAt semaphore_of stage k seat
+OnTriedAt semaphore_of stage k (tried.Short seat) = ShortAt semaphore_of stage k seat
+OnTriedAt semaphore_of stage k (tried.Changed seat) = GotAt semaphore_of stage 0 seat
 
 -- how a poll by who has the semaphore went, and what is left of its party
 abbrev pub OnPolled : {O R : Type 0} → (O → Semaphore R) → Stage O → ℕ → Context → Outcome → Option Waiting → Type 0

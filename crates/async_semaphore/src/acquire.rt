@@ -7,11 +7,11 @@ ghost use Rattle.async_semaphore.specs.Stages.{Gives, HasReceiptAt, IsTurn, OnRe
 
 use crate::guard::PermitGuard;
 use crate::owns::Owns;
-use crate::stage::{Stage, drop_stage, into_guard, poll_stage, take};
+use crate::stage::{Stage, drop_stage, give_up, into_guard, poll_stage, take, take_again};
 use async_driver::{Polled, Turn};
 use futures::task::Context;
 use lock_program::Refusal;
-use semaphore_driver::{Outcome, Waiting};
+use semaphore_driver::{Outcome, Tried, Waiting};
 use std::marker::{Model, PhantomData};
 use std::sync::Wait;
 use std::time::Clock;
@@ -87,8 +87,15 @@ impl<R: Wait + Clock, O: Owns<R>> AcquireFuture<R, O> {
             // The stage is out meanwhile, so that who got the permits needn't be read again from memory.
             let permits = self.permits;
             let stage = mem::replace(&mut self.stage, Stage::Finished);
-            if let Some(seat) = take::<R, O>(&stage, permits) {
-                return Turn::Ready(into_guard(stage, seat, permits));
+            match take::<R, O>(&stage, permits) {
+                Some(Tried::Got(seat)) => return Turn::Ready(into_guard(stage, seat, permits)),
+                Some(Tried::Short(seat)) => give_up::<R, O>(&stage, seat, permits),
+                Some(Tried::Changed(seat)) => {
+                    if let Some(seat) = take_again::<R, O>(&stage, seat, permits) {
+                        return Turn::Ready(into_guard(stage, seat, permits));
+                    }
+                }
+                None => {}
             }
             self.stage = stage;
         }

@@ -14,7 +14,7 @@ use crate::{SemaphoreGuard, SemaphoreGuardArc};
 use async_driver::Settled;
 use futures::executor::block_on;
 use lock_program::Refusal;
-use semaphore_driver::Given;
+use semaphore_driver::{Given, Tried};
 use std::alloc::AllocGlobal;
 use std::random::RandomSource;
 use std::sync::{Arc, Wait};
@@ -28,7 +28,15 @@ impl<R: Wait> Semaphore<R> {
     pub fn try_acquire(&self) -> Option<SemaphoreGuard<'_, R>>
         ensures { IfSome result (λ guard. (guard.semaphore ≡ self.now) × (guard.permits ≡ 1)) }
     {
-        self.try_acquire_many(1)
+        let seat = match self.raw.try_take(1) {
+            Tried::Got(seat) => seat,
+            Tried::Short(seat) => {
+                self.raw.give_up(seat, 1);
+                return None;
+            }
+            Tried::Changed(seat) => self.raw.try_again(&self.rt, seat, 1)?,
+        };
+        Some(PermitGuard::new(self, seat, 1))
     }
 
     /// Attempts to acquire this many permits at once: it does if as many are available. None are enough for 0.
@@ -38,8 +46,16 @@ impl<R: Wait> Semaphore<R> {
     pub fn try_acquire_many(&self, permits: usize) -> Option<SemaphoreGuard<'_, R>>
         ensures { IfSome result (λ guard. (guard.semaphore ≡ self.now) × (guard.permits ≡ permits)) }
     {
-        let seat = self.raw.try_take(&self.rt, permits as u64)?;
-        Some(PermitGuard::new(self, seat, permits as u64))
+        let permits = permits as u64;
+        let seat = match self.raw.try_take(permits) {
+            Tried::Got(seat) => seat,
+            Tried::Short(seat) => {
+                self.raw.give_up(seat, permits);
+                return None;
+            }
+            Tried::Changed(seat) => self.raw.try_again(&self.rt, seat, permits)?,
+        };
+        Some(PermitGuard::new(self, seat, permits))
     }
 
     /// Returns a future of a permit, which does nothing until it is polled.
@@ -126,8 +142,16 @@ impl<R: Wait + Drop> Semaphore<R> {
         ensures { IfSome result (λ guard. (guard.semaphore ≡ arc_value this.now) × (guard.permits ≡ permits)) }
     {
         let owner = Arc::try_clone(this).ok()?;
-        let seat = owner.raw.try_take(&owner.rt, permits as u64)?;
-        Some(PermitGuard::new(owner, seat, permits as u64))
+        let permits = permits as u64;
+        let seat = match owner.raw.try_take(permits) {
+            Tried::Got(seat) => seat,
+            Tried::Short(seat) => {
+                owner.raw.give_up(seat, permits);
+                return None;
+            }
+            Tried::Changed(seat) => owner.raw.try_again(&owner.rt, seat, permits)?,
+        };
+        Some(PermitGuard::new(owner, seat, permits))
     }
 
     /// As [`Semaphore::acquire`], for a future that has a share of the semaphore and gives it to its guard. If that share can't be

@@ -4,7 +4,7 @@ ghost use Rattle.std.specs.Prelude.{◌≡◌};
 ghost use Rattle.semaphore_driver.specs.Semaphores.{Has};
 
 use crate::owns::Owns;
-use semaphore_driver::{Given, Lowered};
+use semaphore_driver::Lowered;
 use std::fmt;
 use std::marker::{Model, PhantomData};
 use std::sync::Wait;
@@ -73,19 +73,8 @@ impl<R: Wait, O: Owns<R>> PermitGuard<R, O> {
     }
 }
 
-// Gives a guard's permits back, which the receipt says.
-#[inline]
-fn give_back<R: Wait, O: Owns<R>>(owner: O, seat: Seat, permits: u64) -> Given
-    requires { Has (O.semaphore_of owner).raw permits seat }
-    ensures { result.permits ≡ permits }
-{
-    let semaphore = owner.semaphore();
-    let given = semaphore.raw.give(&semaphore.rt, seat, permits);
-    drop(owner);
-    given
-}
-
 impl<R: Wait, O: Owns<R>> Drop for PermitGuard<R, O> {
+    // The call that gives the permits back waits for nobody: after one that may, the compiled code looks at a flag.
     #[inline]
     fn drop(self) {
         let Self {
@@ -94,7 +83,12 @@ impl<R: Wait, O: Owns<R>> Drop for PermitGuard<R, O> {
             permits,
             runtime: _,
         } = self;
-        let _ = give_back::<R, O>(owner, seat, permits);
+        let semaphore = owner.semaphore();
+        let _ = match semaphore.raw.give(seat, permits) {
+            Ok(given) => given,
+            Err(notifies) => semaphore.raw.notify(&semaphore.rt, notifies),
+        };
+        drop(owner);
     }
 }
 

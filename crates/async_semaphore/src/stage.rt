@@ -2,7 +2,7 @@
 
 ghost use Rattle.std.specs.Prelude.{◌≡◌, false, true, IfSome};
 ghost use Rattle.futures.specs.Task.{Keeps};
-ghost use Rattle.async_semaphore.specs.Stages.{Gives, GotAt, IsFor, OnPolled, WaitsAs, is_finished};
+ghost use Rattle.async_semaphore.specs.Stages.{Gives, GotAt, IsFor, OnPolled, OnTriedAt, ShortAt, WaitsAs, is_finished};
 ghost use Rattle.async_semaphore.specs.declared.semaphore.Semaphore.{Semaphore};
 ghost use Rattle.semaphore_driver.specs.Polls.{WaitsFor};
 
@@ -11,7 +11,7 @@ use crate::owns::Owns;
 use async_driver::nothing;
 use futures::task::Context;
 use lock_program::Refusal;
-use semaphore_driver::{Outcome, Waiting};
+use semaphore_driver::{Outcome, Tried, Waiting};
 use std::sync::Wait;
 use std::time::Clock;
 use words_semaphore::Seat;
@@ -39,17 +39,44 @@ pub(crate) fn first<R, O: Owns<R>>(share: Option<O>) -> Stage<O>
     }
 }
 
-/// The permits, if they can be had at once.
+/// A first try for the permits, by who has the semaphore.
 #[inline]
-pub(crate) fn take<R: Wait, O: Owns<R>>(stage: &Stage<O>, permits: u64) -> Option<Seat>
+pub(crate) fn take<R, O: Owns<R>>(stage: &Stage<O>, permits: u64) -> Option<Tried>
+    ensures { IfSome result (OnTriedAt O.semaphore_of stage.now permits) }
+{
+    match stage {
+        Stage::Waits(owner) => Some(owner.semaphore().raw.try_take(permits)),
+        Stage::Unowned | Stage::Finished => None,
+    }
+}
+
+/// Ends a first try that is in vain.
+#[inline]
+pub(crate) fn give_up<R, O: Owns<R>>(stage: &Stage<O>, seat: Seat, permits: u64)
+    requires { ShortAt O.semaphore_of stage.now permits seat }
+{
+    match stage {
+        Stage::Waits(owner) => owner.semaphore().raw.give_up(seat, permits),
+        Stage::Unowned | Stage::Finished => unreachable!(),
+    }
+}
+
+/// Goes on with a try whose word changed meanwhile. It stands apart, as [`poll_stage`] does.
+#[inline(never)]
+pub(crate) fn take_again<R: Wait, O: Owns<R>>(
+    stage: &Stage<O>,
+    seat: Seat,
+    permits: u64,
+) -> Option<Seat>
+    requires { GotAt O.semaphore_of stage.now 0 seat }
     ensures { IfSome result (GotAt O.semaphore_of stage.now permits) }
 {
     match stage {
         Stage::Waits(owner) => {
             let semaphore = owner.semaphore();
-            semaphore.raw.try_take(&semaphore.rt, permits)
+            semaphore.raw.try_again(&semaphore.rt, seat, permits)
         }
-        Stage::Unowned | Stage::Finished => None,
+        Stage::Unowned | Stage::Finished => unreachable!(),
     }
 }
 

@@ -17,4 +17,5 @@ pub use duty::Keys;
 pub use party::PermitParty;
 pub use raw::RawSemaphore;
 pub use stock::{Duty, Given, Lowered, Stock};
+pub use straight::{Notifies, Tried};
 pub use waiting::{Outcome, Waiting};

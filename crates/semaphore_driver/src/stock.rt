@@ -103,6 +103,14 @@ impl Stock {
         self.words.sit()
     }
 
+    /// Returns a new seat as [`Stock::sit`] does, with how many permits its one load found available.
+    #[inline]
+    pub fn sit_and_look(&self) -> (Seat, u64)
+        ensures { (result.0.inner.table_id ≡ self.now.word.table) × (result.0.inner.me ≡ (having_found result.1 first_view, [])) }
+    {
+        self.words.sit_and_look()
+    }
+
     /// Ends a seat that has no permits and nothing under way.
     #[inline]
     pub fn rise(&self, seat: Seat)
@@ -146,6 +154,17 @@ impl Stock {
             Taking::Changed => {}
         }
         taking
+    }
+
+    /// Takes this many permits by the one exchange of [`Words::take_from`]. It is for a party that has no duty.
+    #[inline]
+    pub fn take_from(&self, seat: &mut Seat, found: u64, permits: u64) -> Taking
+        requires table { seat.old.inner.table_id ≡ self.now.word.table }
+        requires found { found ≡ seat.old.inner.me.0.found }
+        ensures same { (seat.new.inner.table_id ≡ seat.old.inner.table_id) × (seat.new.inner.id ≡ seat.old.inner.id) }
+        ensures step { OnTaking result (λ a. seat.new.inner.me ≡ (having_taken permits a seat.old.inner.me.0, seat.old.inner.me.1)) (λ a. (a < permits) × (seat.new.inner.me ≡ (having_found a seat.old.inner.me.0, seat.old.inner.me.1))) (seat.new.inner.me ≡ seat.old.inner.me) }
+    {
+        self.words.take_from(seat, found, permits)
     }
 
     // So many are left: a duty is over if that is nothing.
@@ -320,8 +339,7 @@ impl Stock {
     }
 
     /// Notifies the first waiter for whom the available permits are enough, if nobody is notified and there is such a one. It
-    /// needs how many the seat found last, since the duty arose. If there were none, the list isn't looked through: nobody
-    /// waits for 0, which is always had at once.
+    /// needs how many the seat found last, since the duty arose.
     #[inline]
     pub fn fit<R: Wait>(&self, rt: &R, seat: &Seat, available: u64, duty: Duty)
         requires seat { seat.now.inner.table_id ≡ self.now.word.table }
@@ -329,12 +347,33 @@ impl Stock {
         requires list { duty.owed.list.id ≡ self.now.list }
         requires seen { duty.seen ≡ Some available }
     {
-        let Duty { owed, seen: _ } = duty;
+        if let Some(Duty { owed, seen: _ }) = self.unless_vain(seat, available, duty) {
+            self.list.fit(rt, available, owed);
+        }
+    }
+
+    /// Ends a duty where nobody can be notified: none is available, or nobody stood in the list at some moment of the call. If none
+    /// is available the list isn't asked: nobody waits for 0, which is always had at once. Else the duty comes back, for
+    /// [`Stock::fit`].
+    ///
+    /// It waits for nobody, so that a drop beside which nobody waits has no call that may.
+    #[inline]
+    pub fn unless_vain(&self, seat: &Seat, available: u64, duty: Duty) -> Option<Duty>
+        requires seat { seat.now.inner.table_id ≡ self.now.word.table }
+        requires found { available ≡ seat.now.inner.me.0.found }
+        requires list { duty.owed.list.id ≡ self.now.list }
+        requires seen { duty.seen ≡ Some available }
+        ensures { IfSome result (λ left. left ≡ duty) }
+    {
+        let Duty { owed, seen } = duty;
         if available == 0 {
             self.nothing_left(owed, seat);
-            return;
+            return None;
         }
-        self.list.fit(rt, available, owed);
+        match self.list.unless_listed(owed) {
+            Some(owed) => Some(Duty { owed, seen }),
+            None => None,
+        }
     }
 }
 

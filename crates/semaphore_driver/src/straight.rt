@@ -3,12 +3,13 @@
 //! By their types a seat can't end with permits, nor a call before whoever the permits are enough for is notified. Which
 //! rows of the table the actions are, is said by contract beside them.
 
-ghost use Rattle.std.specs.Prelude.{◌≡◌, ◌<◌, ℕ, Some, false, IfErr, IfOk, IfSome, MatchBool};
+ghost use Rattle.std.specs.Prelude.{◌≡◌, ℕ, Some, false, IfErr, IfOk, IfSome, MatchBool};
 ghost use Rattle.lock_program.specs.declared.end.End.TheVariants as ends;
 ghost use Rattle.lock_program.specs.declared.end.Next.TheVariants as next;
 ghost use Rattle.lock_program.specs.declared.refusal.Refusal.{Refusal};
 ghost use Rattle.lock_program.specs.declared.refusal.Refusal.TheVariants as refusals;
 ghost use Rattle.semaphore_driver.specs.Semaphores.{Has, HasUnderWay};
+ghost use Rattle.semaphore_driver.specs.Straight.{IsShort, OnTried, Owes};
 ghost use Rattle.sync_program.specs.Permits.{action_of, next_of, start_of};
 ghost use Rattle.sync_program.specs.declared.permits.Action.TheVariants as does;
 ghost use Rattle.sync_program.specs.declared.permits.Found.TheVariants as finds;
@@ -17,27 +18,70 @@ ghost use Rattle.sync_program.specs.declared.permits.Position.TheVariants as sta
 ghost use Rattle.sync_program.specs.declared.permits.SemaphoreCall.TheVariants as calls;
 
 use crate::raw::RawSemaphore;
-use crate::stock::{Given, Lowered};
+use crate::stock::{Duty, Given, Lowered};
 use async_driver::nothing;
 use lock_program::Refusal;
 use std::sync::Wait;
 use words_semaphore::{Raising, Seat, Taking};
 
+/// What a first try to take permits came to.
+pub enum Tried {
+    /// The permits, by this seat, which has exactly these.
+    Got(Seat),
+    /// Fewer are available, as this seat's last look found: [`RawSemaphore::give_up`] ends it.
+    Short(Seat),
+    /// The word changed meanwhile: [`RawSemaphore::try_again`] goes on, with this seat.
+    Changed(Seat),
+}
+
+/// What is left to do of a drop where somebody may wait: [`RawSemaphore::notify`] does it. It has no `Drop`.
+pub struct Notifies {
+    seat: Seat,
+    given: Given,
+    duty: Duty,
+}
+
 impl RawSemaphore {
-    /// Takes this many permits at once, if as many are available. A word that changed meanwhile is tried again.
+    /// Takes this many permits at once, if as many are available. It waits for nobody: one look, and one exchange.
     ///
     /// It is the one action of a try, and the first of a first poll: a poll that it doesn't end goes on by
-    /// [`RawSemaphore::poll_waiting`]. By the contract the seat that it returns has exactly these permits.
+    /// [`RawSemaphore::poll_waiting`]. By the contract the seat that it returns has exactly these permits, and it is in vain only
+    /// where its look found fewer.
     #[inline]
-    pub fn try_take<R: Wait>(&self, rt: &R, permits: u64) -> Option<Seat>
-        ensures { IfSome result (Has self.now permits) }
+    pub fn try_take(&self, permits: u64) -> Tried
+        ensures { OnTried self.now permits result }
     {
         try_rows();
-        let mut seat = self.stock.sit();
+        let (mut seat, found) = self.stock.sit_and_look();
+        match self.stock.take_from(&mut seat, found, permits) {
+            Taking::Left(_) => Tried::Got(seat),
+            Taking::Short(_) => Tried::Short(seat),
+            Taking::Changed => Tried::Changed(seat),
+        }
+    }
+
+    /// Ends a try that is in vain: its last look found fewer permits than it is for.
+    #[inline]
+    pub fn give_up(&self, seat: Seat, permits: u64)
+        requires { IsShort self.now permits seat }
+    {
+        let _ = permits;
+        self.stock.rise(seat);
+    }
+
+    /// Goes on with a try whose word changed meanwhile, until it stands still.
+    ///
+    /// It stands apart, as does all else that may wait: after each such call the compiled code looks at a flag.
+    #[inline(never)]
+    pub fn try_again<R: Wait>(&self, rt: &R, seat: Seat, permits: u64) -> Option<Seat>
+        requires { Has self.now 0 seat }
+        ensures { IfSome result (Has self.now permits) }
+    {
+        let mut seat = seat;
         if self.take(rt, &mut seat, permits) {
             return Some(seat);
         }
-        self.stock.rise(seat);
+        self.give_up(seat, permits);
         None
     }
 
@@ -46,7 +90,7 @@ impl RawSemaphore {
     #[inline]
     fn take<R: Wait>(&self, rt: &R, seat: &mut Seat, permits: u64) -> bool
         requires { Has self.now 0 seat.old }
-        ensures { MatchBool result (Has self.now permits seat.new) (Has self.now 0 seat.new × (seat.new.inner.me.0.found < permits)) }
+        ensures { MatchBool result (Has self.now permits seat.new) (IsShort self.now permits seat.new) }
     {
         for _ in rt.forever() {
             let mut duty = None;
@@ -61,19 +105,48 @@ impl RawSemaphore {
         unreachable!()
     }
 
-    /// Gives a guard's permits back, and notifies the first waiter for whom those that are then available are enough. Its receipt
-    /// says that they were given.
+    /// Gives a guard's permits back. Its receipt says that they were given. It waits for nobody: where somebody may be waiting for
+    /// whom the permits that are then available are enough, [`RawSemaphore::notify`] has to go on.
     #[inline]
-    pub fn give<R: Wait>(&self, rt: &R, seat: Seat, permits: u64) -> Given
+    pub fn give(&self, seat: Seat, permits: u64) -> Result<Given, Notifies>
         requires { Has self.now permits seat }
-        ensures { result.permits ≡ permits }
+        ensures given { IfOk result (λ given. given.permits ≡ permits) }
+        ensures notifies { IfErr result (λ notifies. (notifies.given.permits ≡ permits) × Owes self.now notifies) }
     {
         give_rows();
         let mut seat = seat;
         let (given, duty) = self.stock.give(&mut seat, permits);
-        self.stock.fit(rt, &seat, given.available(), duty);
+        match self.stock.unless_vain(&seat, given.available(), duty) {
+            Some(duty) => Err(Notifies { seat, given, duty }),
+            None => {
+                self.stock.rise(seat);
+                Ok(given)
+            }
+        }
+    }
+
+    /// Notifies the first waiter for whom the permits that were given are enough. The receipt of these comes back.
+    #[inline]
+    pub fn notify<R: Wait>(&self, rt: &R, notifies: Notifies) -> Given
+        requires { Owes self.now notifies }
+        ensures { result ≡ notifies.given }
+    {
+        let Notifies { seat, given, duty } = notifies;
+        self.tell(rt, &seat, given.available(), duty);
         self.stock.rise(seat);
         given
+    }
+
+    // As `Stock::fit`. It stands apart, and is handed the parts of a `Notifies`: these go in registers, and the whole would be
+    // written to the stack before the gift, in vain where nobody waits.
+    #[inline(never)]
+    fn tell<R: Wait>(&self, rt: &R, seat: &Seat, available: u64, duty: Duty)
+        requires seat { seat.now.inner.table_id ≡ self.now.word.table }
+        requires found { available ≡ seat.now.inner.me.0.found }
+        requires list { duty.owed.list.id ≡ self.now.list }
+        requires seen { duty.seen ≡ Some available }
+    {
+        self.stock.fit(rt, seat, available, duty);
     }
 
     /// Ends a guard's permits for good: the limit is lowered by as many, which its receipt says. It waits for nobody.

@@ -8,7 +8,7 @@ use crate::owing::Owing;
 use async_driver::{Carries, WeightedListed};
 use lock_program::End;
 use lockstep::{Acted, Bench, Walker};
-use semaphore_driver::{PermitParty, RawSemaphore};
+use semaphore_driver::{PermitParty, RawSemaphore, Tried};
 use std::marker::Model;
 use std::sync::{Arc, Wait};
 use sync_program::permits::{Found, Place, Position};
@@ -54,14 +54,19 @@ impl Held {
         rt: &R,
         permits: u64,
     ) -> Option<Held> {
-        match shared.try_take(rt, permits) {
-            Some(seat) => Some(Held {
-                shared,
-                seat,
-                permits,
-            }),
-            None => None,
-        }
+        let seat = match shared.try_take(permits) {
+            Tried::Got(seat) => seat,
+            Tried::Short(seat) => {
+                shared.give_up(seat, permits);
+                return None;
+            }
+            Tried::Changed(seat) => shared.try_again(rt, seat, permits)?,
+        };
+        Some(Held {
+            shared,
+            seat,
+            permits,
+        })
     }
 
     /// Gives the permits back, whole.
@@ -71,7 +76,9 @@ impl Held {
             seat,
             permits,
         } = self;
-        shared.give(rt, seat, permits);
+        if let Err(notifies) = shared.give(seat, permits) {
+            shared.notify(rt, notifies);
+        }
     }
 
     /// Ends the permits for good.

@@ -4,12 +4,31 @@ ghost use Rattle.std.specs.Prelude.{◌≡◌};
 
 use std::process::Abort;
 use std::thread;
-use words_semaphore::{Raising, Taking, Words};
+use words_semaphore::{Raising, Seat, Taking, Words};
 
 // One try to take so many permits by a new seat, which gives them back: how many were left, or found.
 fn take_once(words: &Words, permits: u64) -> Taking {
     let mut seat = words.sit();
     let taking = words.take(&mut seat, permits);
+    match taking {
+        Taking::Left(_) => {
+            let _ = words.give(&mut seat, permits);
+            words.rise(seat);
+        }
+        Taking::Short(_) => words.rise(seat),
+        Taking::Changed => words.rise(seat),
+    }
+    taking
+}
+
+// One exchange by a seat that has looked already, which gives the permits back: what it came to.
+fn take_by(words: &Words, seat: Seat, found: u64, permits: u64) -> Taking
+    requires table { seat.inner.table_id ≡ words.now.table }
+    requires nothing { (seat.inner.me.0.permits ≡ 0) × (seat.inner.me.0.under_way ≡ 0) }
+    requires found { found ≡ seat.inner.me.0.found }
+{
+    let mut seat = seat;
+    let taking = words.take_from(&mut seat, found, permits);
     match taking {
         Taking::Left(_) => {
             let _ = words.give(&mut seat, permits);
@@ -113,6 +132,34 @@ fn permits_are_taken_given_added_and_forgotten(rt: HostRuntime) {
         add_once(&words, u64::MAX - 4) == Raising::Raised,
     );
     expect(&rt, "as many as may be", words.available() == u64::MAX);
+}
+
+#[test]
+fn who_looked_takes_only_where_the_word_is_the_same(rt: HostRuntime) {
+    let Ok(words) = Words::new(rt.alloc(), 5) else {
+        return;
+    };
+    let (seat, found) = words.sit_and_look();
+    expect(&rt, "five are found", found == 5);
+    expect(
+        &rt,
+        "three are taken",
+        take_by(&words, seat, found, 3) == Taking::Left(2),
+    );
+    let (seat, found) = words.sit_and_look();
+    expect(
+        &rt,
+        "six are too many",
+        take_by(&words, seat, found, 6) == Taking::Short(5),
+    );
+    let (seat, found) = words.sit_and_look();
+    let _ = forget_once(&words, 2);
+    expect(
+        &rt,
+        "the word changed meanwhile",
+        take_by(&words, seat, found, 3) == Taking::Changed,
+    );
+    expect(&rt, "three are left", words.available() == 3);
 }
 
 #[test]

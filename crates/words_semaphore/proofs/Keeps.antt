@@ -108,3 +108,11 @@ sits start slots i s r _ _ =
     let ps = total-snoc permits_of s.views w in let us = total-snoc under_way_of s.views w in let is = r.permits in
     let ds = total-snoc added_of s.views w in let fs = total-snoc forgotten_of s.views w in let was = r.limit in
     (w, record { two_words = r.two_words; fits = r.fits; permits = omega arith; limit = omega arith }, refl)
+
+-- nor has one that looks as it sits down
+pub looks : (start slots i : ℕ) → Enters (R start) slots i (λ n w. Loads (step slots i 0 0 none) (first_view, []) n (w, []))
+looks start slots i s r _ _ =
+    let w : View = having_found (get_or s.words i 0) first_view in
+    let ps = total-snoc permits_of s.views w in let us = total-snoc under_way_of s.views w in let is = r.permits in
+    let ds = total-snoc added_of s.views w in let fs = total-snoc forgotten_of s.views w in let was = r.limit in
+    (w, record { two_words = r.two_words; fits = r.fits; permits = omega arith; limit = omega arith }, refl)

@@ -67,6 +67,15 @@ impl Words {
         }
     }
 
+    /// Returns a new seat as [`Words::sit`] does, with how many permits its one load found available.
+    #[inline]
+    pub fn sit_and_look(&self) -> (Seat, u64)
+        ensures { (result.0.inner.table_id ≡ self.now.table) × (result.0.inner.me ≡ (having_found result.1 first_view, [])) }
+    {
+        let (found, inner) = self.table.shared.load_new_seat::<LoadsStep>(AVAILABLE);
+        (Seat { inner }, found)
+    }
+
     /// Ends a seat that has no permits and nothing under way.
     pub fn rise(&self, seat: Seat)
         requires table { seat.inner.table_id ≡ self.now.table }
@@ -87,12 +96,24 @@ impl Words {
         ensures same { (seat.new.inner.table_id ≡ seat.old.inner.table_id) × (seat.new.inner.id ≡ seat.old.inner.id) }
         ensures step { OnTaking result (λ a. seat.new.inner.me ≡ (having_taken permits a seat.old.inner.me.0, seat.old.inner.me.1)) (λ a. (a < permits) × (seat.new.inner.me ≡ (having_found a seat.old.inner.me.0, seat.old.inner.me.1))) (seat.new.inner.me ≡ (having_found seat.new.inner.me.0.found seat.old.inner.me.0, seat.old.inner.me.1)) }
     {
-        let shared = &self.table.shared;
-        let found = shared.load::<LoadsStep>(&mut seat.inner, AVAILABLE);
+        let found = self.load(seat);
+        self.take_from(seat, found, permits)
+    }
+
+    /// Takes this many permits, if as many were available when the seat looked last, and if the word is still as it was then: one
+    /// exchange, with no look of its own.
+    #[inline]
+    pub fn take_from(&self, seat: &mut Seat, found: u64, permits: u64) -> Taking
+        requires table { seat.old.inner.table_id ≡ self.now.table }
+        requires found { found ≡ seat.old.inner.me.0.found }
+        ensures same { (seat.new.inner.table_id ≡ seat.old.inner.table_id) × (seat.new.inner.id ≡ seat.old.inner.id) }
+        ensures step { OnTaking result (λ a. seat.new.inner.me ≡ (having_taken permits a seat.old.inner.me.0, seat.old.inner.me.1)) (λ a. (a < permits) × (seat.new.inner.me ≡ (having_found a seat.old.inner.me.0, seat.old.inner.me.1))) (seat.new.inner.me ≡ seat.old.inner.me) }
+    {
         if found < permits {
             return Taking::Short(found);
         }
         let left = found - permits;
+        let shared = &self.table.shared;
         if shared.compare_exchange::<TakesStep>(&mut seat.inner, AVAILABLE, found, left) == found {
             Taking::Left(left)
         } else {
