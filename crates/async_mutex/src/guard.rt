@@ -86,7 +86,10 @@ impl<T, R: Wait, O: Owns<T, R>> Drop for Guard<T, R, O> {
             hold,
             runtime: _,
         } = self;
-        owner.lock().release(seat, hold);
+        let mutex = owner.lock();
+        if let Some(owed) = mutex.raw.give_back(seat, hold) {
+            mutex.raw.notify(&mutex.rt, owed);
+        }
         drop(owner);
     }
 }

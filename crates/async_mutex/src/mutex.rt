@@ -107,7 +107,7 @@ impl<T, R: Wait> Mutex<T, R> {
         LockFuture::new(Stage::Waits(self))
     }
 
-    // Gives the lock back that a guard has that is dropped.
+    // Gives the lock back, where it was taken and no guard is made of it.
     #[inline]
     pub(crate) fn release(&self, seat: Seat<T>, hold: Hold<T>)
         requires { Holds self.now.raw.words seat hold × (seat.starved ≡ false) }
@@ -130,9 +130,14 @@ impl<T: Drop, R: Wait + Drop> Mutex<T, R> {
     pub fn try_lock_arc(this: &Arc<Mutex<T, R>>) -> Option<MutexGuardArc<T, R>>
         ensures { IfSome result (λ guard. guard.mutex ≡ arc_value this.now) }
     {
-        let mutex = Arc::try_clone(this).ok()?;
-        let (seat, hold) = mutex.raw.take()?;
-        Some(Guard::new(mutex, seat, hold))
+        let (seat, hold) = this.raw.take()?;
+        match Arc::try_clone(this) {
+            Ok(mutex) => Some(Guard::new(mutex, seat, hold)),
+            Err(_) => {
+                this.release(seat, hold);
+                None
+            }
+        }
     }
 
     /// As [`Mutex::lock`], for a future that owns its share of the mutex and gives it to its guard. Where that share

@@ -142,7 +142,34 @@ impl<T> RawMutex<T> {
         requires holds { Holds self.now.words seat hold }
         requires starved { seat.starved ≡ false }
     {
-        self.release_with(rt, seat, hold, || ());
+        if let Some(owed) = self.give_back(seat, hold) {
+            self.notify(rt, owed);
+        }
+    }
+
+    /// Gives the lock back as [`RawMutex::release`] does. It waits for nobody: where somebody may wait for the lock, the duty to
+    /// notify one comes back, and [`RawMutex::notify`] ends it.
+    #[inline]
+    pub fn give_back(&self, seat: Seat<T>, hold: Hold<T>) -> Option<Owed>
+        requires holds { Holds self.now.words seat hold }
+        requires starved { seat.starved ≡ false }
+        ensures { IfSome result (λ owed. owed.list.id ≡ self.now.words.list) }
+    {
+        straight_rows();
+        let mut seat = seat;
+        let owed = self.words.clear(&mut seat, hold);
+        let left = self.words.list().unless_listed(owed);
+        seat.rise();
+        left
+    }
+
+    /// Notifies one who waits for the lock. It stands apart, as does all else that may wait: after each such call the compiled code
+    /// looks at a flag.
+    #[inline(never)]
+    pub fn notify<R: Wait>(&self, rt: &R, owed: Owed)
+        requires { owed.list.id ≡ self.now.words.list }
+    {
+        self.words.list().notify(rt, 1, owed);
     }
 
     /// Releases the lock as [`RawMutex::release`] does, and calls `between` between its two actions. It is for tests.
@@ -160,9 +187,9 @@ impl<T> RawMutex<T> {
     {
         straight_rows();
         let mut seat = seat;
-        let owed = self.words.clear(&mut seat, hold);
+        let to_next = self.words.clear(&mut seat, hold);
         between();
-        self.words.list().notify(rt, 1, owed);
+        self.words.list().notify(rt, 1, to_next);
         seat.rise();
     }
 }

@@ -288,6 +288,7 @@ impl<T> Words<T> {
     }
 
     // Takes the lock where one seat alone is starved, after a look of its own. The answer has the right, or what was found.
+    #[inline]
     fn try_take_alone(&self, seat: &mut Seat<T>) -> Result<Hold<T>, Look>
         requires lock { seat.old.lock ≡ self.now.lock }
         requires idle { seat.old.holds ≡ false }
