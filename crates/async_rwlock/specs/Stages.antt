@@ -10,13 +10,17 @@ use Rattle.rwlock_driver.specs.Polls.{HasReceipt, Refuses, WaitsFor, first_of, r
 use Rattle.rwlock_driver.specs.Rights.{Has, HasBegun}
 use Rattle.rwlock_driver.specs.declared.aim.Aim.{Aim}
 use Rattle.rwlock_driver.specs.declared.aim.Aim.TheVariants as aim
+use Rattle.rwlock_driver.specs.Straight.{IsOn}
 use Rattle.rwlock_driver.specs.declared.straight.Begun.{Begun}
+use Rattle.rwlock_driver.specs.declared.straight.OnWay.{OnWay}
 use Rattle.rwlock_driver.specs.declared.waiting.Outcome.{Outcome}
 use Rattle.rwlock_driver.specs.declared.waiting.Outcome.TheVariants as outcome
 use Rattle.rwlock_driver.specs.declared.waiting.Waiting.{Waiting}
 use Rattle.async_rwlock.specs.declared.rwlock.RwLock.{RwLock}
 use Rattle.async_rwlock.specs.declared.stage.Stage.{Stage}
 use Rattle.async_rwlock.specs.declared.stage.Stage.TheVariants.{Unowned, Waits, Finished as Over}
+use Rattle.async_rwlock.specs.declared.stage.Start.{Start}
+use Rattle.async_rwlock.specs.declared.stage.Start.TheVariants as start
 use Rattle.async_rwlock.specs.declared.stage.Went.{Went}
 use Rattle.async_rwlock.specs.declared.stage.Went.TheVariants as went
 
@@ -103,6 +107,16 @@ Goes lock_of a old (went.Got owner seat) new = (is_finished old ≡ false) × (i
 Goes lock_of a old went.Waits new = (is_finished old ≡ false) × (is_finished new ≡ false)
 Goes lock_of a old (went.Refused Finished) new = (is_finished old ≡ true) × (is_finished new ≡ true)
 Goes lock_of a old (went.Refused refusal) new = (is_finished old ≡ false) × (is_finished new ≡ false) × Refuses a refusal
+
+-- the rest of a first poll that has the turn of this lock, and no party yet
+abbrev pub IsOnWayAt : {O T R : Type 0} → (O → RwLock T R) → Aim → Stage O → Option Waiting → OnWay → Type 0
+IsOnWayAt lock_of a (Waits owner) waiting way = IsOn (lock_of owner).raw a way × (waiting ≡ None)
+IsOnWayAt lock_of a _ waiting way = ⊥
+
+-- Who got the right at once has it by the seat, and the future is over. Else the future is as it was, and goes on.
+abbrev pub Starts : {O T R : Type 0} → (O → RwLock T R) → Aim → Option Waiting → Stage O → Start O → Stage O → Type 0
+Starts lock_of a waiting old (start.Got owner seat) new = (is_finished old ≡ false) × (is_finished new ≡ true) × IsOf lock_of old (lock_of owner) × Has (lock_of owner).raw (right_of a) seat × (waiting ≡ None)
+Starts lock_of a waiting old (start.GoesOn way) new = (new ≡ old) × IfSome way (IsOnWayAt lock_of a old waiting)
 
 abbrev pub OnWaits : {O : Type 0} → Went O → Type 0 → Type 0
 OnWaits went.Waits fact = fact

@@ -3,6 +3,7 @@
 ghost use Rattle.std.specs.Prelude.{◌≡◌, IfErr, IfOk, IfSome, None};
 ghost use Rattle.async_rwlock.specs.Stages.{IsFor, IsOf};
 ghost use Rattle.rwlock_driver.specs.Polls.{Refuses};
+ghost use Rattle.rwlock_driver.specs.Rights.{Has, reader, upgradable, writer};
 ghost use Rattle.rwlock_driver.specs.declared.aim.Aim.TheVariants as aims;
 ghost use Rattle.std.specs.Arc.{arc_value};
 
@@ -22,11 +23,13 @@ use crate::{
 use async_driver::Settled;
 use futures::executor::block_on;
 use lock_program::Refusal;
+use rwlock_driver::{Aim, Tried};
 use std::alloc::AllocGlobal;
 use std::fmt;
 use std::random::RandomSource;
 use std::sync::{Arc, Wait};
 use std::time::Clock;
+use words_rwlock::Seat;
 
 impl<T, R: Wait> RwLock<T, R> {
     /// Attempts to acquire a right to read: it does if nobody writes or waits for readers to leave, and fewer read than may.
@@ -35,8 +38,14 @@ impl<T, R: Wait> RwLock<T, R> {
     pub fn try_read(&self) -> Option<RwLockReadGuard<'_, T, R>>
         ensures { IfSome result (λ guard. guard.lock ≡ self.now) }
     {
-        let seat = self.raw.try_read(&self.rt)?;
-        Some(ReadGuard::new(self, seat))
+        match self.raw.try_read() {
+            Tried::Got(seat) => Some(ReadGuard::new(self, seat)),
+            Tried::Vain => None,
+            Tried::GoesOn(rest) => {
+                let seat = self.raw.try_on(&self.rt, Aim::Read, rest)?;
+                Some(ReadGuard::new(self, seat))
+            }
+        }
     }
 
     /// Attempts to acquire the right to read that can become a right to write: it does if nobody has it or writes, nobody is starved
@@ -44,16 +53,28 @@ impl<T, R: Wait> RwLock<T, R> {
     pub fn try_upgradable_read(&self) -> Option<RwLockUpgradableReadGuard<'_, T, R>>
         ensures { IfSome result (λ guard. guard.lock ≡ self.now) }
     {
-        let seat = self.raw.try_upgradable_read(&self.rt)?;
-        Some(UpgradableGuard::new(self, seat))
+        match self.raw.try_upgradable_read() {
+            Tried::Got(seat) => Some(UpgradableGuard::new(self, seat)),
+            Tried::Vain => None,
+            Tried::GoesOn(rest) => {
+                let seat = self.raw.try_on(&self.rt, Aim::UpgradableRead, rest)?;
+                Some(UpgradableGuard::new(self, seat))
+            }
+        }
     }
 
     /// Attempts to acquire the right to write: it does if nobody reads or writes, and nobody is starved for it.
     pub fn try_write(&self) -> Option<RwLockWriteGuard<'_, T, R>>
         ensures { IfSome result (λ guard. guard.lock ≡ self.now) }
     {
-        let seat = self.raw.try_write(&self.rt)?;
-        Some(WriteGuard::new(self, seat))
+        match self.raw.try_write() {
+            Tried::Got(seat) => Some(WriteGuard::new(self, seat)),
+            Tried::Vain => None,
+            Tried::GoesOn(rest) => {
+                let seat = self.raw.try_on(&self.rt, Aim::Write, rest)?;
+                Some(WriteGuard::new(self, seat))
+            }
+        }
     }
 
     /// Returns a future of a right to read of this lock, which does nothing until it is polled.
@@ -136,9 +157,11 @@ impl<T: Drop, R: Wait + Drop> RwLock<T, R> {
     pub fn try_read_arc(this: &Arc<RwLock<T, R>>) -> Option<RwLockReadGuardArc<T, R>>
         ensures { IfSome result (λ guard. guard.lock ≡ arc_value this.now) }
     {
-        let owner = Arc::try_clone(this).ok()?;
-        let seat = owner.raw.try_read(&owner.rt)?;
-        Some(ReadGuard::new(owner, seat))
+        match this.raw.try_read() {
+            Tried::Got(seat) => reader_of(this, seat),
+            Tried::Vain => None,
+            Tried::GoesOn(rest) => reader_of(this, this.raw.try_on(&this.rt, Aim::Read, rest)?),
+        }
     }
 
     /// As [`RwLock::try_upgradable_read`], for a guard that has a share of the lock. It is `None` too if that share can't be had.
@@ -147,18 +170,25 @@ impl<T: Drop, R: Wait + Drop> RwLock<T, R> {
     ) -> Option<RwLockUpgradableReadGuardArc<T, R>>
         ensures { IfSome result (λ guard. guard.lock ≡ arc_value this.now) }
     {
-        let owner = Arc::try_clone(this).ok()?;
-        let seat = owner.raw.try_upgradable_read(&owner.rt)?;
-        Some(UpgradableGuard::new(owner, seat))
+        match this.raw.try_upgradable_read() {
+            Tried::Got(seat) => upgradable_reader_of(this, seat),
+            Tried::Vain => None,
+            Tried::GoesOn(rest) => upgradable_reader_of(
+                this,
+                this.raw.try_on(&this.rt, Aim::UpgradableRead, rest)?,
+            ),
+        }
     }
 
     /// As [`RwLock::try_write`], for a guard that has a share of the lock. It is `None` too if that share can't be had.
     pub fn try_write_arc(this: &Arc<RwLock<T, R>>) -> Option<RwLockWriteGuardArc<T, R>>
         ensures { IfSome result (λ guard. guard.lock ≡ arc_value this.now) }
     {
-        let owner = Arc::try_clone(this).ok()?;
-        let seat = owner.raw.try_write(&owner.rt)?;
-        Some(WriteGuard::new(owner, seat))
+        match this.raw.try_write() {
+            Tried::Got(seat) => writer_of(this, seat),
+            Tried::Vain => None,
+            Tried::GoesOn(rest) => writer_of(this, this.raw.try_on(&this.rt, Aim::Write, rest)?),
+        }
     }
 
     /// As [`RwLock::read`], for a future that has a share of the lock and gives it to its guard. If that share can't be
@@ -233,6 +263,67 @@ impl<T: Drop, R: Wait + Clock + RandomSource + AllocGlobal + Drop> RwLock<T, R> 
         match block_on(&this.rt, Settled(RwLock::write_arc(this))) {
             Ok(settled) => settled,
             Err(_) => Err(Refusal::Memory),
+        }
+    }
+}
+
+// The guards of those who got a right for an owned guard. They get their share of the lock now: the words and the count of the `Arc` are in
+// different lines of the processor's cache, and are changed in turns so, which takes less time. Whoever can't have a share gives
+// the right back.
+
+#[inline]
+fn reader_of<T: Drop, R: Wait + Drop>(
+    this: &Arc<RwLock<T, R>>,
+    seat: Seat,
+) -> Option<RwLockReadGuardArc<T, R>>
+    requires { Has (arc_value this.now).raw reader seat }
+    ensures { IfSome result (λ guard. guard.lock ≡ arc_value this.now) }
+{
+    match Arc::try_clone(this) {
+        Ok(owner) => Some(ReadGuard::new(owner, seat)),
+        Err(_) => {
+            if let Some(notifies) = this.raw.drop_read(seat) {
+                this.raw.notify(&this.rt, notifies);
+            }
+            None
+        }
+    }
+}
+
+#[inline]
+fn upgradable_reader_of<T: Drop, R: Wait + Drop>(
+    this: &Arc<RwLock<T, R>>,
+    seat: Seat,
+) -> Option<RwLockUpgradableReadGuardArc<T, R>>
+    requires { Has (arc_value this.now).raw upgradable seat }
+    ensures { IfSome result (λ guard. guard.lock ≡ arc_value this.now) }
+{
+    match Arc::try_clone(this) {
+        Ok(owner) => Some(UpgradableGuard::new(owner, seat)),
+        Err(_) => {
+            if let Some(notifies) = this.raw.drop_upgradable(seat) {
+                this.raw.notify(&this.rt, notifies);
+            }
+            None
+        }
+    }
+}
+
+#[inline]
+fn writer_of<T: Drop, R: Wait + Drop>(
+    this: &Arc<RwLock<T, R>>,
+    seat: Seat,
+) -> Option<RwLockWriteGuardArc<T, R>>
+    requires { Has (arc_value this.now).raw writer seat }
+    ensures { IfSome result (λ guard. guard.lock ≡ arc_value this.now) }
+{
+    match Arc::try_clone(this) {
+        Ok(owner) => Some(WriteGuard::new(owner, seat)),
+        Err(_) => {
+            if let Some(notifies) = this.raw.drop_write(seat) {
+                this.raw.notify(&this.rt, notifies);
+            }
+            None
         }
     }
 }

@@ -8,7 +8,7 @@ ghost use Rattle.rwlock_driver.specs.declared.aim.Aim.TheVariants as aims;
 
 use crate::owns::Owns;
 use crate::read_guard::ReadGuard;
-use crate::stage::{Stage, Went, drop_as, poll_as};
+use crate::stage::{Stage, Start, Went, begin_poll, drop_as, poll_as};
 use async_driver::{Polled, Turn};
 use futures::task::Context;
 use rwlock_driver::{Aim, Waiting};
@@ -72,7 +72,11 @@ impl<T, R: Wait + Clock, O: Owns<T, R>> ReadFuture<T, R, O> {
         ensures registered { OnPending result (Covers cx.new (WaitsAt O.lock_of self.old.stage)) }
         ensures kept { Keeps cx.old cx.new }
     {
-        match poll_as::<T, R, O>(Aim::Read, &mut self.stage, &mut self.waiting, cx) {
+        let way = match begin_poll::<T, R, O>(Aim::Read, &mut self.stage, &self.waiting) {
+            Start::Got(owner, seat) => return Turn::Ready(ReadGuard::new(owner, seat)),
+            Start::GoesOn(way) => way,
+        };
+        match poll_as::<T, R, O>(Aim::Read, way, &mut self.stage, &mut self.waiting, cx) {
             Went::Got(owner, seat) => Turn::Ready(ReadGuard::new(owner, seat)),
             Went::Waits => Turn::Pending,
             Went::Refused(refusal) => Turn::Refused(refusal),

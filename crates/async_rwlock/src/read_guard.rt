@@ -72,7 +72,9 @@ impl<T, R: Wait, O: Owns<T, R>> Drop for ReadGuard<T, R, O> {
         } = self;
         let lock = owner.lock();
         let seat = lock.end_read(glance, pledge);
-        lock.raw.drop_read(&lock.rt, seat);
+        if let Some(notifies) = lock.raw.drop_read(seat) {
+            lock.raw.notify(&lock.rt, notifies);
+        }
         drop(owner);
     }
 }

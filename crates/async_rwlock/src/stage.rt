@@ -1,18 +1,20 @@
 //! How far a future is, one poll of it, and what a dropped one gives back. All futures of a lock are written over this, each
 //! with its aim.
 
-ghost use Rattle.std.specs.Prelude.{◌≡◌, false, IfSome, IsSome, None, Some};
+ghost use Rattle.std.specs.Prelude.{◌≡◌, ◌≢◌, true, false, IfSome, IsSome, None, Some};
 ghost use Rattle.futures.specs.Task.{Covers, Keeps};
-ghost use Rattle.async_rwlock.specs.Stages.{Goes, GotAt, HasReceiptAt, IsAsMade, IsBegun, IsFor, IsUpgrading, OnGaveUp, OnPolled, OnWaits, WaitsAs, WaitsAt, is_finished};
+ghost use Rattle.async_rwlock.specs.Stages.{Goes, GotAt, HasReceiptAt, IsAsMade, IsBegun, IsFor, IsOf, IsOnWayAt, IsUpgrading, OnGaveUp, OnPolled, OnWaits, Starts, WaitsAs, WaitsAt, is_finished};
 ghost use Rattle.async_rwlock.specs.declared.rwlock.RwLock.{RwLock};
 ghost use Rattle.rwlock_driver.specs.Polls.{WaitsFor};
+ghost use Rattle.rwlock_driver.specs.Rights.{Has, writer};
 ghost use Rattle.rwlock_driver.specs.declared.aim.Aim.TheVariants as aims;
+ghost use Rattle.rwlock_driver.specs.declared.straight.Begun.TheVariants as begun;
 
 use crate::owns::Owns;
 use async_driver::nothing;
 use futures::task::Context;
 use lock_program::Refusal;
-use rwlock_driver::{Aim, Begun, Outcome, Waiting};
+use rwlock_driver::{Aim, Begun, First, OnWay, Outcome, Waiting};
 use std::mem;
 use std::sync::Wait;
 use std::time::Clock;
@@ -50,16 +52,59 @@ pub(crate) fn first<T, R, O: Owns<T, R>>(share: Option<O>) -> Stage<O>
     }
 }
 
+/// How far the straight actions of a first poll came.
+pub(crate) enum Start<O> {
+    /// The right, by this seat of the lock that is had so. The future is over.
+    Got(O, Seat),
+    /// The future waits, and a poll of it goes on: from here, where it has the turn already.
+    GoesOn(Option<OnWay>),
+}
+
+/// The straight actions of a first poll. They wait for nobody. Of a future that was polled before there are none.
+#[inline]
+pub(crate) fn begin_poll<T, R, O: Owns<T, R>>(
+    aim: Aim,
+    stage: &mut Stage<O>,
+    waiting: &Option<Waiting>,
+) -> Start<O>
+    requires aim { aim ≢ aims.Upgrade }
+    ensures { Starts O.lock_of aim waiting.now stage.old result stage.new }
+{
+    if waiting.is_some() {
+        return Start::GoesOn(None);
+    }
+    // The stage is out meanwhile, so that who got the right needn't be read again from memory.
+    match mem::replace(stage, Stage::Finished) {
+        Stage::Waits(owner) => match owner.lock().raw.begin(aim) {
+            First::Got(seat) => Start::Got(owner, seat),
+            First::Nothing => {
+                *stage = Stage::Waits(owner);
+                Start::GoesOn(None)
+            }
+            First::Begun(way) => {
+                *stage = Stage::Waits(owner);
+                Start::GoesOn(Some(way))
+            }
+        },
+        other => {
+            *stage = other;
+            Start::GoesOn(None)
+        }
+    }
+}
+
 // One poll by who has the lock.
 #[inline]
 fn poll_stage<T, R: Wait + Clock, O: Owns<T, R>>(
     aim: Aim,
+    way: Option<OnWay>,
     stage: &Stage<O>,
     waiting: &mut Option<Waiting>,
     cx: &mut Context<'_>,
 ) -> Outcome
     requires waits { IfSome waiting.old (WaitsAs O.lock_of aim stage.now) }
     requires begun { IsBegun aim stage.now waiting.old }
+    requires way { IfSome way (IsOnWayAt O.lock_of aim stage.now waiting.old) }
     requires open { is_finished stage.now ≡ false }
     ensures waits { IfSome waiting.new (WaitsAs O.lock_of aim stage.now) }
     ensures open { is_finished stage.now ≡ false }
@@ -69,23 +114,31 @@ fn poll_stage<T, R: Wait + Clock, O: Owns<T, R>>(
     match stage {
         Stage::Waits(owner) => {
             let lock = owner.lock();
-            lock.raw.poll_waiting(&lock.rt, cx, aim, waiting)
+            match way {
+                Some(way) => lock.raw.poll_begun(&lock.rt, cx, aim, way, waiting),
+                None => lock.raw.poll_waiting(&lock.rt, cx, aim, waiting),
+            }
         }
-        Stage::Unowned => Outcome::Refused(Refusal::Memory),
+        Stage::Unowned => {
+            nothing(way);
+            Outcome::Refused(Refusal::Memory)
+        }
         Stage::Finished => unreachable!(),
     }
 }
 
-/// One poll of a future of this aim.
+/// One poll of a future of this aim, or the rest of it, where it has the turn already.
 #[inline]
 pub(crate) fn poll_as<T, R: Wait + Clock, O: Owns<T, R>>(
     aim: Aim,
+    way: Option<OnWay>,
     stage: &mut Stage<O>,
     waiting: &mut Option<Waiting>,
     cx: &mut Context<'_>,
 ) -> Went<O>
     requires waits { IfSome waiting.old (WaitsAs O.lock_of aim stage.old) }
     requires begun { IsBegun aim stage.old waiting.old }
+    requires way { IfSome way (IsOnWayAt O.lock_of aim stage.old waiting.old) }
     ensures waits { IfSome waiting.new (WaitsAs O.lock_of aim stage.new) }
     ensures begun { IsBegun aim stage.new waiting.new }
     ensures went { Goes O.lock_of aim stage.old result stage.new }
@@ -95,9 +148,10 @@ pub(crate) fn poll_as<T, R: Wait + Clock, O: Owns<T, R>>(
     ensures kept { Keeps cx.old cx.new }
 {
     if let Stage::Finished = stage {
+        nothing(way);
         return Went::Refused(Refusal::Finished);
     }
-    match poll_stage::<T, R, O>(aim, stage, waiting, cx) {
+    match poll_stage::<T, R, O>(aim, way, stage, waiting, cx) {
         Outcome::Got(seat) => match mem::replace(stage, Stage::Finished) {
             Stage::Waits(owner) => Went::Got(owner, seat),
             Stage::Unowned | Stage::Finished => unreachable!(),
@@ -107,41 +161,58 @@ pub(crate) fn poll_as<T, R: Wait + Clock, O: Owns<T, R>>(
     }
 }
 
-// The first poll of an upgrade, by who has the lock.
+/// Who has the lock of an upgrade that writes already, with its seat. The future is over.
+#[inline]
+pub(crate) fn into_writer<T, R, O: Owns<T, R>>(
+    seat: Seat,
+    stage: &mut Stage<O>,
+    waiting: &Option<Waiting>,
+) -> (O, Seat)
+    requires begun { IsUpgrading O.lock_of stage.old (Some (begun.Writes seat)) waiting.now }
+    ensures was { is_finished stage.old ≡ false }
+    ensures over { is_finished stage.new ≡ true }
+    ensures owner { IsOf O.lock_of stage.old (O.lock_of result.0) }
+    ensures writes { Has (O.lock_of result.0).raw writer result.1 }
+{
+    let _ = waiting;
+    match mem::replace(stage, Stage::Finished) {
+        Stage::Waits(owner) => (owner, seat),
+        Stage::Unowned | Stage::Finished => unreachable!(),
+    }
+}
+
+// The first poll of an upgrade that waits, by who has the lock.
 #[inline]
 fn look_stage<T, R: Wait + Clock, O: Owns<T, R>>(
-    begun: Begun,
+    seat: Seat,
     stage: &Stage<O>,
     waiting: &mut Option<Waiting>,
     cx: &mut Context<'_>,
 ) -> Outcome
-    requires begun { IsUpgrading O.lock_of stage.now (Some begun) waiting.old }
+    requires begun { IsUpgrading O.lock_of stage.now (Some (begun.Awaits seat)) waiting.old }
     ensures waits { IfSome waiting.new (WaitsAs O.lock_of aims.Upgrade stage.now) }
     ensures open { is_finished stage.now ≡ false }
     ensures polled { OnPolled O.lock_of aims.Upgrade cx.new stage.now result waiting.new }
     ensures kept { Keeps cx.old cx.new }
 {
     match stage {
-        Stage::Waits(owner) => match begun {
-            Begun::Writes(seat) => Outcome::Got(seat),
-            Begun::Awaits(seat) => {
-                let lock = owner.lock();
-                lock.raw.poll_upgrading(&lock.rt, cx, seat, waiting)
-            }
-        },
+        Stage::Waits(owner) => {
+            let lock = owner.lock();
+            lock.raw.poll_upgrading(&lock.rt, cx, seat, waiting)
+        }
         Stage::Unowned | Stage::Finished => unreachable!(),
     }
 }
 
-/// The first poll of an upgrade, whose seat has set the writer's bit.
+/// The first poll of an upgrade that waits until nobody else reads, whose seat has set the writer's bit.
 #[inline]
 pub(crate) fn poll_begun<T, R: Wait + Clock, O: Owns<T, R>>(
-    begun: Begun,
+    seat: Seat,
     stage: &mut Stage<O>,
     waiting: &mut Option<Waiting>,
     cx: &mut Context<'_>,
 ) -> Went<O>
-    requires begun { IsUpgrading O.lock_of stage.old (Some begun) waiting.old }
+    requires begun { IsUpgrading O.lock_of stage.old (Some (begun.Awaits seat)) waiting.old }
     ensures waits { IfSome waiting.new (WaitsAs O.lock_of aims.Upgrade stage.new) }
     ensures begun { IsBegun aims.Upgrade stage.new waiting.new }
     ensures went { Goes O.lock_of aims.Upgrade stage.old result stage.new }
@@ -150,7 +221,7 @@ pub(crate) fn poll_begun<T, R: Wait + Clock, O: Owns<T, R>>(
     ensures refused { OnGaveUp result (IsAsMade aims.Upgrade waiting.new) }
     ensures kept { Keeps cx.old cx.new }
 {
-    match look_stage::<T, R, O>(begun, stage, waiting, cx) {
+    match look_stage::<T, R, O>(seat, stage, waiting, cx) {
         Outcome::Got(seat) => match mem::replace(stage, Stage::Finished) {
             Stage::Waits(owner) => Went::Got(owner, seat),
             Stage::Unowned | Stage::Finished => unreachable!(),
@@ -175,7 +246,11 @@ pub(crate) fn drop_begun<T, R: Wait, O: Owns<T, R>>(
     };
     let lock = owner.lock();
     match begun {
-        Begun::Writes(seat) => lock.raw.drop_write(&lock.rt, seat),
+        Begun::Writes(seat) => {
+            if let Some(notifies) = lock.raw.drop_write(seat) {
+                lock.raw.notify(&lock.rt, notifies);
+            }
+        }
         Begun::Awaits(seat) => lock.raw.cancel_upgrading(&lock.rt, seat),
     }
     drop(owner);

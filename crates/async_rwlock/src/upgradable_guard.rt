@@ -1,6 +1,6 @@
 //! A reader that may become the writer.
 
-ghost use Rattle.std.specs.Prelude.{◌≡◌, IfOk, IfErr};
+ghost use Rattle.std.specs.Prelude.{◌≡◌, ◌≢◌, IfOk, IfErr};
 ghost use Rattle.lock_program.specs.declared.refusal.Refusal.{Refusal};
 ghost use Rattle.rwlock_driver.specs.Rights.{Has, upgradable};
 ghost use Rattle.words_rwlock.specs.Steps.{without_turn};
@@ -93,10 +93,11 @@ impl<T, R: Wait, O: Owns<T, R>> UpgradableGuard<T, R, O> {
         ReadGuard::new(owner, seat)
     }
 
-    /// Writes, if nobody else reads. Otherwise the guard comes back.
+    /// Writes, if nobody else reads. Otherwise the guard comes back: by the contract its seat has found another reader (`beside`).
     pub fn try_upgrade(guard: Self) -> Result<WriteGuard<T, R, O>, Self>
         ensures writes { IfOk result (λ writer. writer.lock ≡ guard.lock) }
         ensures reads { IfErr result (λ reader. reader.lock ≡ guard.lock) }
+        ensures beside { IfErr result (λ reader. reader.view.found ≢ 2) }
     {
         let (owner, mut seat) = guard.into_seat();
         if owner.lock().raw.try_upgrade(&mut seat) {
@@ -138,7 +139,9 @@ impl<T, R: Wait, O: Owns<T, R>> Drop for UpgradableGuard<T, R, O> {
         } = self;
         let lock = owner.lock();
         let seat = lock.end_read(glance, pledge);
-        lock.raw.drop_upgradable(&lock.rt, seat);
+        if let Some(notifies) = lock.raw.drop_upgradable(seat) {
+            lock.raw.notify(&lock.rt, notifies);
+        }
         drop(owner);
     }
 }

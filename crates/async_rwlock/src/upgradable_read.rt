@@ -7,7 +7,7 @@ ghost use Rattle.async_rwlock.specs.Stages.{HasReceiptAt, IsAsMade, IsOf, IsTurn
 ghost use Rattle.rwlock_driver.specs.declared.aim.Aim.TheVariants as aims;
 
 use crate::owns::Owns;
-use crate::stage::{Stage, Went, drop_as, poll_as};
+use crate::stage::{Stage, Start, Went, begin_poll, drop_as, poll_as};
 use crate::upgradable_guard::UpgradableGuard;
 use async_driver::{Polled, Turn};
 use futures::task::Context;
@@ -73,7 +73,17 @@ impl<T, R: Wait + Clock, O: Owns<T, R>> UpgradableFuture<T, R, O> {
         ensures registered { OnPending result (Covers cx.new (WaitsAt O.lock_of self.old.stage)) }
         ensures kept { Keeps cx.old cx.new }
     {
-        match poll_as::<T, R, O>(Aim::UpgradableRead, &mut self.stage, &mut self.waiting, cx) {
+        let way = match begin_poll::<T, R, O>(Aim::UpgradableRead, &mut self.stage, &self.waiting) {
+            Start::Got(owner, seat) => return Turn::Ready(UpgradableGuard::new(owner, seat)),
+            Start::GoesOn(way) => way,
+        };
+        match poll_as::<T, R, O>(
+            Aim::UpgradableRead,
+            way,
+            &mut self.stage,
+            &mut self.waiting,
+            cx,
+        ) {
             Went::Got(owner, seat) => Turn::Ready(UpgradableGuard::new(owner, seat)),
             Went::Waits => Turn::Pending,
             Went::Refused(refusal) => Turn::Refused(refusal),

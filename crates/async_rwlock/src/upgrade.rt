@@ -8,7 +8,7 @@ ghost use Rattle.rwlock_driver.specs.declared.aim.Aim.TheVariants as aims;
 ghost use Rattle.rwlock_driver.specs.Rights.{HasBegun};
 
 use crate::owns::Owns;
-use crate::stage::{Stage, Went, drop_as, drop_begun, poll_as, poll_begun};
+use crate::stage::{Stage, Went, drop_as, drop_begun, into_writer, poll_as, poll_begun};
 use crate::write_guard::WriteGuard;
 use async_driver::{Polled, Turn};
 use futures::task::Context;
@@ -78,8 +78,14 @@ impl<T, R: Wait + Clock, O: Owns<T, R>> UpgradeFuture<T, R, O> {
         ensures kept { Keeps cx.old cx.new }
     {
         let went = match self.begun.take() {
-            Some(begun) => poll_begun::<T, R, O>(begun, &mut self.stage, &mut self.waiting, cx),
-            None => poll_as::<T, R, O>(Aim::Upgrade, &mut self.stage, &mut self.waiting, cx),
+            Some(Begun::Writes(seat)) => {
+                let (owner, seat) = into_writer::<T, R, O>(seat, &mut self.stage, &self.waiting);
+                return Turn::Ready(WriteGuard::new(owner, seat));
+            }
+            Some(Begun::Awaits(seat)) => {
+                poll_begun::<T, R, O>(seat, &mut self.stage, &mut self.waiting, cx)
+            }
+            None => poll_as::<T, R, O>(Aim::Upgrade, None, &mut self.stage, &mut self.waiting, cx),
         };
         match went {
             Went::Got(owner, seat) => Turn::Ready(WriteGuard::new(owner, seat)),

@@ -7,7 +7,7 @@ ghost use Rattle.async_rwlock.specs.Stages.{HasReceiptAt, IsAsMade, IsOf, IsTurn
 ghost use Rattle.rwlock_driver.specs.declared.aim.Aim.TheVariants as aims;
 
 use crate::owns::Owns;
-use crate::stage::{Stage, Went, drop_as, poll_as};
+use crate::stage::{Stage, Start, Went, begin_poll, drop_as, poll_as};
 use crate::write_guard::WriteGuard;
 use async_driver::{Polled, Turn};
 use futures::task::Context;
@@ -74,7 +74,11 @@ impl<T, R: Wait + Clock, O: Owns<T, R>> WriteFuture<T, R, O> {
         ensures registered { OnPending result (Covers cx.new (WaitsAt O.lock_of self.old.stage)) }
         ensures kept { Keeps cx.old cx.new }
     {
-        match poll_as::<T, R, O>(Aim::Write, &mut self.stage, &mut self.waiting, cx) {
+        let way = match begin_poll::<T, R, O>(Aim::Write, &mut self.stage, &self.waiting) {
+            Start::Got(owner, seat) => return Turn::Ready(WriteGuard::new(owner, seat)),
+            Start::GoesOn(way) => way,
+        };
+        match poll_as::<T, R, O>(Aim::Write, way, &mut self.stage, &mut self.waiting, cx) {
             Went::Got(owner, seat) => Turn::Ready(WriteGuard::new(owner, seat)),
             Went::Waits => Turn::Pending,
             Went::Refused(refusal) => Turn::Refused(refusal),

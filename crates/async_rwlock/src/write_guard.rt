@@ -117,7 +117,9 @@ impl<T, R: Wait, O: Owns<T, R>> Drop for WriteGuard<T, R, O> {
         } = self;
         let lock = owner.lock();
         let seat = lock.end_write(grip, pledge);
-        lock.raw.drop_write(&lock.rt, seat);
+        if let Some(notifies) = lock.raw.drop_write(seat) {
+            lock.raw.notify(&lock.rt, notifies);
+        }
         drop(owner);
     }
 }

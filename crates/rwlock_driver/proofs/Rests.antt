@@ -22,6 +22,7 @@ use Rattle.rwlock_driver.specs.declared.finding.Standing.{Standing}
 use Rattle.rwlock_driver.specs.declared.party.RwLockParty.{RwLockParty}
 use Rattle.rwlock_driver.specs.declared.raw.RawRwLock.{RawRwLock}
 use Rattle.rwlock_driver.specs.declared.waiting.Waiting.{Waiting}
+use Rattle.rwlock_driver.specs.Lists.{lists_of}
 
 listed : (o : Option Listed) (P : Listed → Type 0) → IsSomeAnd o P → is_some o ≡ true
 listed None P h = absurd h
@@ -34,18 +35,18 @@ unlisted : (raw : RawRwLock) (cx : Context) (list : ℕ) (o : Option Listed) (A 
 unlisted raw cx list o A not r = clash A (is_some o) (listed o _ r.0) not
 
 at_no_writer : (raw : RawRwLock) (cx : Context) (q : RwLockParty) (t : TurnPlace) → turned q ≡ having_at t → share_of q ≡ share_at AskNoWriter → t ≡ turn_at.Out → Waits raw cx q → HasReceipt raw cx q AskNoWriter
-at_no_writer raw cx q t has shares out (inl r) = unlisted raw cx raw.turn.name.id q.turn.entry _ (ap (λ h. h.entry) (has ∙ ap having_at out)) r
+at_no_writer raw cx q t has shares out (inl r) = unlisted raw cx (lists_of raw).turn.name.id q.turn.entry _ (ap (λ h. h.entry) (has ∙ ap having_at out)) r
 at_no_writer raw cx q t has shares out (inr (inl r)) = r
-at_no_writer raw cx q t has shares out (inr (inr r)) = unlisted raw cx raw.no_readers.name.id q.no_readers.entry _ (ap (λ h. h.waits_no_readers) shares) r
+at_no_writer raw cx q t has shares out (inr (inr r)) = unlisted raw cx (lists_of raw).no_readers.name.id q.no_readers.entry _ (ap (λ h. h.waits_no_readers) shares) r
 
 at_turn : (raw : RawRwLock) (cx : Context) (q : RwLockParty) (p : Purpose) → share_of q ≡ share_at (WaitTurn p) → Waits raw cx q → HasReceipt raw cx q (WaitTurn p)
 at_turn raw cx q p shares (inl r) = r
-at_turn raw cx q p shares (inr (inl r)) = unlisted raw cx raw.no_writer.name.id q.no_writer.entry _ (ap (λ h. h.waits_no_writer) shares) r
-at_turn raw cx q p shares (inr (inr r)) = unlisted raw cx raw.no_readers.name.id q.no_readers.entry _ (ap (λ h. h.waits_no_readers) shares) r
+at_turn raw cx q p shares (inr (inl r)) = unlisted raw cx (lists_of raw).no_writer.name.id q.no_writer.entry _ (ap (λ h. h.waits_no_writer) shares) r
+at_turn raw cx q p shares (inr (inr r)) = unlisted raw cx (lists_of raw).no_readers.name.id q.no_readers.entry _ (ap (λ h. h.waits_no_readers) shares) r
 
 at_no_readers : (raw : RawRwLock) (cx : Context) (q : RwLockParty) (t : TurnPlace) (u : Bool) → turned q ≡ having_at t → share_of q ≡ share_at (AwaitNoReaders u) → t ≡ turn_at.Holding → Waits raw cx q → HasReceipt raw cx q (AwaitNoReaders u)
-at_no_readers raw cx q t u has shares holding (inl r) = unlisted raw cx raw.turn.name.id q.turn.entry _ (ap (λ h. h.entry) (has ∙ ap having_at holding)) r
-at_no_readers raw cx q t u has shares holding (inr (inl r)) = unlisted raw cx raw.no_writer.name.id q.no_writer.entry _ (ap (λ h. h.waits_no_writer) shares) r
+at_no_readers raw cx q t u has shares holding (inl r) = unlisted raw cx (lists_of raw).turn.name.id q.turn.entry _ (ap (λ h. h.entry) (has ∙ ap having_at holding)) r
+at_no_readers raw cx q t u has shares holding (inr (inl r)) = unlisted raw cx (lists_of raw).no_writer.name.id q.no_writer.entry _ (ap (λ h. h.waits_no_writer) shares) r
 at_no_readers raw cx q t u has shares holding (inr (inr r)) = r
 
 at_place : (raw : RawRwLock) (cx : Context) (q : RwLockParty) (t : TurnPlace) (p : Place) (a : Aim) → IsAsking a p → turned q ≡ having_at t → share_of q ≡ share_at p → Fits p t → Waits raw cx q → HasReceipt raw cx q p

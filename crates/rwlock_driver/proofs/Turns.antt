@@ -8,6 +8,7 @@ use Rattle.rwlock_driver.specs.Parties.{IsOf, share, share_of}
 use Rattle.rwlock_driver.specs.Turns.{of_turn}
 use Rattle.rwlock_driver.specs.declared.party.RwLockParty.{RwLockParty}
 use Rattle.rwlock_driver.specs.declared.raw.RawRwLock.{RawRwLock}
+use Rattle.rwlock_driver.specs.Lists.{lists_of}
 
 any : (o : Option ⊤) → IfSome o (λ right. ⊤)
 any None = tt
@@ -16,8 +17,8 @@ any (Some right) = tt
 pub seated : (raw : RawRwLock) (q : RwLockParty) → IsOf raw q → q.turn.seat.inner.me.0.marks ≡ false → IsSeated of_turn raw q.turn.seat q.turn.hold
 seated raw q of not = ((of.0, of.1, not), of.2, any q.turn.hold)
 
-pub is_of : (raw : RawRwLock) (q : RwLockParty) → IsSeated of_turn raw q.turn.seat q.turn.hold → IsTied raw.turn.name.id q.turn.entry q.turn.owed
-    → IsAt raw.no_writer.name.id q.no_writer → IsAt raw.no_readers.name.id q.no_readers → IsOf raw q
+pub is_of : (raw : RawRwLock) (q : RwLockParty) → IsSeated of_turn raw q.turn.seat q.turn.hold → IsTied (lists_of raw).turn.name.id q.turn.entry q.turn.owed
+    → IsAt (lists_of raw).no_writer.name.id q.no_writer → IsAt (lists_of raw).no_readers.name.id q.no_readers → IsOf raw q
 is_of raw q s t w r = (s.0.0, s.0.1, s.1, t, w, r)
 
 abbrev first : List Bool → Bool

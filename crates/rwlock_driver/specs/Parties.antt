@@ -27,6 +27,7 @@ use Rattle.rwlock_driver.specs.declared.finding.Finding.{Finding}
 use Rattle.rwlock_driver.specs.declared.finding.Standing.{Standing}
 use Rattle.rwlock_driver.specs.declared.party.RwLockParty.{RwLockParty}
 use Rattle.rwlock_driver.specs.declared.raw.RawRwLock.{RawRwLock}
+use Rattle.rwlock_driver.specs.Lists.{lists_of}
 
 -- What a party has beside the turn: the writer's bit, a reader's right, a writer's right, and at each of the two lists an entry and a
 -- notification to give.
@@ -251,7 +252,7 @@ share_of p = share p.turn.seat.inner.me.0.marks p.turn.seat.inner.me.0.reads p.t
 -- Its seat is the lock's, its entries stand in the lock's lists, and it has the right exactly where its seat has the turn.
 abbrev pub IsOf : RawRwLock → RwLockParty → Type 0
 IsOf raw p = (p.turn.seat.inner.table_id ≡ raw.words.table) × (p.turn.seat.inner.me.1 ≡ []) × (p.turn.seat.inner.me.0.holds ≡ is_some p.turn.hold)
-    × IsTied raw.turn.name.id p.turn.entry p.turn.owed × IsAt raw.no_writer.name.id p.no_writer × IsAt raw.no_readers.name.id p.no_readers
+    × IsTied (lists_of raw).turn.name.id p.turn.entry p.turn.owed × IsAt (lists_of raw).no_writer.name.id p.no_writer × IsAt (lists_of raw).no_readers.name.id p.no_readers
 
 -- what an action did to a party that found this
 abbrev pub Does : RawRwLock → Action → TurnPlace → Finding → RwLockParty → RwLockParty → Type 0
@@ -290,8 +291,8 @@ in_turns (Some p) q = Some (standing p q)
 
 -- a party that waits has a receipt of one of the lock's lists
 abbrev pub Waits : RawRwLock → Context → RwLockParty → Type 0
-Waits raw cx p = IsReceipt raw.turn.name.id raw.source.id cx p.turn.entry
-    ⊎ (IsReceipt raw.no_writer.name.id raw.source.id cx p.no_writer.entry ⊎ IsReceipt raw.no_readers.name.id raw.source.id cx p.no_readers.entry)
+Waits raw cx p = IsReceipt (lists_of raw).turn.name.id raw.source.id cx p.turn.entry
+    ⊎ (IsReceipt (lists_of raw).no_writer.name.id raw.source.id cx p.no_writer.entry ⊎ IsReceipt (lists_of raw).no_readers.name.id raw.source.id cx p.no_readers.entry)
 
 -- a fact of what has found that it waits
 abbrev pub IfWaits : Found → Type 0 → Type 0

@@ -25,6 +25,7 @@ use Rattle.rwlock_driver.specs.Parties.{IfPending, Stands, in_turns}
 use Rattle.rwlock_driver.specs.declared.aim.Aim.TheVariants as aim
 use Rattle.rwlock_driver.specs.Rights.{Flags, Has, awaits, passing, reader, upgradable, writer}
 use Rattle.words_rwlock.specs.declared.view.Seat.{Seat}
+use Rattle.rwlock_driver.specs.Lists.{lists_of}
 
 -- a read is refused for memory, or for too many readers; one with the turn for too many starved waiters too, and a write for memory or
 -- too many starved waiters; an upgrade for memory alone
@@ -166,9 +167,9 @@ EndsAt a _ p = ⊥
 
 -- The receipt of a party that waits at this place, in the list of what it wants next.
 abbrev pub HasReceipt : RawRwLock → Context → RwLockParty → Place → Type 0
-HasReceipt raw cx q AskNoWriter = IsReceipt raw.no_writer.name.id raw.source.id cx q.no_writer.entry
-HasReceipt raw cx q (WaitTurn p) = IsReceipt raw.turn.name.id raw.source.id cx q.turn.entry
-HasReceipt raw cx q (AwaitNoReaders upgrade) = IsReceipt raw.no_readers.name.id raw.source.id cx q.no_readers.entry
+HasReceipt raw cx q AskNoWriter = IsReceipt (lists_of raw).no_writer.name.id raw.source.id cx q.no_writer.entry
+HasReceipt raw cx q (WaitTurn p) = IsReceipt (lists_of raw).turn.name.id raw.source.id cx q.turn.entry
+HasReceipt raw cx q (AwaitNoReaders upgrade) = IsReceipt (lists_of raw).no_readers.name.id raw.source.id cx q.no_readers.entry
 HasReceipt raw cx q _ = ⊥
 
 -- the party has what it has at its place, and may be polled for this there

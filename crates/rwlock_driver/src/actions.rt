@@ -142,7 +142,7 @@ impl RwLockParty {
         requires can { CanDo does.JoinNoWriter turn (turned self.old) (share_of self.old) }
         ensures { Does raw.now does.JoinNoWriter turn result self.old self.new }
     {
-        if self.no_writer.join(rt, &raw.no_writer) {
+        if self.no_writer.join(rt, &raw.lists.no_writer) {
             Finding::of(Found::Done, turn)
         } else {
             Finding::of(Found::NoMemory, turn)
@@ -162,7 +162,10 @@ impl RwLockParty {
         ensures waits { IfWaits result.found (Waits raw.now cx.new self.new) }
         ensures kept { Keeps cx.old cx.new }
     {
-        if self.no_writer.ask(rt, &raw.no_writer, &raw.source, cx) {
+        if self
+            .no_writer
+            .ask(rt, &raw.lists.no_writer, &raw.source, cx)
+        {
             Finding::of(Found::Yes, turn)
         } else {
             Finding::of(Found::No, turn)
@@ -179,7 +182,7 @@ impl RwLockParty {
         requires can { CanDo does.LeaveNoWriter turn (turned self.old) (share_of self.old) }
         ensures { Does raw.now does.LeaveNoWriter turn result self.old self.new }
     {
-        self.no_writer.leave(rt, &raw.no_writer);
+        self.no_writer.leave(rt, &raw.lists.no_writer);
         Finding::of(Found::Done, turn)
     }
 
@@ -193,7 +196,7 @@ impl RwLockParty {
         requires can { CanDo does.NotifyNoWriter turn (turned self.old) (share_of self.old) }
         ensures { Does raw.now does.NotifyNoWriter turn result self.old self.new }
     {
-        self.no_writer.notify(rt, &raw.no_writer);
+        self.no_writer.notify(rt, &raw.lists.no_writer);
         Finding::of(Found::Done, turn)
     }
 
@@ -207,7 +210,7 @@ impl RwLockParty {
         requires can { CanDo does.JoinNoReaders turn (turned self.old) (share_of self.old) }
         ensures { Does raw.now does.JoinNoReaders turn result self.old self.new }
     {
-        if self.no_readers.join(rt, &raw.no_readers) {
+        if self.no_readers.join(rt, &raw.lists.no_readers) {
             Finding::of(Found::Done, turn)
         } else {
             Finding::of(Found::NoMemory, turn)
@@ -227,7 +230,10 @@ impl RwLockParty {
         ensures waits { IfWaits result.found (Waits raw.now cx.new self.new) }
         ensures kept { Keeps cx.old cx.new }
     {
-        if !self.no_readers.ask(rt, &raw.no_readers, &raw.source, cx) {
+        if !self
+            .no_readers
+            .ask(rt, &raw.lists.no_readers, &raw.source, cx)
+        {
             return Finding::of(Found::No, turn);
         }
         if let Some(owed) = self.no_readers.owed.take() {
@@ -246,7 +252,7 @@ impl RwLockParty {
         requires can { CanDo does.LeaveNoReaders turn (turned self.old) (share_of self.old) }
         ensures { Does raw.now does.LeaveNoReaders turn result self.old self.new }
     {
-        self.no_readers.leave(rt, &raw.no_readers);
+        self.no_readers.leave(rt, &raw.lists.no_readers);
         Finding::of(Found::Done, turn)
     }
 
@@ -260,7 +266,7 @@ impl RwLockParty {
         requires can { CanDo does.NotifyNoReaders turn (turned self.old) (share_of self.old) }
         ensures { Does raw.now does.NotifyNoReaders turn result self.old self.new }
     {
-        self.no_readers.notify(rt, &raw.no_readers);
+        self.no_readers.notify(rt, &raw.lists.no_readers);
         Finding::of(Found::Done, turn)
     }
 }

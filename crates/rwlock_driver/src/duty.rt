@@ -6,6 +6,7 @@
 //! notification.
 
 ghost use Rattle.std.specs.Prelude.{◌≡◌, ◌≤◌, ◌%◌, ◌/◌, ⊤, true, false, [], ◌∷◌, None, IfSome};
+ghost use Rattle.rwlock_driver.specs.Lists.{lists_of};
 
 use crate::raw::RawRwLock;
 use async_driver::{ListKey, Listed, Owed, WaitingList};
@@ -15,7 +16,7 @@ use std::alloc::Global;
 use words_rwlock::{Counting as CountingWord, Seat, Setting, Taking, TakingAlone};
 
 /// The keys of a lock's lists.
-pub(crate) struct Keys {
+struct Keys {
     turn: ListKey,
     no_readers: ListKey,
 }
@@ -29,12 +30,27 @@ impl Drop for Keys {
     }
 }
 
-/// A lock's lists, with their keys.
-pub(crate) struct KeyedLists {
-    pub(crate) turn: WaitingList<Waker>,
-    pub(crate) no_writer: WaitingList<Waker>,
-    pub(crate) no_readers: WaitingList<Waker>,
-    pub(crate) keys: Keys,
+/// A lock's lists, with the keys by which a duty to notify ends where somebody else is bound to.
+pub struct KeyedLists {
+    /// Those who wait for the turn.
+    pub turn: WaitingList<Waker>,
+    /// Those who wait until no writer is.
+    pub no_writer: WaitingList<Waker>,
+    /// The one who has the turn and waits until no reader is left.
+    pub no_readers: WaitingList<Waker>,
+    keys: Keys,
+}
+
+// By hand, so that a drop is one call to prove, and not all of its parts again.
+impl Drop for KeyedLists {
+    fn drop(self) {
+        let KeyedLists {
+            turn: _,
+            no_writer: _,
+            no_readers: _,
+            keys: _,
+        } = self;
+    }
 }
 
 impl KeyedLists {
@@ -78,7 +94,7 @@ impl MutexWord for RawRwLock {
 
     ghost is_full = { λ raw seat full. raw.words.starved ≤ seat.inner.me.0.seen / 2 };
 
-    ghost list_id = { λ raw. raw.turn.name.id };
+    ghost list_id = { λ raw. (lists_of raw).turn.name.id };
 
     ghost source_id = { λ raw. raw.source.id };
 
@@ -134,7 +150,7 @@ impl MutexWord for RawRwLock {
     }
 
     fn list(&self) -> &WaitingList<Waker> {
-        &self.turn
+        &self.lists.turn
     }
 
     fn source(&self) -> &Source {
@@ -145,28 +161,28 @@ impl MutexWord for RawRwLock {
 impl RawRwLock {
     // Ends the duty of a seat that has the turn: when it gives the turn back, it notifies.
     fn put_off_turn(&self, owed: Owed, holder: &Seat)
-        requires list { owed.list.id ≡ self.now.turn.name.id }
+        requires list { owed.list.id ≡ (lists_of self.now).turn.name.id }
         requires table { holder.now.inner.table_id ≡ self.now.words.table }
         requires holds { holder.now.inner.me.0.holds ≡ true }
     {
         let _ = holder;
-        owed.end(&self.keys.turn);
+        owed.end(&self.lists.keys.turn);
     }
 
     // Ends the duty of a seat whose last look at the turn's word found the turn held: whoever holds it notifies when it gives
     // it back. Only a try calls it, with what that try has found: a look of long ago is no reason.
     fn leave_turn_to_holder(&self, owed: Owed, seat: &Seat)
-        requires list { owed.list.id ≡ self.now.turn.name.id }
+        requires list { owed.list.id ≡ (lists_of self.now).turn.name.id }
         requires table { seat.now.inner.table_id ≡ self.now.words.table }
         requires held { seat.now.inner.me.0.seen % 2 ≡ 1 }
     {
         let _ = seat;
-        owed.end(&self.keys.turn);
+        owed.end(&self.lists.keys.turn);
     }
 
     // Ends the duty, if there is one, of a seat whose last look at the turn's word found the turn held.
     fn leave_all_to_holder(&self, owed: &mut Option<Owed>, seat: &Seat)
-        requires list { IfSome owed.old (λ o. o.list.id ≡ self.now.turn.name.id) }
+        requires list { IfSome owed.old (λ o. o.list.id ≡ (lists_of self.now).turn.name.id) }
         requires table { seat.now.inner.table_id ≡ self.now.words.table }
         requires held { seat.now.inner.me.0.seen % 2 ≡ 1 }
         ensures { owed.new ≡ None }
@@ -178,24 +194,24 @@ impl RawRwLock {
 
     // Ends the duty of a starved seat that stands in the turn's list: whoever gets the turn, or has found it held, notifies it.
     fn leave_turn_to_list(&self, owed: Owed, waiter: &Seat, entry: &Listed)
-        requires list { owed.list.id ≡ self.now.turn.name.id }
+        requires list { owed.list.id ≡ (lists_of self.now).turn.name.id }
         requires table { waiter.now.inner.table_id ≡ self.now.words.table }
         requires starved { waiter.now.inner.me.0.starved ≡ true }
-        requires listed { entry.now.list.id ≡ self.now.turn.name.id }
+        requires listed { entry.now.list.id ≡ (lists_of self.now).turn.name.id }
     {
         let _ = waiter;
         let _ = entry;
-        owed.end(&self.keys.turn);
+        owed.end(&self.lists.keys.turn);
     }
 
     /// Ends the duty of a seat that waits to write and was notified that no reader is left. Nobody but who has set the writer's
     /// bit stands in that list, and it looks next itself.
     pub(crate) fn look_next(&self, owed: Owed, seat: &Seat)
-        requires list { owed.list.id ≡ self.now.no_readers.name.id }
+        requires list { owed.list.id ≡ (lists_of self.now).no_readers.name.id }
         requires table { seat.now.inner.table_id ≡ self.now.words.table }
         requires marks { seat.now.inner.me.0.marks ≡ true }
     {
         let _ = seat;
-        owed.end(&self.keys.no_readers);
+        owed.end(&self.lists.keys.no_readers);
     }
 }

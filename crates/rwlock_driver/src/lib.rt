@@ -18,8 +18,9 @@ mod waiting;
 
 pub use aim::{Aim, Call};
 pub use at_list::AtList;
+pub use duty::KeyedLists;
 pub use finding::{Finding, Standing};
 pub use party::RwLockParty;
 pub use raw::RawRwLock;
-pub use straight::Begun;
+pub use straight::{Begun, First, Notifies, OnWay, Tried, TryRest};
 pub use waiting::{Outcome, Waiting};

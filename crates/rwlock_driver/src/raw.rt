@@ -1,10 +1,9 @@
 //! A read-write lock without its value and its runtime.
 
-ghost use Rattle.std.specs.Prelude.{◌≡◌, ◌≤◌, IfOk, min};
+ghost use Rattle.std.specs.Prelude.{◌≡◌, ◌≤◌, IfOk, box_value, min};
 
-use crate::duty::{KeyedLists, Keys};
-use async_driver::WaitingList;
-use futures::task::{Source, Waker};
+use crate::duty::KeyedLists;
+use futures::task::Source;
 use std::alloc::{AllocError, Global};
 use words_rwlock::{Lists, READERS_LIMIT, STARVED_LIMIT, Words};
 
@@ -14,19 +13,14 @@ pub struct RawRwLock {
     pub words: Words,
     /// What tasks register with that wait in any of the lists.
     pub source: Source,
-    /// Those who wait for the turn.
-    pub turn: WaitingList<Waker>,
-    /// Those who wait until no writer is.
-    pub no_writer: WaitingList<Waker>,
-    /// The one who has the turn and waits until no reader is left.
-    pub no_readers: WaitingList<Waker>,
-    // With them a duty to notify ends where somebody else is bound to (see the module of duties).
-    pub(crate) keys: Keys,
-    ghost turn_by: { keys.turn.list.id ≡ turn.name.id },
-    ghost no_readers_by: { keys.no_readers.list.id ≡ no_readers.name.id },
-    ghost turn_told: { words.turn ≡ turn.name.id },
-    ghost no_writer_told: { words.no_writer ≡ no_writer.name.id },
-    ghost no_readers_told: { words.no_readers ≡ no_readers.name.id },
+    /// Who waits. The lists have a block of their own, so that the lock is small: an `Arc`'s drop clears room for the whole of its value
+    /// before it counts down.
+    pub lists: Box<KeyedLists>,
+    ghost turn_by: { (box_value lists).keys.turn.list.id ≡ (box_value lists).turn.name.id },
+    ghost no_readers_by: { (box_value lists).keys.no_readers.list.id ≡ (box_value lists).no_readers.name.id },
+    ghost turn_told: { words.turn ≡ (box_value lists).turn.name.id },
+    ghost no_writer_told: { words.no_writer ≡ (box_value lists).no_writer.name.id },
+    ghost no_readers_told: { words.no_readers ≡ (box_value lists).no_readers.name.id },
 }
 
 // By hand, so that a drop is one call to prove, and not all of its parts again.
@@ -35,10 +29,7 @@ impl Drop for RawRwLock {
         let RawRwLock {
             words: _,
             source: _,
-            turn: _,
-            no_writer: _,
-            no_readers: _,
-            keys: _,
+            lists: _,
         } = self;
     }
 }
@@ -53,25 +44,20 @@ impl RawRwLock {
     pub fn with_limits(alloc: Global, starved: u64, readers: u64) -> Result<RawRwLock, AllocError>
         ensures { IfOk result (λ raw. (raw.words.starved ≡ min starved 1073741823) × (raw.words.readers ≡ min readers 1073741823)) }
     {
-        let KeyedLists {
-            turn,
-            no_writer,
-            no_readers,
-            keys,
-        } = KeyedLists::new(alloc);
+        let waiting = match Box::new(alloc, KeyedLists::new(alloc)) {
+            Ok(waiting) => waiting,
+            Err(_) => return Err(AllocError),
+        };
         let lists = Lists {
-            turn: turn.id(),
-            no_writer: no_writer.id(),
-            no_readers: no_readers.id(),
+            turn: waiting.turn.id(),
+            no_writer: waiting.no_writer.id(),
+            no_readers: waiting.no_readers.id(),
         };
         match Words::with_limits(alloc, starved, readers, lists) {
             Ok(words) => Ok(RawRwLock {
                 words,
                 source: Source::new(),
-                turn,
-                no_writer,
-                no_readers,
-                keys,
+                lists: waiting,
             }),
             Err(error) => Err(error),
         }

@@ -3,7 +3,7 @@
 //! Each gives back what it gives back by the types' force: a seat can't end before it has nothing, nor a call before those
 //! whom it has to notify were notified. Which rows of the table they carry out, `try_rows`, `drop_rows` and `change_rows` say.
 
-ghost use Rattle.std.specs.Prelude.{◌≡◌, true, false, Bool, Some, IfSome, MatchBool};
+ghost use Rattle.std.specs.Prelude.{◌≡◌, ◌≢◌, true, false, [], Bool, Some, IfSome, MatchBool};
 ghost use Rattle.lock_program.specs.ReadWrite.{start_of, action_of, next_of};
 ghost use Rattle.lock_program.specs.declared.end.End.TheVariants as ends;
 ghost use Rattle.lock_program.specs.declared.end.Next.TheVariants as next;
@@ -18,11 +18,22 @@ ghost use Rattle.lock_program.specs.declared.rwlock.Purpose.{Purpose};
 ghost use Rattle.lock_program.specs.declared.rwlock.Purpose.TheVariants as purpose;
 ghost use Rattle.lock_program.specs.declared.rwlock.RwLockCall.TheVariants as calls;
 ghost use Rattle.rwlock_driver.specs.Rights.{Has, HasBegun, IsClosed, IsFull, ReadsBeside, idle, passing, reader, upgradable, awaits, writer};
+ghost use Rattle.rwlock_driver.specs.Straight.{IsRest, OnFirst, OnTried, Owes};
+ghost use Rattle.rwlock_driver.specs.Polls.{poll_of, right_of};
+ghost use Rattle.rwlock_driver.specs.declared.aim.Aim.TheVariants as aims;
+ghost use Rattle.lock_program.specs.Mutex as turn_table;
+ghost use Rattle.lock_program.specs.declared.mutex.Action.TheVariants as turn_does;
+ghost use Rattle.lock_program.specs.declared.mutex.Found.TheVariants as turn_finds;
+ghost use Rattle.lock_program.specs.declared.mutex.Place.TheVariants as turn_at;
+ghost use Rattle.lock_program.specs.declared.rwlock.Wanted.TheVariants as wanted;
 ghost use Rattle.words_rwlock.specs.Steps.{downgraded, upgraded, without_turn};
 
+use crate::aim::Aim;
 use crate::raw::RawRwLock;
+use async_driver::Owed;
+use lock_program::rwlock::Place;
 use std::sync::Wait;
-use words_rwlock::{Adding, Reading, Seat, Taking};
+use words_rwlock::{Adding, Readers, Reading, Seat, Taking};
 
 /// An upgrade that has begun: its seat has the turn and the writer's bit.
 pub enum Begun {
@@ -32,47 +43,202 @@ pub enum Begun {
     Awaits(Seat),
 }
 
+/// What a try came to.
+pub enum Tried {
+    /// The right, by this seat.
+    Got(Seat),
+    /// Nothing: the lock isn't free for it.
+    Vain,
+    /// Something is left to do: [`RawRwLock::try_on`] does it.
+    GoesOn(TryRest),
+}
+
+/// What is left to do of a try. It has no `Drop`.
+pub enum TryRest {
+    /// To look again, since the word changed meanwhile, and to read.
+    Read,
+    /// To look again, and to read with the turn, which this seat has.
+    Add(Seat),
+    /// To notify those who wait for what a try in vain gave back.
+    Notify(Notifies),
+}
+
+/// What is left to do of a drop where somebody may wait: [`RawRwLock::notify`] does it. It has no `Drop`.
+pub enum Notifies {
+    /// The one who waits until no reader is left.
+    NoReaders(Owed),
+    /// The same, and then the turn, which this seat has, is given back.
+    NoReadersThenTurn(Owed, Seat),
+    /// Those who wait until no writer is, and then the turn is given back.
+    NoWriterThenTurn(Owed, Seat),
+    /// One who waits for the turn.
+    Turn(Owed),
+}
+
+/// What the straight actions of a first poll came to.
+pub enum First {
+    /// The right, by this seat.
+    Got(Seat),
+    /// Nothing: the poll begins anew, by the driver.
+    Nothing,
+    /// The turn, and it goes on: [`RawRwLock::poll_begun`].
+    Begun(OnWay),
+}
+
+/// A first poll that has the turn, by its seat, and the place from which it goes on. It has no `Drop`.
+pub struct OnWay {
+    pub(crate) seat: Seat,
+    pub(crate) at: Place,
+}
+
 impl RawRwLock {
-    /// Reads at once, if no writer's bit is set and there are fewer readers than may be. A word that changed meanwhile is tried
-    /// again.
-    pub fn try_read<R: Wait>(&self, rt: &R) -> Option<Seat>
-        ensures { IfSome result (Has self.now reader) }
+    /// The actions of a first poll that get a free right, carried out straight. It waits for nobody. Which rows of the table they are,
+    /// `first_rows` says.
+    #[inline]
+    pub fn begin(&self, aim: Aim) -> First
+        requires { aim ≢ aims.Upgrade }
+        ensures { OnFirst self.now aim result }
+    {
+        first_rows();
+        match aim {
+            Aim::Read => self.begin_read(),
+            Aim::UpgradableRead => self.begin_upgradable(),
+            Aim::Write => self.begin_write(),
+            Aim::Upgrade => unreachable!(),
+        }
+    }
+
+    #[inline]
+    fn begin_read(&self) -> First
+        ensures { OnFirst self.now aims.Read result }
+    {
+        let (mut seat, seen) = self.words.sit_and_look();
+        if self.words.read_from(&mut seat, seen) {
+            return First::Got(seat);
+        }
+        self.words.rise(seat);
+        First::Nothing
+    }
+
+    // Whoever has the turn reads with it, first from what was seen in the state word before the turn was got.
+    #[inline]
+    fn begin_upgradable(&self) -> First
+        ensures { OnFirst self.now aims.UpgradableRead result }
+    {
+        let Some((mut seat, seen)) = self.try_turn() else {
+            return First::Nothing;
+        };
+        if self.words.add_from(&mut seat, seen) {
+            return First::Got(seat);
+        }
+        let at = Place::Add { trying: false };
+        First::Begun(OnWay { seat, at })
+    }
+
+    // Whoever has the turn sets the writer's bit.
+    #[inline]
+    fn begin_write(&self) -> First
+        ensures { OnFirst self.now aims.Write result }
+    {
+        let Some((mut seat, _)) = self.try_turn() else {
+            return First::Nothing;
+        };
+        match self.words.mark(&mut seat) {
+            Readers::NoneLeft => First::Got(seat),
+            Readers::SomeLeft => {
+                let at = Place::JoinNoReaders { upgrade: false };
+                First::Begun(OnWay { seat, at })
+            }
+        }
+    }
+
+    /// Reads at once, if no writer's bit is set and there are fewer readers than may be. As the other two tries it waits for nobody:
+    /// where the word changed meanwhile, [`RawRwLock::try_on`] goes on.
+    #[inline]
+    pub fn try_read(&self) -> Tried
+        ensures { OnTried self.now aims.Read result }
     {
         try_rows();
         let mut seat = self.words.sit();
-        if self.read(rt, &mut seat) {
-            return Some(seat);
+        match self.words.read(&mut seat) {
+            Reading::Reads => Tried::Got(seat),
+            Reading::Writer | Reading::Full => {
+                self.words.rise(seat);
+                Tried::Vain
+            }
+            Reading::Changed => {
+                self.words.rise(seat);
+                Tried::GoesOn(TryRest::Read)
+            }
         }
-        self.words.rise(seat);
-        None
     }
 
-    /// Reads at once with the turn, if the turn is free, nobody is starved for it, and there are fewer readers than may be.
-    pub fn try_upgradable_read<R: Wait>(&self, rt: &R) -> Option<Seat>
-        ensures { IfSome result (Has self.now upgradable) }
+    /// Reads at once with the turn, if the turn is free, nobody is starved for it, and there are fewer readers than may be. It reads by
+    /// what its seat saw in the state word before it got the turn, and looks again only where that has changed.
+    #[inline]
+    pub fn try_upgradable_read(&self) -> Tried
+        ensures { OnTried self.now aims.UpgradableRead result }
     {
         try_rows();
-        let (mut seat, seen) = self.try_turn()?;
-        if self.add_after(rt, &mut seat, seen) {
-            return Some(seat);
+        let Some((mut seat, saw)) = self.try_turn() else {
+            return Tried::Vain;
+        };
+        if self.words.add_from(&mut seat, saw) {
+            return Tried::Got(seat);
         }
-        self.release_turn(rt, &mut seat);
-        self.words.rise(seat);
-        None
+        Tried::GoesOn(TryRest::Add(seat))
     }
 
-    /// Writes at once, if the turn is free, nobody is starved for it, and nobody reads.
-    pub fn try_write<R: Wait>(&self, rt: &R) -> Option<Seat>
-        ensures { IfSome result (Has self.now writer) }
+    /// Writes at once, if the turn is free, nobody is starved for it, and nobody reads. Beside readers it gives the turn back.
+    #[inline]
+    pub fn try_write(&self) -> Tried
+        ensures { OnTried self.now aims.Write result }
     {
         try_rows();
-        let (mut seat, _) = self.try_turn()?;
+        let Some((mut seat, _)) = self.try_turn() else {
+            return Tried::Vain;
+        };
         if self.words.try_write(&mut seat) {
-            return Some(seat);
+            return Tried::Got(seat);
         }
-        self.release_turn(rt, &mut seat);
-        self.words.rise(seat);
-        None
+        match self.give_turn(seat) {
+            Some(notifies) => Tried::GoesOn(TryRest::Notify(notifies)),
+            None => Tried::Vain,
+        }
+    }
+
+    /// Does what is left of a try for this aim.
+    #[inline(never)]
+    pub fn try_on<R: Wait>(&self, rt: &R, aim: Aim, rest: TryRest) -> Option<Seat>
+        requires { IsRest self.now aim rest }
+        ensures { IfSome result (Has self.now (right_of aim)) }
+    {
+        let _ = aim;
+        match rest {
+            TryRest::Read => {
+                let mut seat = self.words.sit();
+                if self.read(rt, &mut seat) {
+                    return Some(seat);
+                }
+                self.words.rise(seat);
+                None
+            }
+            TryRest::Add(seat) => {
+                let mut seat = seat;
+                if self.add(rt, &mut seat) {
+                    return Some(seat);
+                }
+                let left = self.give_turn(seat);
+                if let Some(notifies) = left {
+                    self.notify(rt, notifies);
+                }
+                None
+            }
+            TryRest::Notify(notifies) => {
+                self.notify(rt, notifies);
+                None
+            }
+        }
     }
 
     // The turn, if it is free and nobody is starved for it, with what the state word was a moment before.
@@ -104,18 +270,6 @@ impl RawRwLock {
         unreachable!()
     }
 
-    // Reads with the turn as `add` does, first from what was seen in the state word before the turn was got: then it need not look.
-    #[inline]
-    pub(crate) fn add_after<R: Wait>(&self, rt: &R, seat: &mut Seat, seen: u64) -> bool
-        requires { Has self.now passing seat.old }
-        ensures { MatchBool result (Has self.now upgradable seat.new) (Has self.now passing seat.new × IsFull self.now seat.new) }
-    {
-        if self.words.add_from(seat, seen) {
-            return true;
-        }
-        self.add(rt, seat)
-    }
-
     // Reads with the turn, if there are fewer readers than may be, however often the word changes meanwhile.
     fn add<R: Wait>(&self, rt: &R, seat: &mut Seat) -> bool
         requires { Has self.now passing seat.old }
@@ -133,59 +287,131 @@ impl RawRwLock {
 
     // Gives the turn back, and notifies one who waits for it.
     fn release_turn<R: Wait>(&self, rt: &R, seat: &mut Seat)
-        requires table { seat.old.inner.table_id ≡ self.now.words.table }
+        requires table { (seat.old.inner.table_id ≡ self.now.words.table) × (seat.old.inner.me.1 ≡ []) }
         requires turn { (seat.old.inner.me.0.holds ≡ true) × (seat.old.inner.me.0.marks ≡ false) }
         ensures same { (seat.new.inner.table_id ≡ seat.old.inner.table_id) × (seat.new.inner.id ≡ seat.old.inner.id) }
         ensures step { seat.new.inner.me ≡ (without_turn seat.old.inner.me.0, seat.old.inner.me.1) }
     {
-        let owed = self.words.clear(seat);
-        self.turn.notify(rt, 1, owed);
+        let to_next = self.words.clear(seat);
+        self.lists.turn.notify(rt, 1, to_next);
     }
 
-    /// Reads no more. The last reader notifies the writer that waits for this.
-    pub fn drop_read<R: Wait>(&self, rt: &R, seat: Seat)
+    /// Reads no more. The last reader has to notify the writer that waits for this.
+    ///
+    /// As the other two drops it waits for nobody: what is left to do where somebody may wait comes back, and
+    /// [`RawRwLock::notify`] does it.
+    #[inline]
+    pub fn drop_read(&self, seat: Seat) -> Option<Notifies>
         requires { Has self.now reader seat }
+        ensures { IfSome result (Owes self.now) }
     {
         drop_rows();
         let mut seat = seat;
-        if let Some(owed) = self.words.off(&mut seat) {
-            self.no_readers.notify(rt, 1, owed);
-        }
+        let left = match self.words.off(&mut seat) {
+            Some(owed) => self.lists.no_readers.unless_listed(owed),
+            None => None,
+        };
         self.words.rise(seat);
+        match left {
+            Some(owed) => Some(Notifies::NoReaders(owed)),
+            None => None,
+        }
     }
 
-    /// Reads no more, and gives the turn back. The last reader notifies the writer that waits for this.
-    pub fn drop_upgradable<R: Wait>(&self, rt: &R, seat: Seat)
+    /// Reads no more, and gives the turn back. The last reader has to notify the writer that waits for this.
+    #[inline]
+    pub fn drop_upgradable(&self, seat: Seat) -> Option<Notifies>
         requires { Has self.now upgradable seat }
+        ensures { IfSome result (Owes self.now) }
     {
         drop_rows();
         let mut seat = seat;
         if let Some(owed) = self.words.off(&mut seat) {
-            self.no_readers.notify(rt, 1, owed);
+            if let Some(owed) = self.lists.no_readers.unless_listed(owed) {
+                return Some(Notifies::NoReadersThenTurn(owed, seat));
+            }
         }
+        self.give_turn(seat)
+    }
+
+    /// Writes no more, and gives the turn back: readers and those who wait for the turn have to be notified.
+    #[inline]
+    pub fn drop_write(&self, seat: Seat) -> Option<Notifies>
+        requires { Has self.now writer seat }
+        ensures { IfSome result (Owes self.now) }
+    {
+        drop_rows();
+        self.unlock(seat)
+    }
+
+    // Clears the writer's bit and gives the turn back. Those who wait for either have to be notified.
+    #[inline]
+    pub(crate) fn unlock(&self, seat: Seat) -> Option<Notifies>
+        requires table { (seat.inner.table_id ≡ self.now.words.table) × (seat.inner.me.1 ≡ []) }
+        requires turn { (seat.inner.me.0.holds ≡ true) × (seat.inner.me.0.starved ≡ false) }
+        requires marks { (seat.inner.me.0.marks ≡ true) × (seat.inner.me.0.reads ≡ false) }
+        ensures { IfSome result (Owes self.now) }
+    {
+        let mut seat = seat;
+        let owed = self.words.unmark(&mut seat);
+        if let Some(owed) = self.lists.no_writer.unless_listed(owed) {
+            return Some(Notifies::NoWriterThenTurn(owed, seat));
+        }
+        self.give_turn(seat)
+    }
+
+    // Gives the turn back. One who waits for it has to be notified.
+    #[inline]
+    fn give_turn(&self, seat: Seat) -> Option<Notifies>
+        requires { Has self.now passing seat }
+        ensures { IfSome result (Owes self.now) }
+    {
+        let mut seat = seat;
+        let owed = self.words.clear(&mut seat);
+        let left = self.lists.turn.unless_listed(owed);
+        self.words.rise(seat);
+        match left {
+            Some(owed) => Some(Notifies::Turn(owed)),
+            None => None,
+        }
+    }
+
+    /// Does what is left to do of a drop: notifies those who wait, and gives back the turn where that comes after.
+    #[inline(never)]
+    pub fn notify<R: Wait>(&self, rt: &R, notifies: Notifies)
+        requires { Owes self.now notifies }
+    {
+        let mut seat = match notifies {
+            Notifies::NoReaders(owed) => {
+                self.lists.no_readers.notify(rt, 1, owed);
+                return;
+            }
+            Notifies::Turn(owed) => {
+                self.lists.turn.notify(rt, 1, owed);
+                return;
+            }
+            Notifies::NoReadersThenTurn(owed, seat) => {
+                self.lists.no_readers.notify(rt, 1, owed);
+                seat
+            }
+            Notifies::NoWriterThenTurn(owed, seat) => {
+                self.lists.no_writer.notify(rt, 1, owed);
+                seat
+            }
+        };
         self.release_turn(rt, &mut seat);
         self.words.rise(seat);
     }
 
-    /// Writes no more, and gives the turn back: readers and those who wait for the turn are notified.
-    pub fn drop_write<R: Wait>(&self, rt: &R, seat: Seat)
-        requires { Has self.now writer seat }
-    {
-        drop_rows();
-        self.unlock(rt, seat);
-    }
-
-    // Clears the writer's bit and gives the turn back, with those notified who wait for either.
-    pub(crate) fn unlock<R: Wait>(&self, rt: &R, seat: Seat)
-        requires table { seat.inner.table_id ≡ self.now.words.table }
+    // Gives up the writer's bit and the turn, with those notified who wait for either.
+    pub(crate) fn give_up<R: Wait>(&self, rt: &R, seat: Seat)
+        requires table { (seat.inner.table_id ≡ self.now.words.table) × (seat.inner.me.1 ≡ []) }
         requires turn { (seat.inner.me.0.holds ≡ true) × (seat.inner.me.0.starved ≡ false) }
         requires marks { (seat.inner.me.0.marks ≡ true) × (seat.inner.me.0.reads ≡ false) }
     {
-        let mut seat = seat;
-        let to_readers = self.words.unmark(&mut seat);
-        self.no_writer.notify(rt, 1, to_readers);
-        self.release_turn(rt, &mut seat);
-        self.words.rise(seat);
+        if let Some(notifies) = self.unlock(seat) {
+            self.notify(rt, notifies);
+        }
     }
 
     /// Reads on without the turn. It is the same seat, and no step of it but that one (`same`).
@@ -211,7 +437,7 @@ impl RawRwLock {
         let mut seat = seat;
         let later = self.words.down(&mut seat);
         self.release_turn(rt, &mut seat);
-        self.no_writer.notify(rt, 1, later);
+        self.lists.no_writer.notify(rt, 1, later);
         seat
     }
 
@@ -225,7 +451,7 @@ impl RawRwLock {
         change_rows();
         let mut seat = seat;
         let owed = self.words.down(&mut seat);
-        self.no_writer.notify(rt, 1, owed);
+        self.lists.no_writer.notify(rt, 1, owed);
         seat
     }
 
@@ -269,6 +495,15 @@ impl RawRwLock {
         seat
     }
 }
+
+// The rows of the program's table that `RawRwLock::begin` carries out straight: what gets a free right.
+#[inline]
+fn first_rows()
+    ensures reads { (poll_of aims.Read (at.Made wanted.Read) ≡ Some (at.EnterRead false)) × (action_of (at.EnterRead false) ≡ does.Read) × (next_of (at.EnterRead false) finds.Done ≡ next.End ends.Got at.Reading) }
+    ensures turns { (p : Purpose) → (action_of (at.EnterTurn p) ≡ does.Begin turn_calls.Lock) × (turn_table.start_of turn_calls.Lock turn_at.Out ≡ Some turn_at.Enter) × (turn_table.action_of turn_at.Enter ≡ turn_does.Take) × (turn_table.next_of turn_at.Enter turn_finds.Free ≡ next.End ends.Got turn_at.Holding) }
+    ensures adds { (poll_of aims.UpgradableRead (at.Made wanted.UpgradableRead) ≡ Some (at.EnterTurn purpose.UpgradableRead)) × (next_of (at.EnterTurn purpose.UpgradableRead) (finds.Turn (turn_step.End ends.Got)) ≡ next.Do (at.Add false)) × (action_of (at.Add false) ≡ does.Add) × (next_of (at.Add false) finds.Done ≡ next.End ends.Got at.Upgradable) }
+    ensures marks { (poll_of aims.Write (at.Made wanted.Write) ≡ Some (at.EnterTurn purpose.Write)) × (next_of (at.EnterTurn purpose.Write) (finds.Turn (turn_step.End ends.Got)) ≡ next.Do at.Mark) × (action_of at.Mark ≡ does.Mark) × (next_of at.Mark finds.NoneLeft ≡ next.End ends.Got at.Writing) × (next_of at.Mark finds.SomeLeft ≡ next.Do (at.JoinNoReaders false)) }
+{}
 
 // The rows of the program's table that the tries carry out.
 #[inline]

@@ -22,13 +22,15 @@ ghost use Rattle.lock_program.specs.declared.rwlock.Purpose.{Purpose};
 ghost use Rattle.lock_program.specs.declared.rwlock.Purpose.TheVariants as purpose;
 ghost use Rattle.lock_program.specs.declared.rwlock.Wanted.TheVariants as wanted;
 ghost use Rattle.rwlock_driver.specs.Polls.{CanPoll, EndsAt, HasReceipt, IsBegun, IsOnWay, OnOutcome, Polled, WaitsFor, got_at, poll_of, right_of};
-ghost use Rattle.rwlock_driver.specs.Rights.{Has, awaits, passing};
+ghost use Rattle.rwlock_driver.specs.Rights.{Has, awaits};
+ghost use Rattle.rwlock_driver.specs.Straight.{IsOn};
 ghost use Rattle.rwlock_driver.specs.declared.aim.Aim.TheVariants as aims;
 
 use crate::aim::{Aim, Call};
 use crate::finding::Standing;
 use crate::party::RwLockParty;
 use crate::raw::RawRwLock;
+use crate::straight::OnWay;
 use async_driver::{Carries, nothing, put};
 use futures::task::Context;
 use lock_program::mutex::Place as TurnPlace;
@@ -137,95 +139,6 @@ impl RawRwLock {
         party.drive(self, rt, cx, place)
     }
 
-    /// Polls in place: there is no party before the first poll and after the last. By the contract the party has what its place
-    /// says whenever there is one.
-    ///
-    /// A first poll begins with the actions that get a free right, carried out straight. Which rows of the table
-    /// they are, `first_rows` says. One that they don't end goes on by the driver.
-    #[inline]
-    pub fn poll_waiting<R: Wait + Clock>(
-        &self,
-        rt: &R,
-        cx: &mut Context<'_>,
-        aim: Aim,
-        waiting: &mut Option<Waiting>,
-    ) -> Outcome
-        requires waits { IfSome waiting.old (WaitsFor self.now aim) }
-        requires begun { aim ≡ aims.Upgrade → IsSome waiting.old }
-        ensures waits { IfSome waiting.new (WaitsFor self.now aim) }
-        ensures outcome { OnOutcome self.now aim cx.new result waiting.new }
-        ensures kept { Keeps cx.old cx.new }
-    {
-        first_rows();
-        if waiting.is_some() {
-            return self.poll_on(rt, cx, aim, waiting);
-        }
-        match aim {
-            Aim::Read => match self.try_read(rt) {
-                Some(seat) => Outcome::Got(seat),
-                None => self.poll_on(rt, cx, aim, waiting),
-            },
-            Aim::UpgradableRead => match self.try_turn() {
-                Some((seat, seen)) => self.add_first(rt, cx, seat, seen, waiting),
-                None => self.poll_on(rt, cx, aim, waiting),
-            },
-            Aim::Write => match self.try_turn() {
-                Some((seat, _)) => self.mark_first(rt, cx, seat, waiting),
-                None => self.poll_on(rt, cx, aim, waiting),
-            },
-            Aim::Upgrade => unreachable!(),
-        }
-    }
-
-    // A first poll that has the turn reads with it.
-    #[inline]
-    fn add_first<R: Wait + Clock>(
-        &self,
-        rt: &R,
-        cx: &mut Context<'_>,
-        seat: Seat,
-        seen: u64,
-        waiting: &mut Option<Waiting>,
-    ) -> Outcome
-        requires seat { Has self.now passing seat }
-        requires none { waiting.old ≡ None }
-        ensures waits { IfSome waiting.new (WaitsFor self.now aims.UpgradableRead) }
-        ensures outcome { OnOutcome self.now aims.UpgradableRead cx.new result waiting.new }
-        ensures kept { Keeps cx.old cx.new }
-    {
-        let mut seat = seat;
-        if self.add_after(rt, &mut seat, seen) {
-            return Outcome::Got(seat);
-        }
-        let place = Place::Add { trying: false };
-        self.go_on(rt, cx, Aim::UpgradableRead, seat, place, waiting)
-    }
-
-    // A first poll that has the turn sets the writer's bit.
-    #[inline]
-    fn mark_first<R: Wait + Clock>(
-        &self,
-        rt: &R,
-        cx: &mut Context<'_>,
-        seat: Seat,
-        waiting: &mut Option<Waiting>,
-    ) -> Outcome
-        requires seat { Has self.now passing seat }
-        requires none { waiting.old ≡ None }
-        ensures waits { IfSome waiting.new (WaitsFor self.now aims.Write) }
-        ensures outcome { OnOutcome self.now aims.Write cx.new result waiting.new }
-        ensures kept { Keeps cx.old cx.new }
-    {
-        let mut seat = seat;
-        match self.words.mark(&mut seat) {
-            Readers::NoneLeft => Outcome::Got(seat),
-            Readers::SomeLeft => {
-                let place = Place::JoinNoReaders { upgrade: false };
-                self.go_on(rt, cx, Aim::Write, seat, place, waiting)
-            }
-        }
-    }
-
     /// A first poll of an upgrade, whose seat has set the writer's bit: it looks whether a reader is left. By the contract it goes
     /// as any poll of an upgrade.
     #[inline]
@@ -247,8 +160,8 @@ impl RawRwLock {
         match self.words.look(&mut seat) {
             Readers::NoneLeft => Outcome::Got(seat),
             Readers::SomeLeft => {
-                let place = Place::JoinNoReaders { upgrade: true };
-                self.go_on(rt, cx, Aim::Upgrade, seat, place, waiting)
+                let at = Place::JoinNoReaders { upgrade: true };
+                self.poll_begun(rt, cx, Aim::Upgrade, OnWay { seat, at }, waiting)
             }
         }
     }
@@ -258,35 +171,34 @@ impl RawRwLock {
         requires { Has self.now awaits seat }
     {
         cancel_rows();
-        self.unlock(rt, seat);
+        self.give_up(rt, seat);
     }
 
-    // The rest of a first poll that has the turn by this seat, from this place of it on. It works on an option of its own, so that a
-    // future that is ready at once need not have its party in memory.
+    /// The rest of a first poll that has the turn by its seat, from its place on. It works on an option of its own, so that a
+    /// future that is ready at once need not have its party in memory.
     #[inline]
-    fn go_on<R: Wait + Clock>(
+    pub fn poll_begun<R: Wait + Clock>(
         &self,
         rt: &R,
         cx: &mut Context<'_>,
         aim: Aim,
-        seat: Seat,
-        at: Place,
+        way: OnWay,
         waiting: &mut Option<Waiting>,
     ) -> Outcome
-        requires stands { IsBegun self.now seat at }
-        requires on_way { IsOnWay aim at }
+        requires begun { IsOn self.now aim way }
         requires none { waiting.old ≡ None }
         ensures waits { IfSome waiting.new (WaitsFor self.now aim) }
         ensures outcome { OnOutcome self.now aim cx.new result waiting.new }
         ensures kept { Keeps cx.old cx.new }
     {
         let mut begun = None;
+        let OnWay { seat, at } = way;
         let outcome = self.go_apart(rt, cx, aim, seat, at, &mut begun);
         put_back(waiting, begun);
         outcome
     }
 
-    // As `go_on`, of what has nothing yet.
+    // As `poll_begun`, of what has nothing yet.
     #[inline(never)]
     fn go_apart<R: Wait + Clock>(
         &self,
@@ -314,9 +226,10 @@ impl RawRwLock {
         self.outcome(cx, aim, end, waiting)
     }
 
-    // One poll by the driver, of what is moved out for it and back, as in `go_on`.
+    /// One poll by the driver, of what is moved out for it and back. There is no party before the first poll and after the last. By
+    /// the contract the party has what its place says whenever there is one.
     #[inline]
-    fn poll_on<R: Wait + Clock>(
+    pub fn poll_waiting<R: Wait + Clock>(
         &self,
         rt: &R,
         cx: &mut Context<'_>,
@@ -335,7 +248,7 @@ impl RawRwLock {
         outcome
     }
 
-    // As `poll_on`, of what was moved out.
+    // As `poll_waiting`, of what was moved out.
     #[inline(never)]
     fn poll_apart<R: Wait + Clock>(
         &self,
@@ -423,15 +336,15 @@ impl RawRwLock {
         let Waiting { mut party, place } = waiting;
         match place.at {
             Place::AskNoWriter => {
-                party.no_writer.leave(rt, &self.no_writer);
+                party.no_writer.leave(rt, &self.lists.no_writer);
                 self.end(party);
             }
             Place::WaitTurn { .. } => self.cancel_turn(rt, party, place.turn),
             Place::AwaitNoReaders { .. } => {
-                party.no_readers.leave(rt, &self.no_readers);
-                self.unlock(rt, party.into_seat());
+                party.no_readers.leave(rt, &self.lists.no_readers);
+                self.give_up(rt, party.into_seat());
             }
-            Place::LookUnlisted { .. } => self.unlock(rt, party.into_seat()),
+            Place::LookUnlisted { .. } => self.give_up(rt, party.into_seat()),
             _ => self.end(party),
         }
     }
@@ -482,15 +395,6 @@ fn taken(waiting: &mut Option<Waiting>) -> Waiting
         None => unreachable!(),
     }
 }
-
-// The rows of the program's table that `RawRwLock::poll_waiting` carries out straight: what gets a free right.
-#[inline]
-fn first_rows()
-    ensures reads { (poll_of aims.Read (at.Made wanted.Read) ≡ Some (at.EnterRead false)) × (action_of (at.EnterRead false) ≡ does.Read) × (next_of (at.EnterRead false) finds.Done ≡ next.End ends.Got at.Reading) }
-    ensures turns { (p : Purpose) → (action_of (at.EnterTurn p) ≡ does.Begin turn_calls.Lock) × (turn_table.start_of turn_calls.Lock turn_at.Out ≡ Some turn_at.Enter) × (turn_table.action_of turn_at.Enter ≡ turn_does.Take) × (turn_table.next_of turn_at.Enter turn_finds.Free ≡ next.End ends.Got turn_at.Holding) }
-    ensures adds { (poll_of aims.UpgradableRead (at.Made wanted.UpgradableRead) ≡ Some (at.EnterTurn purpose.UpgradableRead)) × (next_of (at.EnterTurn purpose.UpgradableRead) (finds.Turn (turn_step.End ends.Got)) ≡ next.Do (at.Add false)) × (action_of (at.Add false) ≡ does.Add) × (next_of (at.Add false) finds.Done ≡ next.End ends.Got at.Upgradable) }
-    ensures marks { (poll_of aims.Write (at.Made wanted.Write) ≡ Some (at.EnterTurn purpose.Write)) × (next_of (at.EnterTurn purpose.Write) (finds.Turn (turn_step.End ends.Got)) ≡ next.Do at.Mark) × (action_of at.Mark ≡ does.Mark) × (next_of at.Mark finds.NoneLeft ≡ next.End ends.Got at.Writing) × (next_of at.Mark finds.SomeLeft ≡ next.Do (at.JoinNoReaders false)) }
-{}
 
 // The rows that `RawRwLock::poll_upgrading` carries out straight: an upgrade's first look.
 #[inline]

@@ -347,9 +347,9 @@ impl RwLockShell {
     fn entry<R: Wait>(&self, bench: &Bench<R>, which: Which, index: usize) -> Seen {
         let lock = &self.lock;
         let (id, mark) = match which {
-            Which::Turn => lock.turn.entry(bench, index)?,
-            Which::NoWriter => lock.no_writer.entry(bench, index)?,
-            Which::NoReaders => lock.no_readers.entry(bench, index)?,
+            Which::Turn => lock.lists.turn.entry(bench, index)?,
+            Which::NoWriter => lock.lists.no_writer.entry(bench, index)?,
+            Which::NoReaders => lock.lists.no_readers.entry(bench, index)?,
         };
         let mut number = 0u32;
         for member in self.members.iter() {

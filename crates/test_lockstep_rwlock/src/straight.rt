@@ -4,6 +4,7 @@ ghost use Rattle.rwlock_driver.specs.Parties.{Stands};
 ghost use Rattle.rwlock_driver.specs.Polls.{CanPoll, OnOutcome, WaitsFor, got_at, right_of};
 ghost use Rattle.lock_program.specs.declared.rwlock.Place.TheVariants as places;
 ghost use Rattle.rwlock_driver.specs.Rights.{Has, awaits};
+ghost use Rattle.rwlock_driver.specs.Straight.{Owes};
 ghost use Rattle.rwlock_driver.specs.declared.aim.Aim.TheVariants as aims;
 ghost use Rattle.std.specs.Arc.{arc_value};
 ghost use Rattle.std.specs.Prelude.{◌≡◌, ◌≢◌, true, IfSome, IsSome};
@@ -14,7 +15,9 @@ use futures::task::Context;
 use lock_program::mutex::Place as TurnPlace;
 use lock_program::rwlock::{Place, Purpose, Wanted};
 use lockstep::{Bench, Walker};
-use rwlock_driver::{Aim, Begun, Outcome, RawRwLock, RwLockParty, Standing, Waiting};
+use rwlock_driver::{
+    Aim, Begun, First, Notifies, Outcome, RawRwLock, RwLockParty, Standing, Tried, Waiting,
+};
 use std::mem;
 use std::sync::{Arc, Wait};
 use words_rwlock::Seat;
@@ -141,7 +144,7 @@ fn called<R: Wait>(walker: Party, bench: &Bench<R>, call: Call) -> (Party, Answe
         }
         Place::Reading => {
             let seat = seat_of(&shared, party, place, Aim::Read);
-            shared.drop_read(bench, seat);
+            end_drop(&shared, bench, shared.drop_read(seat));
             (new_party(shared), GIVEN_BACK)
         }
         Place::Upgradable => {
@@ -170,20 +173,29 @@ fn called<R: Wait>(walker: Party, bench: &Bench<R>, call: Call) -> (Party, Answe
 
 // A try of a party that has nothing.
 fn tried<R: Wait>(shared: Arc<RawRwLock>, bench: &Bench<R>, call: Call) -> (Party, Answer) {
-    match call {
-        Call::TryRead => match shared.try_read(bench) {
-            Some(seat) => (seated(shared, seat, Aim::Read), GRANTED),
-            None => (new_party(shared), Answer::None),
-        },
-        Call::TryUpgradableRead => match shared.try_upgradable_read(bench) {
-            Some(seat) => (seated(shared, seat, Aim::UpgradableRead), GRANTED),
-            None => (new_party(shared), Answer::None),
-        },
-        Call::TryWrite => match shared.try_write(bench) {
-            Some(seat) => (seated(shared, seat, Aim::Write), GRANTED),
-            None => (new_party(shared), Answer::None),
-        },
-        _ => (new_party(shared), Answer::NotPossible),
+    let (tried, aim) = match call {
+        Call::TryRead => (shared.try_read(), Aim::Read),
+        Call::TryUpgradableRead => (shared.try_upgradable_read(), Aim::UpgradableRead),
+        Call::TryWrite => (shared.try_write(), Aim::Write),
+        _ => return (new_party(shared), Answer::NotPossible),
+    };
+    let seat = match tried {
+        Tried::Got(seat) => Some(seat),
+        Tried::Vain => None,
+        Tried::GoesOn(rest) => shared.try_on(bench, aim, rest),
+    };
+    match seat {
+        Some(seat) => (seated(shared, seat, aim), GRANTED),
+        None => (new_party(shared), Answer::None),
+    }
+}
+
+// Does what is left to do of a drop.
+fn end_drop<R: Wait>(shared: &RawRwLock, bench: &Bench<R>, left: Option<Notifies>)
+    requires { IfSome left (Owes shared.now) }
+{
+    if let Some(notifies) = left {
+        shared.notify(bench, notifies);
     }
 }
 
@@ -222,7 +234,7 @@ fn of_upgradable<R: Wait>(
             (seated(shared, seat, Aim::Read), GIVEN_BACK)
         }
         _ => {
-            shared.drop_upgradable(bench, seat);
+            end_drop(&shared, bench, shared.drop_upgradable(seat));
             (new_party(shared), GIVEN_BACK)
         }
     }
@@ -247,7 +259,7 @@ fn of_writer<R: Wait>(
             (seated(shared, seat, Aim::UpgradableRead), GIVEN_BACK)
         }
         _ => {
-            shared.drop_write(bench, seat);
+            end_drop(&shared, bench, shared.drop_write(seat));
             (new_party(shared), GIVEN_BACK)
         }
     }
@@ -352,7 +364,11 @@ fn polled<R: Wait>(
     requires { aim ≢ aims.Upgrade }
 {
     let mut waiting = None;
-    let outcome = shared.poll_waiting(bench, cx, aim, &mut waiting);
+    let outcome = match shared.begin(aim) {
+        First::Got(seat) => Outcome::Got(seat),
+        First::Nothing => shared.poll_waiting(bench, cx, aim, &mut waiting),
+        First::Begun(way) => shared.poll_begun(bench, cx, aim, way, &mut waiting),
+    };
     ended(shared, outcome, waiting, aim, cx)
 }
 

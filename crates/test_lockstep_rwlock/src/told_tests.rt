@@ -40,7 +40,7 @@ fn calls<R: Wait>(bench: &Bench<R>, party: &mut Party, call: RwLockCall) {
 
 // Whether the first who waits until no writer is has been notified.
 fn is_first_told<R: Wait>(bench: &Bench<R>, lock: &RawRwLock) -> bool {
-    match lock.no_writer.entry(bench, 0) {
+    match lock.lists.no_writer.entry(bench, 0) {
         Some((_, mark)) => mark.is_marked(),
         None => false,
     }

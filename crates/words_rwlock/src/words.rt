@@ -277,6 +277,23 @@ impl Words {
         }
     }
 
+    /// Reads, if the state word is what somebody has `seen` there, with no writer's bit and below the limit: one exchange, with no look
+    /// of its own. Returns whether it reads.
+    #[inline]
+    pub fn read_from(&self, seat: &mut Seat, seen: u64) -> bool
+        requires table { seat.old.inner.table_id ≡ self.now.table }
+        requires idle { seat.old.inner.me.0.reads ≡ false }
+        ensures same { (seat.new.inner.table_id ≡ seat.old.inner.table_id) × (seat.new.inner.id ≡ seat.old.inner.id) }
+        ensures step { MatchBool result ((seat.new.inner.me ≡ (with_read seat.old.inner.me.0, seat.old.inner.me.1)) × (seen / 2 < self.now.readers)) (seat.new.inner.me ≡ seat.old.inner.me) }
+    {
+        if seen % 2 == 1 || seen / 2 >= self.readers_limit {
+            return false;
+        }
+        let shared = &self.table.shared;
+        let more = seen + 2;
+        shared.compare_exchange::<ReadsStep>(&mut seat.inner, STATE, seen, more) == seen
+    }
+
     /// Reads no more: one step. The last reader, whatever the writer's bit is, is to notify the one that waits for no readers.
     pub fn off(&self, seat: &mut Seat) -> Option<Owed>
         requires table { seat.old.inner.table_id ≡ self.now.table }
