@@ -1,12 +1,10 @@
-//! The mutex as its users meet it: shared by two threads, on an executor, cancelled, and owned by its guard; and what a user
-//! proves of the value that a guard lends. Each module is one example. The program runs all of them except [`read_twice`], which
-//! is only proved, and prints a line for each.
+//! The mutex as its users meet it: shared by two threads, on an executor, cancelled, and owned by its guard; and its other calls.
+//! Each module is one example. The program runs them all, and prints a line for each.
 
 mod calls;
 mod cancelled;
 mod executor;
 mod owned;
-mod read_twice;
 mod two_threads;
 
 use async_lock::{Mutex, Refusal};
@@ -49,7 +47,7 @@ where
     })
 }
 
-/// Runs each example except [`read_twice`], and prints a line for each. Returns whether each was run and printed.
+/// Runs each example, and prints a line for each. Returns whether each was run and printed.
 pub(crate) fn print_all<R>(rt: R) -> bool
 where
     R: Wait + Clock + RandomSource + AllocGlobal + Threads + Print + Sync + Copy + Drop,

@@ -1,10 +1,9 @@
 //! The once-cell as its users meet it: a value that the first thread makes and all others read. The program prints a line for
-//! each example.
+//! each example, that of `user_proofs` among them.
 
 mod calls;
 mod made_once;
 mod set_once;
-mod shown;
 
 use async_lock::Refusal;
 use std::alloc::AllocGlobal;
@@ -28,7 +27,7 @@ where
 {
     let sum = made_once::run(rt)?;
     let is_first = set_once::is_first_kept(rt)?;
-    let read = shown::run(rt)?;
+    let read = user_proofs::once_cell::run(rt)?;
     let is_so = calls::run(rt)?;
     Ok(Found {
         sum,

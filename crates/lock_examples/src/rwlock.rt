@@ -1,10 +1,9 @@
 //! The read-write lock as its users meet it: read by two threads at a time, upgraded without letting a writer in between, owned by
-//! its guard, round a cache that one refreshes, and with what a user proves of the values that its guards lend; and its other calls. Each module is
-//! one example. The program runs them all, and prints a line for each.
+//! its guard, and round a cache that one refreshes; and its other calls. Each module is one example. The program runs them all and
+//! the one of `user_proofs`, and prints a line for each.
 
 mod cache;
 mod calls;
-mod lent;
 mod owned;
 mod two_readers;
 mod upgraded;
@@ -37,7 +36,7 @@ where
     let second = upgraded::add_if_even(&lock, 1)?;
     let owned = owned::read(rt, 9)?;
     let (degrees, asked) = cache::run(rt)?;
-    let read_again = lent::run(rt, 5)?;
+    let read_again = user_proofs::rwlock::run(rt, 5)?;
     let is_as_shown = calls::run(rt)?;
     Ok(Results {
         sum,

@@ -5,8 +5,7 @@
 
 ghost use Rattle.std.specs.Prelude.{◌≡◌, true, IfOk, IfSome};
 
-use async_mutex::{Mutex, MutexGuard, MutexGuardArc};
-use lock_program::Refusal;
+use async_lock::{Mutex, MutexGuard, MutexGuardArc, Refusal};
 use std::alloc::AllocGlobal;
 use std::random::RandomSource;
 use std::sync::{Arc, Wait};

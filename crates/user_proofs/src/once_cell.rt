@@ -33,7 +33,7 @@ fn put_in<R: Wait + Drop>(cell: &OnceCell<u64, R>, number: u64) -> Option<u64>
 }
 
 /// Puts 5 in, and reads it twice.
-pub(crate) fn run<R>(rt: R) -> Result<Option<u64>, Refusal>
+pub fn run<R>(rt: R) -> Result<Option<u64>, Refusal>
 where
     R: Wait + AllocGlobal + Drop,
 {

@@ -120,7 +120,7 @@ where
 }
 
 /// Returns what is read again after it was written, or 0 if two reads differ.
-pub(crate) fn run<R>(rt: R, number: u64) -> Result<u64, Refusal>
+pub fn run<R>(rt: R, number: u64) -> Result<u64, Refusal>
 where
     R: Wait + Clock + RandomSource + AllocGlobal + Copy + Drop,
 {
