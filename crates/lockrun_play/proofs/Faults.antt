@@ -24,7 +24,7 @@ use Rattle.lockrun_play.specs.declared.script.TheConstants.{LIMIT}
 use Rattle.lockrun_play.specs.Faults.{status_of}
 use Rattle.lockrun_play.specs.Plays.{Plays, PlaysLine, IsBad, StopsAtBadLine, IsAtFault, Tells, TellsOfLine}
 use Rattle.lockrun_play.specs.Scripts.{IsLine, IsStartOfScript}
-use Rattle.lockrun_script.proofs.Texts.{Appends-more}
+use Rattle.lockrun_play.proofs.Texts.{Appends-more}
 use Rattle.lockrun_play.proofs.Plays.{Appends-nothing, none_after}
 
 -- no command's name begins with 35, the first byte of a comment

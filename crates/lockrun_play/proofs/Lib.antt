@@ -1,3 +1,5 @@
+pub mod Texts
+pub mod StateTexts
 pub mod Reading
 pub mod Scripts
 pub mod Plays

@@ -18,7 +18,7 @@ use Rattle.lock_program.specs.declared.refusal.Refusal.{Refusal}
 use Rattle.lock_program.specs.declared.refusal.Refusal.TheVariants.{Permits}
 use Rattle.lockrun_play.specs.Openings.{world_of, HasTooManyPermits, IsRefusedFor}
 use Rattle.lockrun_play.specs.Plays.{Leads, Makes, Plays, PlaysLine, IsPlayed}
-use Rattle.lockrun_script.proofs.Texts.{Appends-more}
+use Rattle.lockrun_play.proofs.Texts.{Appends-more}
 
 -- of nothing
 pub Appends-nothing : (a : Option (List ℕ)) → Appends a a []

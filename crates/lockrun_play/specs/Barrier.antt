@@ -3,10 +3,10 @@ use Rattle.std.specs.Prelude.{ℕ, List, ◌++◌, codes, is_some}
 use Rattle.world_base.specs.Rosters.{how_many}
 use Rattle.world_barrier.specs.Numbers.{generations_of, count_of}
 use Rattle.world_barrier.specs.State.{World}
-use Rattle.lockrun_script.specs.declared.played.Reply.{Reply}
-use Rattle.lockrun_script.specs.declared.played.Reply.TheVariants.{NotPossible}
-use Rattle.lockrun_script.specs.Answers.{list_text}
-use Rattle.lockrun_script.specs.States.{barrier_text}
+use Rattle.lockrun_play.specs.declared.played.Reply.{Reply}
+use Rattle.lockrun_play.specs.declared.played.Reply.TheVariants.{NotPossible}
+use Rattle.lockrun_play.specs.Answers.{list_text}
+use Rattle.lockrun_play.specs.States.{barrier_text}
 
 -- a barrier has no value
 abbrev pub put_gives : World → ℕ → Reply × World

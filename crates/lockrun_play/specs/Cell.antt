@@ -6,10 +6,10 @@ use Rattle.world_once_cell.specs.program.Words.{value_in}
 use Rattle.world_once_cell.specs.State.{World}
 use Rattle.world_once_cell.specs.Laws.{is_at_rest}
 use Rattle.world_once_cell.specs.Lending.{world_with}
-use Rattle.lockrun_script.specs.declared.played.Reply.{Reply}
-use Rattle.lockrun_script.specs.declared.played.Reply.TheVariants.{Done, Nothing, Value, NotPossible}
-use Rattle.lockrun_script.specs.Answers.{list_text}
-use Rattle.lockrun_script.specs.States.{cell_text}
+use Rattle.lockrun_play.specs.declared.played.Reply.{Reply}
+use Rattle.lockrun_play.specs.declared.played.Reply.TheVariants.{Done, Nothing, Value, NotPossible}
+use Rattle.lockrun_play.specs.Answers.{list_text}
+use Rattle.lockrun_play.specs.States.{cell_text}
 
 -- a value takes the place of the one in the cell, if there is one, exactly where nobody is inside a call
 abbrev pub put_in : Option ℕ → World → ℕ → Reply × World

@@ -1,3 +1,6 @@
+pub mod Answers
+pub mod Requests
+pub mod States
 pub mod Openings
 pub mod Mutex
 pub mod RwLock

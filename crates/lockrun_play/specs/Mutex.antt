@@ -4,10 +4,10 @@ use Rattle.world_base.specs.Rosters.{how_many}
 use Rattle.world_mutex.specs.State.{World}
 use Rattle.world_mutex.specs.Laws.{is_at_rest}
 use Rattle.world_mutex.specs.Lending.{world_with}
-use Rattle.lockrun_script.specs.declared.played.Reply.{Reply}
-use Rattle.lockrun_script.specs.declared.played.Reply.TheVariants.{Done, NotPossible}
-use Rattle.lockrun_script.specs.Answers.{list_text}
-use Rattle.lockrun_script.specs.States.{mutex_text}
+use Rattle.lockrun_play.specs.declared.played.Reply.{Reply}
+use Rattle.lockrun_play.specs.declared.played.Reply.TheVariants.{Done, NotPossible}
+use Rattle.lockrun_play.specs.Answers.{list_text}
+use Rattle.lockrun_play.specs.States.{mutex_text}
 
 -- a value is put exactly where nobody is inside a call
 abbrev pub put_gives : World → ℕ → Reply × World

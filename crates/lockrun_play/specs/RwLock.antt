@@ -5,12 +5,12 @@ use Rattle.world_base.specs.Rosters.{how_many}
 use Rattle.world_rwlock.specs.State.{World, how_many_read, is_nobody, is_marked}
 use Rattle.world_rwlock.specs.Laws.{is_at_rest}
 use Rattle.world_rwlock.specs.Lending.{world_with}
-use Rattle.lockrun_script.specs.declared.played.Reply.{Reply}
-use Rattle.lockrun_script.specs.declared.played.Reply.TheVariants.{Done, NotPossible}
+use Rattle.lockrun_play.specs.declared.played.Reply.{Reply}
+use Rattle.lockrun_play.specs.declared.played.Reply.TheVariants.{Done, NotPossible}
 use Rattle.lockrun_play.specs.declared.played.rwlock.Which.{Which}
 use Rattle.lockrun_play.specs.declared.played.rwlock.Which.TheVariants as which
-use Rattle.lockrun_script.specs.Answers.{list_text}
-use Rattle.lockrun_script.specs.States.{rwlock_text}
+use Rattle.lockrun_play.specs.Answers.{list_text}
+use Rattle.lockrun_play.specs.States.{rwlock_text}
 
 -- a value is put exactly where nobody is inside a call
 abbrev pub put_gives : World → ℕ → Reply × World

@@ -1,10 +1,10 @@
 -- What a script asks of a semaphore beyond its moves.
 use Rattle.std.specs.Prelude.{ℕ, List, ◌++◌, codes}
 use Rattle.world_semaphore.specs.State.{World, available}
-use Rattle.lockrun_script.specs.declared.played.Reply.{Reply}
-use Rattle.lockrun_script.specs.declared.played.Reply.TheVariants.{NotPossible}
-use Rattle.lockrun_script.specs.Answers.{list_text}
-use Rattle.lockrun_script.specs.States.{semaphore_text}
+use Rattle.lockrun_play.specs.declared.played.Reply.{Reply}
+use Rattle.lockrun_play.specs.declared.played.Reply.TheVariants.{NotPossible}
+use Rattle.lockrun_play.specs.Answers.{list_text}
+use Rattle.lockrun_play.specs.States.{semaphore_text}
 
 -- a semaphore has no value
 abbrev pub put_gives : World → ℕ → Reply × World

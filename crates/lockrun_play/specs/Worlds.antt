@@ -28,7 +28,7 @@ use Rattle.lockrun_play.specs.RwLock as rwlock_played
 use Rattle.lockrun_play.specs.Semaphore as semaphore_played
 use Rattle.lockrun_play.specs.Cell as cell_played
 use Rattle.lockrun_play.specs.Barrier as barrier_played
-use Rattle.lockrun_script.specs.Requests.{Does}
+use Rattle.lockrun_play.specs.Requests.{Does}
 
 -- what is asked for leads to a World of the same lock, and is answered by this text
 abbrev pub CarriesOut : Request → World → World → List ℕ → Type 0

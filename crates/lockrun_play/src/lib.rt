@@ -1,11 +1,14 @@
 //! A script's whole run.
 //!
-//! [`world`] and [`played`] are the Worlds that a script is played on, and what each request does to them. [`script`] is a script's whole
-//! run, over any reader and writers; [`task`] is what the program's arguments ask for, and [`fault`] what ends a run.
+//! [`script`] is a script's whole run, over any reader and writers. [`world`] is the World that it is played on, [`played`] what a request
+//! does to a World of any lock, and [`answer`] and [`states`] are the texts of each answer, list and state. [`task`] is what the
+//! program's arguments ask for, and [`fault`] what ends a run.
 #![tactic(auto)]
 
+pub mod answer;
 pub mod fault;
 pub mod played;
 pub mod script;
+pub mod states;
 pub mod task;
 pub mod world;

@@ -3,16 +3,16 @@
 ghost use Rattle.std.specs.Prelude.{◌≡◌, ℕ, List, IfOk, IfErr};
 ghost use Rattle.lockrun_script.specs.declared.command.Model.TheVariants as model;
 ghost use Rattle.lock_program.specs.declared.refusal.Refusal.{Refusal};
-ghost use Rattle.lockrun_script.specs.Answers.{Prints};
+ghost use Rattle.lockrun_play.specs.Answers.{Prints};
 ghost use Rattle.lockrun_play.specs.Openings.{world_of, HasTooManyPermits, IsRefusedFor};
 ghost use Rattle.lockrun_play.specs.Worlds.{CarriesOut};
 
+use crate::played;
 use lock_core::mutex::MOST_STARVED;
 use lock_core::rwlock::{MOST_READERS, MOST_STARVED_FOR_THE_TURN};
 use lock_core::{Refusal, barrier, cell, mutex, rwlock, semaphore};
 use lockrun_script::command::{Model, Request};
 use lockrun_script::limits::limit;
-use lockrun_script::played;
 use std::alloc::Global;
 use std::io;
 use std::io::Write;

@@ -4,5 +4,3 @@ pub mod Numbers
 pub mod Names
 pub mod Calls
 pub mod Asks
-pub mod Texts
-pub mod StateTexts

@@ -3,18 +3,17 @@
 ghost use Rattle.std.specs.Prelude.{◌≡◌, ◌++◌, OnOk};
 ghost use Rattle.std.specs.Io.KnownBytes.{Appends};
 ghost use Rattle.world_barrier.specs.State.{list_in};
-ghost use Rattle.lockrun_script.specs.Answers.{list_text, Prints};
+ghost use Rattle.lockrun_play.specs.Answers.{list_text, Prints};
 
-use super::Player;
+use super::{Played, Reply};
+use crate::answer::{self, Listed};
+use crate::states;
 use lock_core::barrier::{ListName, World};
 use lock_event::Entry;
-use lockrun_script::answer::{self, Listed};
-use lockrun_script::played::{Played, Reply};
-use lockrun_script::states;
 use std::io;
 use std::io::Write;
 
-impl Played<Player> for World {
+impl Played for World {
     ghost use Rattle.lockrun_play.specs.Barrier as barrier;
 
     ghost put_gives = { barrier.put_gives };

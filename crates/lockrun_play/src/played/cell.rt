@@ -3,19 +3,18 @@
 ghost use Rattle.std.specs.Prelude.{◌≡◌, ◌++◌, codes, OnOk};
 ghost use Rattle.std.specs.Io.KnownBytes.{Appends};
 ghost use Rattle.world_once_cell.specs.State.{list_in};
-ghost use Rattle.lockrun_script.specs.Answers.{list_text, Prints};
+ghost use Rattle.lockrun_play.specs.Answers.{list_text, Prints};
 ghost use Rattle.lockrun_play.specs.Cell.{content_text};
 
-use super::Player;
+use super::{Played, Reply};
+use crate::answer::{self, Listed};
+use crate::states;
 use lock_core::cell::{Content, ListName, World};
 use lock_event::Entry;
-use lockrun_script::answer::{self, Listed};
-use lockrun_script::played::{Played, Reply};
-use lockrun_script::states;
 use std::io;
 use std::io::Write;
 
-impl Played<Player> for World {
+impl Played for World {
     ghost use Rattle.lockrun_play.specs.Cell as cell;
 
     ghost put_gives = { cell.put_gives };

@@ -1,18 +1,17 @@
 //! The mutex's World, as a script plays on it.
 
 ghost use Rattle.std.specs.Prelude.{◌≡◌};
-ghost use Rattle.lockrun_script.specs.Answers.{Prints};
+ghost use Rattle.lockrun_play.specs.Answers.{Prints};
 
-use super::Player;
+use super::{Played, Reply};
+use crate::answer::{self, Listed};
+use crate::states;
 use lock_core::mutex::World;
 use lock_event::Entry;
-use lockrun_script::answer::{self, Listed};
-use lockrun_script::played::{Played, Reply};
-use lockrun_script::states;
 use std::io;
 use std::io::Write;
 
-impl Played<Player> for World {
+impl Played for World {
     ghost use Rattle.lockrun_play.specs.Mutex as mutex;
 
     ghost put_gives = { mutex.put_gives };

@@ -2,19 +2,18 @@
 
 ghost use Rattle.std.specs.Prelude.{◌≡◌, ◌++◌, OnOk};
 ghost use Rattle.std.specs.Io.KnownBytes.{Appends};
-ghost use Rattle.lockrun_script.specs.Answers.{list_text, Prints};
+ghost use Rattle.lockrun_play.specs.Answers.{list_text, Prints};
 ghost use Rattle.lockrun_play.specs.RwLock.{list_of};
 
-use super::Player;
+use super::{Played, Reply};
+use crate::answer::{self, Listed};
+use crate::states;
 use lock_core::rwlock::World;
 use lock_event::Entry;
-use lockrun_script::answer::{self, Listed};
-use lockrun_script::played::{Played, Reply};
-use lockrun_script::states;
 use std::io;
 use std::io::Write;
 
-impl Played<Player> for World {
+impl Played for World {
     ghost use Rattle.lockrun_play.specs.RwLock as rwlock;
 
     ghost put_gives = { rwlock.put_gives };

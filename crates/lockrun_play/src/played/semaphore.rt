@@ -1,18 +1,17 @@
 //! The semaphore's World, as a script plays on it.
 
 ghost use Rattle.std.specs.Prelude.{◌≡◌};
-ghost use Rattle.lockrun_script.specs.Answers.{Prints};
+ghost use Rattle.lockrun_play.specs.Answers.{Prints};
 
-use super::Player;
+use super::{Played, Reply};
+use crate::answer::{self, Listed};
+use crate::states;
 use lock_core::semaphore::World;
 use lock_event::Entry;
-use lockrun_script::answer::{self, Listed};
-use lockrun_script::played::{Played, Reply};
-use lockrun_script::states;
 use std::io;
 use std::io::Write;
 
-impl Played<Player> for World {
+impl Played for World {
     ghost use Rattle.lockrun_play.specs.Semaphore as semaphore;
 
     ghost put_gives = { semaphore.put_gives };

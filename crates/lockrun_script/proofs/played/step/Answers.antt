@@ -1,8 +1,0 @@
-use Rattle.std.proofs.Common.{◌≡◌, ℕ, rules}
-use Rattle.lockrun_script.proofs.played.step.Goals as goal
-
--- The move is that of this party.
-pub returns-in-Ok-clause-legal : goal.returns-in-Ok-clause-legal
-returns-in-Ok-clause-legal g c = λ small.
-    let same : ◌≡◌ {A = ℕ} c.args.party c.in-Ok.party = search rules in
-    rw same c.step.ensures

@@ -1,5 +1,0 @@
-use Rattle.lockrun_script.proofs.StateTexts.{semaphore_is}
-use Rattle.lockrun_script.proofs.states.write_semaphore.Goals as goal
-
-pub returns : goal.returns
-returns g c = rw (← semaphore_is c.args.available c.args.limit) c.write.ensures.bytes
