@@ -4,12 +4,16 @@
 # went on when it was repeated. Prints how often each call was refused. Status 1 at a run that does otherwise, or where a call that
 # takes memory was never refused.
 #
+# Its calls that need no thread are tried by bench/check-refusals.sh too. Which call of a thread an allocation is made by differs from run
+# to run, so it is no check of .ci/run.
+#
 # Run it at the top of the repository, with `rt` on the PATH: bench/refuse-calls.sh. It takes some five minutes.
 set -eu
 
 # More allocations than the program makes before its threads start, and some of those that its threads make.
 most=500
 crate=$(cd crates/refused_memory && pwd)
+calls=$(pwd)/bench/refused-calls.txt
 work=$(mktemp -d)
 trap 'rm -rf "$work"' EXIT
 mkdir "$work/cases"
@@ -38,21 +42,7 @@ while [ "$count" -le "$most" ]; do
     count=$((count + 1))
 done
 sed -n 's/^refused: //p' "$work/log" | sort | uniq -c
-for call in Mutex::new Mutex::lock Mutex::lock_arc RwLock::new 'RwLock::read, a writer' 'RwLock::write, a reader' \
-    'RwLock::upgradable_read, a writer' RwLockUpgradableReadGuard::upgrade 'RwLock::read_arc, a writer' \
-    'RwLock::write_arc, a reader' 'RwLock::upgradable_read_arc, a writer' RwLockUpgradableReadGuardArc::upgrade \
-    Semaphore::new Semaphore::acquire 'Semaphore::acquire_many, first' Semaphore::acquire_arc \
-    'Semaphore::acquire_many_arc, first' OnceCell::new OnceCell::with_value OnceCell::wait OnceCell::set \
-    'OnceCell::get_or_init, first' 'OnceCell::get_or_try_init, first' OnceCell::set_blocking OnceCell::get_or_init_blocking \
-    'OnceCell::get_or_try_init_blocking, failing' 'Semaphore::acquire_blocking, none left' \
-    'Semaphore::acquire_many_blocking, none left' 'Semaphore::acquire_arc_blocking, none left' \
-    'Semaphore::acquire_many_arc_blocking, none left' 'OnceCell::wait_blocking, an empty cell' \
-    'RwLock::read_blocking, a writer' 'RwLock::upgradable_read_blocking, a writer' 'RwLock::write_blocking, a writer' \
-    RwLockUpgradableReadGuard::upgrade_blocking 'RwLock::read_arc_blocking, a writer' \
-    'RwLock::upgradable_read_arc_blocking, a writer' 'RwLock::write_arc_blocking, a writer' \
-    RwLockUpgradableReadGuardArc::upgrade_blocking 'OnceCell::set_blocking, a maker' \
-    'OnceCell::get_or_init_blocking, a maker' 'OnceCell::get_or_try_init_blocking, a maker' Barrier::new \
-    'Barrier::wait, the first' Barrier::wait_blocking; do
+grep -v '^#\|^$' "$calls" | while read -r call; do
     grep -qxF "refused: $call" "$work/log" || {
         echo "never refused: $call" >&2
         exit 1
