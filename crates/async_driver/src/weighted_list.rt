@@ -34,6 +34,14 @@ impl WeightedListed {
     pub fn id(&self) -> EntryId {
         self.id
     }
+
+    /// Returns for how many units the entry waits.
+    #[inline]
+    pub fn weight(&self) -> u64
+        ensures { result ≡ self.now.weight }
+    {
+        self.weight
+    }
 }
 
 /// What an entry of a [`WeightedList`] has heard.
@@ -265,16 +273,55 @@ impl WeightedList<Waker> {
         ensures waits { OnWaiting result (λ entry. IsKept cx.new entry.keeps × Covers cx.new (λ s. s ≡ source.now.id)) }
         ensures kept { Keeps cx.old cx.new }
     {
+        self.poll_entry(rt, entry, source, cx, false)
+    }
+
+    /// Polls an entry that keeps no waker yet, as [`WeightedList::poll`]: a waker is made, and the list is asked once. If the entry is
+    /// notified that waker is dropped, by which the kit wakes its task once more.
+    pub fn poll_first<R: Wait>(
+        &self,
+        rt: &R,
+        entry: WeightedListed,
+        source: &Source,
+        cx: &mut Context<'_>,
+    ) -> WeightedHeard
+        requires list { entry.list.id ≡ self.now.name.id }
+        requires first { entry.keeps.by ≡ None }
+        ensures list { IsOf self.now.name.id entry.weight result }
+        ensures waits { OnWaiting result (λ entry. IsKept cx.new entry.keeps × Covers cx.new (λ s. s ≡ source.now.id)) }
+        ensures kept { Keeps cx.old cx.new }
+    {
+        self.poll_entry(rt, entry, source, cx, true)
+    }
+
+    #[inline(always)]
+    fn poll_entry<R: Wait>(
+        &self,
+        rt: &R,
+        entry: WeightedListed,
+        source: &Source,
+        cx: &mut Context<'_>,
+        is_first: bool,
+    ) -> WeightedHeard
+        requires { entry.list.id ≡ self.now.name.id }
+        ensures list { IsOf self.now.name.id entry.weight result }
+        ensures waits { OnWaiting result (λ entry. IsKept cx.new entry.keeps × Covers cx.new (λ s. s ≡ source.now.id)) }
+        ensures kept { Keeps cx.old cx.new }
+    {
         let WeightedListed {
             id,
             list,
             keeps: _,
             weight,
         } = entry;
-        let polled = match &mut *locked(&self.entries, rt) {
-            Some(entries) => poll_locked(entries, &self.is_listed, id, source, cx),
-            None => Polled::Notified(None),
+        let (polled, unused) = match &mut *locked(&self.entries, rt) {
+            Some(entries) if is_first => {
+                poll_first_locked(entries, &self.is_listed, id, source, cx)
+            }
+            Some(entries) => (poll_locked(entries, &self.is_listed, id, source, cx), None),
+            None => (Polled::Notified(None), None),
         };
+        drop(unused);
         match polled {
             Polled::Waiting(keeps) => WeightedHeard::Waiting(WeightedListed {
                 id,
@@ -375,5 +422,30 @@ fn poll_locked(
         Asked::Waiting { .. } => Polled::Waiting(keeps),
         Asked::Notified { .. } => unreachable!(),
         Asked::Unlisted { .. } => unreachable!(),
+    }
+}
+
+// The same of an entry that keeps no waker yet: one is made, and the list asked once. What the entry doesn't keep is handed out, to be
+// dropped when the list's lock has been released.
+fn poll_first_locked(
+    entries: &mut WeightedEvent<Waker>,
+    is_listed: &Flag,
+    id: EntryId,
+    source: &Source,
+    cx: &mut Context<'_>,
+) -> (Polled, Option<Waker>)
+    ensures waits { OnPolled result.0 (λ keeps. KeepsAt id keeps entries.new.entries × IsKept cx.new keeps × Covers cx.new (λ s. s ≡ source.now.id)) }
+    ensures kept { Keeps cx.old cx.new }
+{
+    let mut made = None;
+    let _: Poll<()> = cx.register(source, &mut made);
+    let keeps = Kept::of(&made);
+    match entries.ask(id, made) {
+        Asked::Waiting { kept } => (Polled::Waiting(keeps), kept),
+        Asked::Notified { kept, unused } => {
+            is_listed.follow_weighted(entries);
+            (Polled::Notified(kept), unused)
+        }
+        Asked::Unlisted { unused } => (Polled::Notified(unused), None),
     }
 }

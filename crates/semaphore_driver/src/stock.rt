@@ -266,7 +266,7 @@ impl Stock {
         duty: &mut Option<Duty>,
     ) -> Result<WeightedListed, Memory>
         requires list { IsOf self.now.list duty.old }
-        ensures joined { IfOk result (λ entry. (entry.list.id ≡ self.now.list) × (entry.weight ≡ permits) × (seen_of duty.new ≡ unseen (seen_of duty.old))) }
+        ensures joined { IfOk result (λ entry. (entry.list.id ≡ self.now.list) × (entry.weight ≡ permits) × (entry.keeps.by ≡ None) × (seen_of duty.new ≡ unseen (seen_of duty.old))) }
         ensures refused { IfErr result (λ _. duty.new ≡ duty.old) }
         ensures list { IsOf self.now.list duty.new }
     {
@@ -300,6 +300,28 @@ impl Stock {
                 self.told(owed, duty);
                 None
             }
+        }
+    }
+
+    /// Polls an entry that has joined and keeps no waker yet, for a party that has no duty, as [`Stock::poll`]: the entry if it waits,
+    /// and else the duty of its party.
+    #[inline]
+    pub fn poll_first<R: Wait>(
+        &self,
+        rt: &R,
+        entry: WeightedListed,
+        source: &Source,
+        cx: &mut Context<'_>,
+    ) -> Result<WeightedListed, Duty>
+        requires entry { entry.list.id ≡ self.now.list }
+        requires first { entry.keeps.by ≡ None }
+        ensures waits { IfOk result (λ waiting. (waiting.list.id ≡ self.now.list) × (waiting.weight ≡ entry.weight) × IsKept cx.new waiting.keeps × Covers cx.new (λ s. s ≡ source.now.id)) }
+        ensures told { IfErr result (λ duty. (duty.owed.list.id ≡ self.now.list) × (duty.seen ≡ None)) }
+        ensures kept { Keeps cx.old cx.new }
+    {
+        match self.list.poll_first(rt, entry, source, cx) {
+            WeightedHeard::Waiting(waiting) => Ok(waiting),
+            WeightedHeard::Notified(owed) => Err(Duty { owed, seen: None }),
         }
     }
 

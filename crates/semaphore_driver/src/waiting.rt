@@ -1,13 +1,14 @@
 //! Polls of a future of a semaphore, and what a dropped one gives back.
 
-ghost use Rattle.std.specs.Prelude.{◌≡◌, ℕ, Some, None, IfSome};
+ghost use Rattle.std.specs.Prelude.{◌≡◌, ℕ, false, true, Some, None, IfSome};
 ghost use Rattle.futures.specs.Task.{Keeps};
 ghost use Rattle.lock_program.specs.declared.end.End.TheVariants as ends;
 ghost use Rattle.lock_program.specs.declared.end.Next.TheVariants as next;
-ghost use Rattle.semaphore_driver.specs.Parties.{EndsAt, IfPending, IsReceipt, Stands};
+ghost use Rattle.semaphore_driver.specs.Parties.{EndsAt, IfPending, IsFor, IsPolling, IsReceipt, Stands, having, having_at_place};
 ghost use Rattle.lock_program.specs.declared.refusal.Refusal.TheVariants as refusals;
 ghost use Rattle.semaphore_driver.specs.Polls.{OnOutcome, WaitsFor};
 ghost use Rattle.semaphore_driver.specs.Semaphores.{Has};
+ghost use Rattle.semaphore_driver.specs.Straight.{OnTried};
 ghost use Rattle.semaphore_driver.specs.Table.{CanPoll};
 ghost use Rattle.sync_program.specs.Permits.{action_of, next_of, start_of};
 ghost use Rattle.sync_program.specs.declared.permits.Action.TheVariants as does;
@@ -16,16 +17,17 @@ ghost use Rattle.sync_program.specs.declared.permits.Place.TheVariants as at;
 ghost use Rattle.sync_program.specs.declared.permits.Position.TheVariants as stands;
 ghost use Rattle.sync_program.specs.declared.permits.SemaphoreCall.TheVariants as calls;
 
-use crate::carries::PollFor;
 use crate::party::PermitParty;
 use crate::raw::RawSemaphore;
+use crate::stock::Duty;
+use crate::straight::Tried;
 use async_driver::{Carries, WeightedListed, nothing, put};
 use futures::task::Context;
 use lock_program::{End, Refusal};
 use std::sync::Wait;
 use std::time::Clock;
-use sync_program::permits::Position;
-use words_semaphore::Seat;
+use sync_program::permits::{Place, Position};
+use words_semaphore::{Seat, Taking};
 
 /// What a party keeps that waits between two polls: its entry, and its seat, which has nothing. It has no `Drop`: a poll goes on
 /// with it, or a cancel ends it.
@@ -77,35 +79,12 @@ impl RawSemaphore {
         }
     }
 
-    /// Polls a party that stands at `position`, until the poll ends: how it ends, and where the party stands then (`ended`),
-    /// with what it has there (`stands`).
-    ///
-    /// Pending, the party has an entry for its permits in the semaphore's list, which keeps a waker of the task that polls, and
-    /// the task has registered with the semaphore's source (`pending`).
-    pub fn poll<R: Wait + Clock>(
-        &self,
-        rt: &R,
-        cx: &mut Context<'_>,
-        party: &mut PermitParty,
-        position: Position,
-    ) -> (End, Position)
-        requires stands { Stands self.now party.old position }
-        requires begins { CanPoll position }
-        ensures stands { Stands self.now party.new result.1 }
-        ensures permits { party.new.permits ≡ party.old.permits }
-        ensures ended { EndsAt result.0 result.1 }
-        ensures pending { IfPending result.0 (IsReceipt self.now party.new.permits cx.new party.new.entry) }
-        ensures kept { Keeps cx.old cx.new }
-    {
-        let call = PollFor {
-            permits: party.permits,
-        };
-        let (end, position) = party.call(self, rt, cx, call, position);
-        (end, party.pass_on(self, rt, position))
-    }
-
     /// Polls a future for so many permits, with what its party keeps while it waits: nothing before the first poll, after one
     /// that was refused, and after the last.
+    ///
+    /// What most polls come to are few rows of the program's table, and their actions stand here in order. Which rows they are, `first_rows`
+    /// and `later_rows` say by contract; that they are carried out so, duties and seats say in part, and tests for the rest.
+    /// Whatever else a poll comes to goes on by the driver.
     pub fn poll_waiting<R: Wait + Clock>(
         &self,
         rt: &R,
@@ -118,11 +97,241 @@ impl RawSemaphore {
         ensures outcome { OnOutcome self.now permits cx.new result waiting.new }
         ensures kept { Keeps cx.old cx.new }
     {
-        let (mut party, position) = match waiting.take() {
-            Some(waiting) => (waiting.into_party(permits), Position::Waiting(permits)),
-            None => (self.first(permits), Position::Unlisted(permits)),
+        match waiting.take() {
+            Some(kept) => self.poll_again(rt, cx, permits, kept, waiting),
+            None => self.poll_first(rt, cx, permits, waiting),
+        }
+    }
+
+    // A poll of a future that doesn't wait yet: it looks, joins the list, looks again, and asks.
+    #[inline(always)]
+    fn poll_first<R: Wait + Clock>(
+        &self,
+        rt: &R,
+        cx: &mut Context<'_>,
+        permits: u64,
+        waiting: &mut Option<Waiting>,
+    ) -> Outcome
+        requires { waiting.old ≡ None }
+        ensures waits { IfSome waiting.new (WaitsFor self.now permits) }
+        ensures outcome { OnOutcome self.now permits cx.new result waiting.new }
+        ensures kept { Keeps cx.old cx.new }
+    {
+        first_rows();
+        let seat = match self.try_once(self.stock.sit(), permits) {
+            Tried::Got(seat) => return Outcome::Got(seat),
+            Tried::Short(seat) => seat,
+            Tried::Changed(seat) => return self.look_anew(rt, cx, permits, seat, waiting),
         };
-        let (end, position) = self.poll(rt, cx, &mut party, position);
+        let mut duty = None;
+        let joined = self.stock.join(rt, permits, &mut duty);
+        nothing(duty);
+        let Ok(entry) = joined else {
+            self.stock.rise(seat);
+            return Outcome::Refused(Refusal::Memory);
+        };
+        let seat = match self.try_once(seat, permits) {
+            Tried::Got(seat) => return Outcome::Got(self.leave_with(rt, permits, seat, entry)),
+            Tried::Short(seat) => seat,
+            Tried::Changed(seat) => {
+                let place = Place::Take {
+                    permits,
+                    listed: true,
+                    told: false,
+                };
+                return self.look_again(rt, cx, Waiting { seat, entry }, place, waiting);
+            }
+        };
+        match self.stock.poll_first(rt, entry, &self.source, cx) {
+            Ok(entry) => {
+                put(waiting, Waiting { seat, entry });
+                Outcome::Waits
+            }
+            Err(duty) => self.go_on_told(rt, cx, permits, seat, duty, waiting),
+        }
+    }
+
+    // A poll of a future that waits: it looks, and leaves the list with the permits, or asks.
+    #[inline(always)]
+    fn poll_again<R: Wait + Clock>(
+        &self,
+        rt: &R,
+        cx: &mut Context<'_>,
+        permits: u64,
+        kept: Waiting,
+        waiting: &mut Option<Waiting>,
+    ) -> Outcome
+        requires kept { WaitsFor self.now permits kept }
+        requires none { waiting.old ≡ None }
+        ensures waits { IfSome waiting.new (WaitsFor self.now permits) }
+        ensures outcome { OnOutcome self.now permits cx.new result waiting.new }
+        ensures kept { Keeps cx.old cx.new }
+    {
+        later_rows();
+        let Waiting { seat, entry } = kept;
+        let seat = match self.try_once(seat, permits) {
+            Tried::Got(seat) => return Outcome::Got(self.leave_with(rt, permits, seat, entry)),
+            Tried::Short(seat) => seat,
+            Tried::Changed(seat) => {
+                let place = Place::Retake(permits);
+                return self.look_again(rt, cx, Waiting { seat, entry }, place, waiting);
+            }
+        };
+        let mut duty = None;
+        match self.stock.poll(rt, entry, &self.source, cx, &mut duty) {
+            Some(entry) => {
+                nothing(duty);
+                put(waiting, Waiting { seat, entry });
+                Outcome::Waits
+            }
+            None => {
+                let Some(duty) = duty else { unreachable!() };
+                self.go_on_told(rt, cx, permits, seat, duty, waiting)
+            }
+        }
+    }
+
+    // One try, by a seat that has nothing, of a party that has no duty.
+    #[inline(always)]
+    fn try_once(&self, seat: Seat, permits: u64) -> Tried
+        requires { Has self.now 0 seat }
+        ensures { OnTried self.now permits result }
+    {
+        let mut seat = seat;
+        let mut duty = None;
+        let taking = self.stock.take(&mut seat, permits, &mut duty);
+        nothing(duty);
+        match taking {
+            Taking::Left(_) => Tried::Got(seat),
+            Taking::Short(_) => Tried::Short(seat),
+            Taking::Changed => Tried::Changed(seat),
+        }
+    }
+
+    // A party got its permits while it stands in the list: it leaves, and if its entry was notified it notifies the first for whom those
+    // that are left are enough. The seat comes back.
+    #[inline(always)]
+    fn leave_with<R: Wait>(&self, rt: &R, permits: u64, seat: Seat, entry: WeightedListed) -> Seat
+        requires has { Has self.now permits seat }
+        requires entry { entry.list.id ≡ self.now.list }
+        ensures { Has self.now permits result }
+    {
+        let _ = permits;
+        let mut seat = seat;
+        let mut duty = None;
+        if self.stock.remove(rt, entry, &mut duty) {
+            let left = self.stock.load(&mut seat, &mut duty);
+            if let Some(duty) = duty.take() {
+                self.stock.fit(rt, &seat, left, duty);
+            }
+        }
+        nothing(duty);
+        seat
+    }
+
+    // The word changed during a first look. This stands apart, as the next two do: a poll that doesn't come here has no room to clear for
+    // a party.
+    #[inline(never)]
+    fn look_anew<R: Wait + Clock>(
+        &self,
+        rt: &R,
+        cx: &mut Context<'_>,
+        permits: u64,
+        seat: Seat,
+        waiting: &mut Option<Waiting>,
+    ) -> Outcome
+        requires has { Has self.now 0 seat }
+        requires none { waiting.old ≡ None }
+        ensures waits { IfSome waiting.new (WaitsFor self.now permits) }
+        ensures outcome { OnOutcome self.now permits cx.new result waiting.new }
+        ensures kept { Keeps cx.old cx.new }
+    {
+        let party = PermitParty {
+            permits,
+            seat,
+            entry: None,
+            duty: None,
+        };
+        let place = Place::Take {
+            permits,
+            listed: false,
+            told: false,
+        };
+        self.drive(rt, cx, party, place, waiting)
+    }
+
+    // The word changed while a party looked that stands in the list: it looks again, at this place.
+    #[inline(never)]
+    fn look_again<R: Wait + Clock>(
+        &self,
+        rt: &R,
+        cx: &mut Context<'_>,
+        kept: Waiting,
+        place: Place,
+        waiting: &mut Option<Waiting>,
+    ) -> Outcome
+        requires kept { WaitsFor self.now kept.entry.weight kept }
+        requires place { (having_at_place place ≡ having 0 true None) × IsPolling (stands.At place) × IsFor kept.entry.weight (stands.At place) }
+        requires none { waiting.old ≡ None }
+        ensures waits { IfSome waiting.new (WaitsFor self.now kept.entry.weight) }
+        ensures outcome { OnOutcome self.now kept.entry.weight cx.new result waiting.new }
+        ensures kept { Keeps cx.old cx.new }
+    {
+        let permits = kept.entry.weight();
+        self.drive(rt, cx, kept.into_party(permits), place, waiting)
+    }
+
+    // A party was told: its entry has left the list, and it looks, and hands on what is left.
+    #[inline(never)]
+    fn go_on_told<R: Wait + Clock>(
+        &self,
+        rt: &R,
+        cx: &mut Context<'_>,
+        permits: u64,
+        seat: Seat,
+        duty: Duty,
+        waiting: &mut Option<Waiting>,
+    ) -> Outcome
+        requires has { Has self.now 0 seat }
+        requires duty { (duty.owed.list.id ≡ self.now.list) × (duty.seen ≡ None) }
+        requires none { waiting.old ≡ None }
+        ensures waits { IfSome waiting.new (WaitsFor self.now permits) }
+        ensures outcome { OnOutcome self.now permits cx.new result waiting.new }
+        ensures kept { Keeps cx.old cx.new }
+    {
+        let party = PermitParty {
+            permits,
+            seat,
+            entry: None,
+            duty: Some(duty),
+        };
+        let place = Place::Take {
+            permits,
+            listed: false,
+            told: true,
+        };
+        self.drive(rt, cx, party, place, waiting)
+    }
+
+    // Goes on by the driver, from a place of a poll on, until the poll ends.
+    fn drive<R: Wait + Clock>(
+        &self,
+        rt: &R,
+        cx: &mut Context<'_>,
+        party: PermitParty,
+        place: Place,
+        waiting: &mut Option<Waiting>,
+    ) -> Outcome
+        requires stands { Stands self.now party (stands.At place) }
+        requires polls { IsPolling (stands.At place) }
+        requires none { waiting.old ≡ None }
+        ensures waits { IfSome waiting.new (WaitsFor self.now party.permits) }
+        ensures outcome { OnOutcome self.now party.permits cx.new result waiting.new }
+        ensures kept { Keeps cx.old cx.new }
+    {
+        let mut party = party;
+        let permits = party.permits;
+        let (end, position) = self.poll_from(rt, cx, &mut party, place);
         match end {
             End::Pending => {
                 put(waiting, self.kept(permits, party, position));
@@ -135,6 +344,29 @@ impl RawSemaphore {
             }
             End::Granted | End::Waiting | End::NotFree | End::GivenBack => unreachable!(),
         }
+    }
+
+    // Carries out a poll from this place on: how it ends, and where the party stands then (`ended`), with what it has there (`stands`).
+    //
+    // Pending, the party has an entry for its permits in the semaphore's list, which keeps a waker of the task that polls, and
+    // the task has registered with the semaphore's source (`pending`).
+    fn poll_from<R: Wait + Clock>(
+        &self,
+        rt: &R,
+        cx: &mut Context<'_>,
+        party: &mut PermitParty,
+        place: Place,
+    ) -> (End, Position)
+        requires stands { Stands self.now party.old (stands.At place) }
+        requires polls { IsPolling (stands.At place) }
+        ensures stands { Stands self.now party.new result.1 }
+        ensures permits { party.new.permits ≡ party.old.permits }
+        ensures ended { EndsAt result.0 result.1 }
+        ensures pending { IfPending result.0 (IsReceipt self.now party.new.permits cx.new party.new.entry) }
+        ensures kept { Keeps cx.old cx.new }
+    {
+        let (end, position) = Carries::drive(party, self, rt, cx, Position::At(place));
+        (end, party.pass_on(self, rt, position))
     }
 
     // What a party keeps that waits.
@@ -224,6 +456,24 @@ impl RawSemaphore {
         self.stock.rise(seat);
     }
 }
+
+// The rows of the program's table that a first poll carries out straight.
+#[inline]
+fn first_rows()
+    ensures begins { (k : ℕ) → start_of calls.Poll (stands.Unlisted k) ≡ Some (at.Take k false false) }
+    ensures looks { (k a : ℕ) → (action_of (at.Take k false false) ≡ does.Take k) × (next_of (at.Take k false false) (finds.Left a) ≡ next.End ends.Got (stands.Holding k)) × (next_of (at.Take k false false) (finds.Short a) ≡ next.Do (at.Join k None)) }
+    ensures joins { (k : ℕ) → (action_of (at.Join k None) ≡ does.Join k) × (next_of (at.Join k None) finds.Done ≡ next.Do (at.Take k true false)) × (next_of (at.Join k None) finds.NoMemory ≡ next.End (ends.Refused refusals.Memory) (stands.Unlisted k)) }
+    ensures looks_again { (k a : ℕ) → (action_of (at.Take k true false) ≡ does.Take k) × (next_of (at.Take k true false) (finds.Left a) ≡ next.Do (at.Remove k None)) × (next_of (at.Take k true false) (finds.Short a) ≡ next.Do (at.Ask k None)) }
+    ensures asks { (k : ℕ) → (action_of (at.Ask k None) ≡ does.Ask) × (next_of (at.Ask k None) finds.No ≡ next.End ends.Pending (stands.Waiting k)) × (next_of (at.Ask k None) finds.Yes ≡ next.Do (at.Take k false true)) }
+    ensures leaves { (k a : ℕ) → (action_of (at.Remove k None) ≡ does.Remove) × (next_of (at.Remove k None) finds.No ≡ next.End ends.Got (stands.Holding k)) × (next_of (at.Remove k None) finds.Yes ≡ next.Do (at.Load k)) × (action_of (at.Load k) ≡ does.Load) × (next_of (at.Load k) (finds.Available a) ≡ next.Do (at.HandOn k a)) × (action_of (at.HandOn k a) ≡ does.Fit a) × (next_of (at.HandOn k a) finds.Done ≡ next.End ends.Got (stands.Holding k)) }
+{}
+
+// Those that a later poll carries out straight, beside the last two of `first_rows`.
+#[inline]
+fn later_rows()
+    ensures begins { (k : ℕ) → start_of calls.Poll (stands.Waiting k) ≡ Some (at.Retake k) }
+    ensures looks { (k a : ℕ) → (action_of (at.Retake k) ≡ does.Take k) × (next_of (at.Retake k) (finds.Left a) ≡ next.Do (at.Remove k None)) × (next_of (at.Retake k) (finds.Short a) ≡ next.Do (at.Ask k None)) }
+{}
 
 // The rows of the program's table that `RawSemaphore::cancel` carries out straight.
 #[inline]
