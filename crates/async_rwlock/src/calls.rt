@@ -40,7 +40,10 @@ impl<T, R: Wait> RwLock<T, R> {
     {
         match self.raw.try_read() {
             Tried::Got(seat) => Some(ReadGuard::new(self, seat)),
-            Tried::Vain => None,
+            Tried::Vain(seat) => {
+                self.raw.end_try(Aim::Read, seat);
+                None
+            }
             Tried::GoesOn(rest) => {
                 let seat = self.raw.try_on(&self.rt, Aim::Read, rest)?;
                 Some(ReadGuard::new(self, seat))
@@ -55,7 +58,10 @@ impl<T, R: Wait> RwLock<T, R> {
     {
         match self.raw.try_upgradable_read() {
             Tried::Got(seat) => Some(UpgradableGuard::new(self, seat)),
-            Tried::Vain => None,
+            Tried::Vain(seat) => {
+                self.raw.end_try(Aim::UpgradableRead, seat);
+                None
+            }
             Tried::GoesOn(rest) => {
                 let seat = self.raw.try_on(&self.rt, Aim::UpgradableRead, rest)?;
                 Some(UpgradableGuard::new(self, seat))
@@ -69,7 +75,10 @@ impl<T, R: Wait> RwLock<T, R> {
     {
         match self.raw.try_write() {
             Tried::Got(seat) => Some(WriteGuard::new(self, seat)),
-            Tried::Vain => None,
+            Tried::Vain(seat) => {
+                self.raw.end_try(Aim::Write, seat);
+                None
+            }
             Tried::GoesOn(rest) => {
                 let seat = self.raw.try_on(&self.rt, Aim::Write, rest)?;
                 Some(WriteGuard::new(self, seat))
@@ -159,7 +168,10 @@ impl<T: Drop, R: Wait + Drop> RwLock<T, R> {
     {
         match this.raw.try_read() {
             Tried::Got(seat) => reader_of(this, seat),
-            Tried::Vain => None,
+            Tried::Vain(seat) => {
+                this.raw.end_try(Aim::Read, seat);
+                None
+            }
             Tried::GoesOn(rest) => reader_of(this, this.raw.try_on(&this.rt, Aim::Read, rest)?),
         }
     }
@@ -172,7 +184,10 @@ impl<T: Drop, R: Wait + Drop> RwLock<T, R> {
     {
         match this.raw.try_upgradable_read() {
             Tried::Got(seat) => upgradable_reader_of(this, seat),
-            Tried::Vain => None,
+            Tried::Vain(seat) => {
+                this.raw.end_try(Aim::UpgradableRead, seat);
+                None
+            }
             Tried::GoesOn(rest) => upgradable_reader_of(
                 this,
                 this.raw.try_on(&this.rt, Aim::UpgradableRead, rest)?,
@@ -186,7 +201,10 @@ impl<T: Drop, R: Wait + Drop> RwLock<T, R> {
     {
         match this.raw.try_write() {
             Tried::Got(seat) => writer_of(this, seat),
-            Tried::Vain => None,
+            Tried::Vain(seat) => {
+                this.raw.end_try(Aim::Write, seat);
+                None
+            }
             Tried::GoesOn(rest) => writer_of(this, this.raw.try_on(&this.rt, Aim::Write, rest)?),
         }
     }

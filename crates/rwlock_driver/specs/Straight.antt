@@ -1,8 +1,8 @@
 -- What the straight calls of a read-write lock come to.
-use Rattle.std.specs.Prelude.{◌≡◌, ⊤}
+use Rattle.std.specs.Prelude.{◌≡◌, ◌≢◌, ◌⊎◌, ⊤}
 use Rattle.rwlock_driver.specs.Lists.{lists_of}
 use Rattle.rwlock_driver.specs.Polls.{IsBegun, IsOnWay, right_of}
-use Rattle.rwlock_driver.specs.Rights.{Has, passing}
+use Rattle.rwlock_driver.specs.Rights.{Has, IsClosed, idle, passing}
 use Rattle.rwlock_driver.specs.declared.aim.Aim.{Aim}
 use Rattle.rwlock_driver.specs.declared.aim.Aim.TheVariants as aim
 use Rattle.rwlock_driver.specs.declared.raw.RawRwLock.{RawRwLock}
@@ -15,6 +15,7 @@ use Rattle.rwlock_driver.specs.declared.straight.Tried.{Tried}
 use Rattle.rwlock_driver.specs.declared.straight.Tried.TheVariants as tried
 use Rattle.rwlock_driver.specs.declared.straight.TryRest.{TryRest}
 use Rattle.rwlock_driver.specs.declared.straight.TryRest.TheVariants as rest
+use Rattle.words_rwlock.specs.declared.view.Seat.{Seat}
 
 -- a duty to the list that is named, and where the turn is to be given back, a seat that has it alone
 abbrev pub Owes : RawRwLock → Notifies → Type 0
@@ -33,14 +34,30 @@ OnFirst raw a (Got seat) = Has raw (right_of a) seat
 OnFirst raw a Nothing = ⊤
 OnFirst raw a (Begun way) = IsOn raw a way
 
--- what is left of a try for this: to read, or to read with the turn, which its seat has alone, or to notify
+-- its last look at the turn's word found it held, or others starved for it
+abbrev pub FoundTaken : Seat → Type 0
+FoundTaken seat = seat.inner.me.0.seen ≢ 0
+
+-- its last look at the state word found a reader, or a writer
+abbrev pub FoundOthers : Seat → Type 0
+FoundOthers seat = seat.inner.me.0.found ≢ 0
+
+-- A try for this is in vain by what its seat found, which has nothing: to read, a writer's bit or as many readers as may be; to read with
+-- the turn, that it wasn't free; to write, that, or somebody else.
+abbrev pub IsVain : RawRwLock → Aim → Seat → Type 0
+IsVain raw aim.Read seat = Has raw idle seat × IsClosed raw seat
+IsVain raw aim.UpgradableRead seat = Has raw idle seat × FoundTaken seat
+IsVain raw aim.Write seat = Has raw idle seat × (FoundTaken seat ⊎ FoundOthers seat)
+IsVain raw aim.Upgrade seat = ⊥
+
+-- what is left of a try for this: to read, or to read with the turn, which its seat has alone, or to notify where it is in vain
 abbrev pub IsRest : RawRwLock → Aim → TryRest → Type 0
 IsRest raw a rest.Read = a ≡ aim.Read
 IsRest raw a (rest.Add seat) = (a ≡ aim.UpgradableRead) × Has raw passing seat
-IsRest raw a (rest.Notify notifies) = Owes raw notifies
+IsRest raw a (rest.Notify seat notifies) = IsVain raw a seat × Owes raw notifies
 
--- the right that it is for, nothing, or what is left to do
+-- the right that it is for, or a seat that shows that it is in vain, or what is left to do
 abbrev pub OnTried : RawRwLock → Aim → Tried → Type 0
 OnTried raw a (tried.Got seat) = Has raw (right_of a) seat
-OnTried raw a tried.Vain = ⊤
+OnTried raw a (tried.Vain seat) = IsVain raw a seat
 OnTried raw a (tried.GoesOn rest) = IsRest raw a rest

@@ -3,7 +3,7 @@
 //! Each gives back what it gives back by the types' force: a seat can't end before it has nothing, nor a call before those
 //! whom it has to notify were notified. Which rows of the table they carry out, `try_rows`, `drop_rows` and `change_rows` say.
 
-ghost use Rattle.std.specs.Prelude.{◌≡◌, ◌≢◌, true, false, [], Bool, Some, IfSome, MatchBool};
+ghost use Rattle.std.specs.Prelude.{◌≡◌, ◌≢◌, true, false, [], Bool, Some, IfErr, IfOk, IfSome, MatchBool};
 ghost use Rattle.lock_program.specs.ReadWrite.{start_of, action_of, next_of};
 ghost use Rattle.lock_program.specs.declared.end.End.TheVariants as ends;
 ghost use Rattle.lock_program.specs.declared.end.Next.TheVariants as next;
@@ -18,7 +18,7 @@ ghost use Rattle.lock_program.specs.declared.rwlock.Purpose.{Purpose};
 ghost use Rattle.lock_program.specs.declared.rwlock.Purpose.TheVariants as purpose;
 ghost use Rattle.lock_program.specs.declared.rwlock.RwLockCall.TheVariants as calls;
 ghost use Rattle.rwlock_driver.specs.Rights.{Has, HasBegun, IsClosed, IsFull, ReadsBeside, idle, passing, reader, upgradable, awaits, writer};
-ghost use Rattle.rwlock_driver.specs.Straight.{IsRest, OnFirst, OnTried, Owes};
+ghost use Rattle.rwlock_driver.specs.Straight.{FoundTaken, IsRest, IsVain, OnFirst, OnTried, Owes};
 ghost use Rattle.rwlock_driver.specs.Polls.{poll_of, right_of};
 ghost use Rattle.rwlock_driver.specs.declared.aim.Aim.TheVariants as aims;
 ghost use Rattle.lock_program.specs.Mutex as turn_table;
@@ -47,8 +47,8 @@ pub enum Begun {
 pub enum Tried {
     /// The right, by this seat.
     Got(Seat),
-    /// Nothing: the lock isn't free for it.
-    Vain,
+    /// Nothing: the lock isn't free for it, as this seat's last look found. [`RawRwLock::end_try`] ends it.
+    Vain(Seat),
     /// Something is left to do: [`RawRwLock::try_on`] does it.
     GoesOn(TryRest),
 }
@@ -59,8 +59,8 @@ pub enum TryRest {
     Read,
     /// To look again, and to read with the turn, which this seat has.
     Add(Seat),
-    /// To notify those who wait for what a try in vain gave back.
-    Notify(Notifies),
+    /// To end this seat, whose try is in vain, and to notify those who wait for what it gave back.
+    Notify(Seat, Notifies),
 }
 
 /// What is left to do of a drop where somebody may wait: [`RawRwLock::notify`] does it. It has no `Drop`.
@@ -125,8 +125,12 @@ impl RawRwLock {
     fn begin_upgradable(&self) -> First
         ensures { OnFirst self.now aims.UpgradableRead result }
     {
-        let Some((mut seat, seen)) = self.try_turn() else {
-            return First::Nothing;
+        let (mut seat, seen) = match self.try_turn() {
+            Ok(got) => got,
+            Err(seat) => {
+                self.words.rise(seat);
+                return First::Nothing;
+            }
         };
         if self.words.add_from(&mut seat, seen) {
             return First::Got(seat);
@@ -140,8 +144,12 @@ impl RawRwLock {
     fn begin_write(&self) -> First
         ensures { OnFirst self.now aims.Write result }
     {
-        let Some((mut seat, _)) = self.try_turn() else {
-            return First::Nothing;
+        let (mut seat, _) = match self.try_turn() {
+            Ok(got) => got,
+            Err(seat) => {
+                self.words.rise(seat);
+                return First::Nothing;
+            }
         };
         match self.words.mark(&mut seat) {
             Readers::NoneLeft => First::Got(seat),
@@ -162,10 +170,7 @@ impl RawRwLock {
         let mut seat = self.words.sit();
         match self.words.read(&mut seat) {
             Reading::Reads => Tried::Got(seat),
-            Reading::Writer | Reading::Full => {
-                self.words.rise(seat);
-                Tried::Vain
-            }
+            Reading::Writer | Reading::Full => Tried::Vain(seat),
             Reading::Changed => {
                 self.words.rise(seat);
                 Tried::GoesOn(TryRest::Read)
@@ -180,8 +185,9 @@ impl RawRwLock {
         ensures { OnTried self.now aims.UpgradableRead result }
     {
         try_rows();
-        let Some((mut seat, saw)) = self.try_turn() else {
-            return Tried::Vain;
+        let (mut seat, saw) = match self.try_turn() {
+            Ok(got) => got,
+            Err(seat) => return Tried::Vain(seat),
         };
         if self.words.add_from(&mut seat, saw) {
             return Tried::Got(seat);
@@ -195,15 +201,28 @@ impl RawRwLock {
         ensures { OnTried self.now aims.Write result }
     {
         try_rows();
-        let Some((mut seat, _)) = self.try_turn() else {
-            return Tried::Vain;
+        let (mut seat, _) = match self.try_turn() {
+            Ok(got) => got,
+            Err(seat) => return Tried::Vain(seat),
         };
         if self.words.try_write(&mut seat) {
             return Tried::Got(seat);
         }
-        match self.give_turn(seat) {
-            Some(notifies) => Tried::GoesOn(TryRest::Notify(notifies)),
-            None => Tried::Vain,
+        let given = self.words.clear(&mut seat);
+        match self.lists.turn.unless_listed(given) {
+            Some(owed) => Tried::GoesOn(TryRest::Notify(seat, Notifies::Turn(owed))),
+            None => Tried::Vain(seat),
+        }
+    }
+
+    /// Ends a try for this aim that is in vain: its seat's last look shows why.
+    #[inline]
+    pub fn end_try(&self, aim: Aim, seat: Seat)
+        requires { IsVain self.now aim seat }
+    {
+        match aim {
+            Aim::Read | Aim::UpgradableRead | Aim::Write => self.words.rise(seat),
+            Aim::Upgrade => unreachable!(),
         }
     }
 
@@ -213,14 +232,13 @@ impl RawRwLock {
         requires { IsRest self.now aim rest }
         ensures { IfSome result (Has self.now (right_of aim)) }
     {
-        let _ = aim;
         match rest {
             TryRest::Read => {
                 let mut seat = self.words.sit();
                 if self.read(rt, &mut seat) {
                     return Some(seat);
                 }
-                self.words.rise(seat);
+                self.end_try(aim, seat);
                 None
             }
             TryRest::Add(seat) => {
@@ -234,24 +252,23 @@ impl RawRwLock {
                 }
                 None
             }
-            TryRest::Notify(notifies) => {
+            TryRest::Notify(seat, notifies) => {
+                self.end_try(aim, seat);
                 self.notify(rt, notifies);
                 None
             }
         }
     }
 
-    // The turn, if it is free and nobody is starved for it, with what the state word was a moment before.
-    pub(crate) fn try_turn(&self) -> Option<(Seat, u64)>
-        ensures { IfSome result (λ got. Has self.now passing got.0) }
+    // The turn, if it is free and nobody is starved for it, with what the state word was a moment before. Else the seat has found that.
+    pub(crate) fn try_turn(&self) -> Result<(Seat, u64), Seat>
+        ensures got { IfOk result (λ got. Has self.now passing got.0) }
+        ensures taken { IfErr result (λ seat. Has self.now idle seat × FoundTaken seat) }
     {
         let (mut seat, seen) = self.words.sit_and_look();
         match self.words.take(&mut seat) {
-            Taking::Got(()) => Some((seat, seen)),
-            Taking::Held | Taking::Starved => {
-                self.words.rise(seat);
-                None
-            }
+            Taking::Got(()) => Ok((seat, seen)),
+            Taking::Held | Taking::Starved => Err(seat),
         }
     }
 

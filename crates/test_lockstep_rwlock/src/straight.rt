@@ -181,7 +181,10 @@ fn tried<R: Wait>(shared: Arc<RawRwLock>, bench: &Bench<R>, call: Call) -> (Part
     };
     let seat = match tried {
         Tried::Got(seat) => Some(seat),
-        Tried::Vain => None,
+        Tried::Vain(seat) => {
+            shared.end_try(aim, seat);
+            None
+        }
         Tried::GoesOn(rest) => shared.try_on(bench, aim, rest),
     };
     match seat {
