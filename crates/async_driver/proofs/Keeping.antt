@@ -6,7 +6,7 @@ use Rattle.futures.specs.declared.task.context.Context.{Context}
 use Rattle.futures.specs.declared.task.waker.Origin.{Origin}
 use Rattle.futures.specs.declared.task.waker.Route.{Route}
 use Rattle.futures.specs.declared.task.waker.Waker.{Waker}
-use Rattle.lock_event.specs.Lists.{entry, is_listed, is_marked, is_marked_at, is_waiting_at, with_key}
+use Rattle.lock_event.specs.Lists.{entry, is_listed, joined, is_marked, is_marked_at, is_waiting_at, with_key}
 use Rattle.lock_event.specs.Slots.{has_id, slot_of, waker_at}
 use Rattle.lock_event.specs.declared.event.Entry.{Entry}
 use Rattle.lock_event.specs.declared.event.EntryId.{EntryId}
@@ -84,6 +84,22 @@ module _ {W : Type 0} (id : EntryId) (w : Option W) where
 
   pub waker_at-waiting : (l : List (Entry (Slot W))) → is_waiting_at (has_id id) l ≡ true → waker_at id (with_key (has_id id) (slot_of id w) l) ≡ w
   waker_at-waiting l waits = waker_at-with_key id w l (waits_listed l waits)
+
+-- what has joined waits
+neither : (a b : Bool) → (a || b) ≡ false → (a ≡ false) × (b ≡ false)
+neither true b h = absurd (cc)
+neither false b h = (refl, h)
+
+module _ {W : Type 0} (id : EntryId) (w : Option W) where
+  behind : (b c : Bool) (rest : Bool) → b ≡ false → rest ≡ true → (if b then c else rest) ≡ true
+  behind true c rest other waits = absurd (cc)
+  behind false c rest other waits = waits
+
+  pub waits_joined : (l : List (Entry (Slot W))) → is_listed (has_id id) l ≡ false → is_waiting_at (has_id id) (joined l (slot_of id w)) ≡ true
+  waits_joined [] fresh = rw (same_number id.number) refl
+  waits_joined (e ∷ es) fresh =
+      let apart = neither (has_id id e.key) (is_listed (has_id id) es) fresh in
+      behind (has_id id e.key) (not (is_marked e.mark)) (is_waiting_at (has_id id) (joined es (slot_of id w))) apart.0 (waits_joined es apart.1)
 
 abbrev pub origin_of : Context → Origin
 origin_of cx = (arc_value {X = Route} cx.route.now).origin

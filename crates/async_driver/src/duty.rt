@@ -10,8 +10,8 @@ ghost use Rattle.lock_event.specs.Weights.{fitted};
 
 use crate::cause::Cause;
 use crate::list_id::ListId;
+use crate::summary::Summary;
 use lock_event::{Event, WeightedEvent};
-use std::sync::atomic::{AtomicBool, Ordering};
 
 /// A duty to notify somebody who waits in one list.
 ///
@@ -101,10 +101,10 @@ impl Owed {
 
     // Ends the duty to a list that had no entries.
     #[inline]
-    pub(crate) fn unless_listed(self, is_listed: &Flag) -> Option<Owed>
+    pub(crate) fn unless_listed(self, summary: &Summary) -> Option<Owed>
         ensures { IfSome result (λ o. o ≡ self) }
     {
-        if is_listed.is_set() {
+        if summary.may_have_entries() {
             return Some(self);
         }
         self.end_unlisted();
@@ -115,45 +115,5 @@ impl Owed {
     #[inline]
     pub(crate) fn end_unlisted(self) {
         let Owed { list: _, cause: _ } = self;
-    }
-}
-
-/// A word beside a list that says whether it has entries. It is written under the list's lock alone.
-pub(crate) struct Flag {
-    is_set: AtomicBool,
-}
-
-impl Flag {
-    pub(crate) fn new() -> Flag {
-        Flag {
-            is_set: AtomicBool::new(false),
-        }
-    }
-
-    #[inline]
-    pub(crate) fn is_set(&self) -> bool {
-        self.is_set.load(Ordering::SeqCst)
-    }
-
-    // Under the list's lock: says whether it has entries, if that has changed.
-    pub(crate) fn follow<W: Drop>(&self, entries: &Event<W>) {
-        self.say(!entries.is_empty());
-    }
-
-    // The same of a list whose entries have weights.
-    pub(crate) fn follow_weighted<W: Drop>(&self, entries: &WeightedEvent<W>) {
-        self.say(entries.len() > 0);
-    }
-
-    fn say(&self, is_listed: bool) {
-        if self.is_set() != is_listed {
-            self.is_set.store(is_listed, Ordering::SeqCst);
-        }
-    }
-}
-
-impl Drop for Flag {
-    fn drop(self) {
-        let Flag { is_set: _ } = self;
     }
 }

@@ -1,15 +1,16 @@
 //! The waiting list of a lock that threads share.
 
-ghost use Rattle.std.specs.Prelude.{◌≡◌, ℕ, ◌≤◌, false, IfOk, IfSome, IfNone};
+ghost use Rattle.std.specs.Prelude.{◌≡◌, ℕ, ◌≤◌, false, IfOk, IfSome, IfNone, None};
 ghost use Rattle.async_driver.specs.Heard.{IsOf, IsTold, OnNotified, OnPolled, OnWaiting, KeepsAt, IsKept, HasLeft};
 ghost use Rattle.futures.specs.Task.{Covers, Keeps};
 ghost use Rattle.lock_event.specs.Lists.{is_waiting_at};
 ghost use Rattle.lock_event.specs.Slots.{has_id};
 
-use crate::duty::{Flag, ListKey, Owed};
+use crate::duty::{ListKey, Owed};
 use crate::kept::Kept;
 use crate::list_id::ListId;
 use crate::locked::locked;
+use crate::summary::{Notifications, Summary};
 use futures::task::{Context, Poll, Source, Waker};
 use lock_event::{Asked, EntryId, Event, Mark, Memory};
 use std::alloc::{AllocFailed, Global};
@@ -56,6 +57,35 @@ impl Listed {
     }
 }
 
+/// An entry that has joined with a waker of its task, and hasn't been asked for since.
+///
+/// It has no `Drop`: [`WaitingList::ask_joined`] asks for its notification, and [`Joined::unasked`] goes on without. In clauses it is
+/// its entry.
+pub struct Joined {
+    entry: Listed,
+    // What the list had been notified when it joined.
+    then: Notifications,
+}
+
+impl Joined {
+    /// The entry, of which it isn't said any more that it keeps a waker: nobody asked whether it has been notified.
+    pub fn unasked(self) -> Listed
+        ensures { (result.list.id ≡ self.entry.list.id) × (result.keeps.by ≡ None) }
+    {
+        let Joined { entry, then: _ } = self;
+        let Listed {
+            id,
+            list,
+            keeps: _,
+        } = entry;
+        Listed {
+            id,
+            list,
+            keeps: Kept::of(&None),
+        }
+    }
+}
+
 /// What an entry has heard.
 pub enum Heard {
     /// It was notified, and has left the list. The notification goes on, or ends with the lock.
@@ -90,7 +120,7 @@ pub struct Due<W> {
 pub struct WaitingList<W: Wakes> {
     // Which list it is. Nobody registers with it.
     name: Source,
-    is_listed: Flag,
+    summary: Summary,
     // Where a notification of many puts their wakers meanwhile.
     alloc: Global,
     // Made where somebody first joins.
@@ -104,7 +134,7 @@ impl<W: Wakes> Drop for WaitingList<W> {
     fn drop(self) {
         let WaitingList {
             name: _,
-            is_listed: _,
+            summary: _,
             alloc: _,
             entries: _,
         } = self;
@@ -120,7 +150,7 @@ impl<W: Wakes> WaitingList<W> {
         let key = ListKey::new(ListId::of(&name));
         let list = WaitingList {
             name,
-            is_listed: Flag::new(),
+            summary: Summary::new(),
             alloc,
             entries: Mutex::new(None),
         };
@@ -134,12 +164,21 @@ impl<W: Wakes> WaitingList<W> {
         ListId::of(&self.name)
     }
 
-    /// Returns whether the list had entries at some moment of the call. It waits for nobody.
+    /// Returns whether the list may have entries. If not, it had none at some moment of the call. It waits for nobody.
     ///
     /// Whoever joins says so before the list's lock is released. So if a party joins and then looks at its lock
-    /// again, and another releases the lock and then asks here, one of the two finds the other.
-    pub fn is_listed(&self) -> bool {
-        self.is_listed.is_set()
+    /// again, and another releases the lock and then asks here, one of the two finds the other. Whoever leaves says nothing: the
+    /// next notification finds the list empty, and says that it is.
+    pub fn may_have_entries(&self) -> bool {
+        self.summary.may_have_entries()
+    }
+
+    /// Returns whether the list has entries. It is for tests.
+    pub fn is_listed<R: Wait>(&self, rt: &R) -> bool {
+        match &*locked(&self.entries, rt) {
+            Some(entries) => !entries.is_empty(),
+            None => false,
+        }
     }
 
     /// Returns the entry at this index, counted from the front, with its mark. It is for tests.
@@ -158,14 +197,13 @@ impl<W: Wakes> WaitingList<W> {
     pub fn join<R: Wait>(&self, rt: &R) -> Result<Listed, Memory>
         ensures { IfOk result (λ entry. entry.list.id ≡ self.now.name.id) }
     {
-        match join_first(&mut locked(&self.entries, rt), self.alloc, &self.is_listed) {
-            Ok(id) => Ok(Listed {
-                id,
-                list: self.id(),
-                keeps: Kept::of(&None),
-            }),
-            Err(memory) => Err(memory),
-        }
+        let mut entries = locked(&self.entries, rt);
+        let id = join_locked(made(&mut entries, self.alloc)?, &self.summary)?;
+        Ok(Listed {
+            id,
+            list: self.id(),
+            keeps: Kept::of(&None),
+        })
     }
 
     /// Asks for the notification of this entry, by [`Event::ask`], with a waker in hand. A notified entry leaves the list. A
@@ -178,7 +216,7 @@ impl<W: Wakes> WaitingList<W> {
     {
         let Listed { id, list, keeps: _ } = entry;
         let asked = match &mut *locked(&self.entries, rt) {
-            Some(entries) => ask_locked(entries, &self.is_listed, id, waker.take()),
+            Some(entries) => entries.ask(id, waker.take()),
             None => Asked::Unlisted {
                 unused: waker.take(),
             },
@@ -214,7 +252,7 @@ impl<W: Wakes> WaitingList<W> {
             keeps: _,
         } = entry;
         let (kept, due) = match &mut *locked(&self.entries, rt) {
-            Some(entries) => leave_locked(entries, &self.is_listed, id),
+            Some(entries) => leave_locked(entries, &self.summary, id),
             None => (None, None),
         };
         drop(kept);
@@ -242,7 +280,7 @@ impl<W: Wakes> WaitingList<W> {
         requires { owed.list.id ≡ self.now.name.id }
         ensures { IfSome result (λ left. left ≡ owed) }
     {
-        owed.unless_listed(&self.is_listed)
+        owed.unless_listed(&self.summary)
     }
 
     /// Notifies the first `n` waiting entries additionally, or all if fewer wait, and calls their wakers, each once. Entries
@@ -255,6 +293,7 @@ impl<W: Wakes> WaitingList<W> {
             let due = match &mut *locked(&self.entries, rt) {
                 Some(entries) => {
                     owed.notify_additional(entries, n);
+                    self.summary.notified(entries);
                     all_due(entries, self.alloc)
                 }
                 None => unlisted(owed, self.alloc),
@@ -270,7 +309,7 @@ impl<W: Wakes> WaitingList<W> {
     {
         if n == 1 {
             let due = match &mut *locked(&self.entries, rt) {
-                Some(entries) => notify_one(entries, owed),
+                Some(entries) => notify_one(entries, &self.summary, owed),
                 None => unlisted(owed, self.alloc).next,
             };
             if let Some(waker) = due {
@@ -281,6 +320,7 @@ impl<W: Wakes> WaitingList<W> {
         let due = match &mut *locked(&self.entries, rt) {
             Some(entries) => {
                 owed.notify(entries, n);
+                self.summary.notified(entries);
                 all_due(entries, self.alloc)
             }
             None => unlisted(owed, self.alloc),
@@ -318,6 +358,79 @@ impl<W: Wakes> WaitingList<W> {
 }
 
 impl WaitingList<Waker> {
+    /// Adds a waiting entry at the back that keeps a waker of the task of `cx`, which has registered with `source`. [`Memory`]
+    /// comes only if memory was refused, and the list then is as it was.
+    ///
+    /// By the contract the entry keeps such a waker (`keeps`).
+    #[inline(always)]
+    pub fn join_with_waker<R: Wait>(
+        &self,
+        rt: &R,
+        source: &Source,
+        cx: &mut Context<'_>,
+    ) -> Result<Joined, Memory>
+        ensures list { IfOk result (λ joined. joined.entry.list.id ≡ self.now.name.id) }
+        ensures keeps { IfOk result (λ joined. IsKept cx.new joined.entry.keeps × Covers cx.new (λ s. s ≡ source.now.id)) }
+        ensures kept { Keeps cx.old cx.new }
+    {
+        let mut entries = locked(&self.entries, rt);
+        let entries = made(&mut entries, self.alloc)?;
+        let (id, keeps, then) = join_waking(entries, &self.summary, source, cx)?;
+        Ok(Joined {
+            entry: Listed {
+                id,
+                list: self.id(),
+                keeps,
+            },
+            then,
+        })
+    }
+
+    /// Asks for the notification of an entry that has joined with a waker. A notified entry leaves the list. A waiting one
+    /// keeps its waker (`waits`).
+    ///
+    /// Where the list was not notified since the entry joined, the entry waits, and the list isn't asked for its lock.
+    #[inline(always)]
+    pub fn ask_joined<R: Wait>(&self, rt: &R, joined: Joined) -> Heard
+        requires { joined.entry.list.id ≡ self.now.name.id }
+        ensures list { IsOf self.now.name.id result }
+        ensures told { OnNotified result IsTold }
+        ensures waits { OnWaiting result (λ entry. entry.keeps ≡ joined.entry.keeps) }
+    {
+        let Joined { entry, then } = joined;
+        if self.summary.is_still(then) {
+            return Heard::Waiting(entry);
+        }
+        self.ask_locked_out(rt, entry)
+    }
+
+    // Asks under the list's lock for the notification of an entry that keeps a waker. It stands apart: hardly ever is a list
+    // notified between a join and the ask.
+    #[inline(never)]
+    fn ask_locked_out<R: Wait>(&self, rt: &R, entry: Listed) -> Heard
+        requires { entry.list.id ≡ self.now.name.id }
+        ensures list { IsOf self.now.name.id result }
+        ensures told { OnNotified result IsTold }
+        ensures waits { OnWaiting result (λ waits. waits.keeps ≡ entry.keeps) }
+    {
+        let told = match &mut *locked(&self.entries, rt) {
+            Some(entries) => unless_waiting(entries, entry.id),
+            None => Some(None),
+        };
+        match told {
+            None => Heard::Waiting(entry),
+            Some(waker) => {
+                drop(waker);
+                let Listed {
+                    id: _,
+                    list,
+                    keeps: _,
+                } = entry;
+                Heard::Notified(Owed::told(list))
+            }
+        }
+    }
+
     /// Polls this entry, for the task of `cx`. A notified entry leaves the list. A waiting one keeps a waker of the task,
     /// which has registered with `source`; a waker of the same task that it keeps already stays.
     ///
@@ -364,7 +477,7 @@ impl WaitingList<Waker> {
         ensures kept { Keeps cx.old cx.new }
     {
         let polled = match &mut *locked(&self.entries, rt) {
-            Some(entries) => poll_locked(entries, &self.is_listed, entry.id, source, cx),
+            Some(entries) => poll_locked(entries, entry.id, source, cx),
             None => Polled::Notified(None),
         };
         match polled {
@@ -383,21 +496,41 @@ impl WaitingList<Waker> {
 
 // The calls as they are under the list's lock.
 
-// Joins a list that is made where nobody joined before.
-fn join_first<W: Wakes>(
+// The list, which is made where nobody joined before.
+fn made<W: Wakes>(
     entries: &mut Option<Box<Event<W>>>,
     alloc: Global,
-    is_listed: &Flag,
-) -> Result<EntryId, Memory> {
-    if let Some(entries) = entries {
-        return join_locked(entries, is_listed);
+) -> Result<&mut Event<W>, Memory> {
+    if entries.is_none() {
+        let Ok(made) = Box::new(alloc, Event::new(alloc)) else {
+            return Err(Memory);
+        };
+        *entries = Some(made);
     }
-    let Ok(mut made) = Box::new(alloc, Event::new(alloc)) else {
-        return Err(Memory);
+    match entries {
+        Some(entries) => Ok(entries),
+        None => unreachable!(),
+    }
+}
+
+// By the contract the entry that has joined keeps a waker of the task that is answered.
+fn join_waking(
+    entries: &mut Event<Waker>,
+    summary: &Summary,
+    source: &Source,
+    cx: &mut Context<'_>,
+) -> Result<(EntryId, Kept, Notifications), Memory>
+    ensures keeps { IfOk result (λ joined. KeepsAt joined.0 joined.1 entries.new.entries × IsKept cx.new joined.1 × Covers cx.new (λ s. s ≡ source.now.id)) }
+    ensures kept { Keeps cx.old cx.new }
+{
+    let id = entries.listen()?;
+    summary.joined();
+    let then = summary.notifications();
+    let Some(slot) = entries.waker_mut(id) else {
+        unreachable!()
     };
-    let joined = join_locked(&mut made, is_listed);
-    *entries = Some(made);
-    joined
+    let _: Poll<()> = cx.register(source, slot);
+    Ok((id, Kept::of(slot), then))
 }
 
 // Ends the duty to a list that nobody ever joined: nobody is due.
@@ -409,41 +542,33 @@ fn unlisted<W>(owed: Owed, alloc: Global) -> Due<W> {
     }
 }
 
-fn join_locked<W: Wakes>(entries: &mut Event<W>, is_listed: &Flag) -> Result<EntryId, Memory> {
+fn join_locked<W: Wakes>(entries: &mut Event<W>, summary: &Summary) -> Result<EntryId, Memory> {
     let joined = entries.listen();
-    is_listed.follow(entries);
+    if joined.is_ok() {
+        summary.joined();
+    }
     joined
-}
-
-fn ask_locked<W: Wakes>(
-    entries: &mut Event<W>,
-    is_listed: &Flag,
-    id: EntryId,
-    waker: Option<W>,
-) -> Asked<W> {
-    let asked = entries.ask(id, waker);
-    is_listed.follow(entries);
-    asked
 }
 
 // What the entry kept, and the waker that is due then.
 #[inline(always)]
 fn leave_locked<W: Wakes>(
     entries: &mut Event<W>,
-    is_listed: &Flag,
+    summary: &Summary,
     id: EntryId,
 ) -> (Option<W>, Option<W>) {
     let kept = entries.withdraw(id);
-    is_listed.follow(entries);
     if entries.marked() == 0 {
         return (kept, None);
     }
+    summary.passed_on();
     (kept, entries.next_waker())
 }
 
 // Notifies one entry: the waker that is due.
-fn notify_one<W: Wakes>(entries: &mut Event<W>, owed: Owed) -> Option<W> {
+fn notify_one<W: Wakes>(entries: &mut Event<W>, summary: &Summary, owed: Owed) -> Option<W> {
     owed.notify(entries, 1);
+    summary.notified(entries);
     entries.next_waker()
 }
 
@@ -469,7 +594,6 @@ fn all_due<W: Wakes>(entries: &mut Event<W>, alloc: Global) -> Due<W> {
 #[inline(always)]
 fn poll_locked(
     entries: &mut Event<Waker>,
-    is_listed: &Flag,
     id: EntryId,
     source: &Source,
     cx: &mut Context<'_>,
@@ -481,20 +605,26 @@ fn poll_locked(
         let _: Poll<()> = cx.register(source, slot);
         return Polled::Waiting(Kept::of(slot));
     }
-    Polled::Notified(told_locked(entries, is_listed, id))
+    Polled::Notified(told_locked(entries, id))
 }
 
 // An entry that doesn't wait leaves the list, if it is there: what it kept.
 #[inline(never)]
-fn told_locked(entries: &mut Event<Waker>, is_listed: &Flag, id: EntryId) -> Option<Waker>
+fn told_locked(entries: &mut Event<Waker>, id: EntryId) -> Option<Waker>
     requires { is_waiting_at (has_id id) entries.old.entries ≡ false }
 {
     match entries.ask(id, None) {
-        Asked::Notified { kept, .. } => {
-            is_listed.follow(entries);
-            kept
-        }
+        Asked::Notified { kept, .. } => kept,
         Asked::Unlisted { .. } => None,
         Asked::Waiting { .. } => unreachable!(),
+    }
+}
+
+// The same, where it doesn't wait.
+fn unless_waiting(entries: &mut Event<Waker>, id: EntryId) -> Option<Option<Waker>> {
+    if entries.is_waiting(id) {
+        None
+    } else {
+        Some(told_locked(entries, id))
     }
 }

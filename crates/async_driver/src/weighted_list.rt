@@ -8,10 +8,11 @@ ghost use Rattle.lock_event.specs.Lists.{joined};
 ghost use Rattle.lock_event.specs.Loads.{laden, weight_of};
 ghost use Rattle.lock_event.specs.Weights.{fitted};
 
-use crate::duty::{Flag, ListKey, Owed};
+use crate::duty::{ListKey, Owed};
 use crate::kept::Kept;
 use crate::list_id::ListId;
 use crate::locked::locked;
+use crate::summary::Summary;
 use crate::waiting_list::{Polled, Wakes};
 use futures::task::{Context, Poll, Source, Waker};
 use lock_event::{Asked, EntryId, Memory, WeightedEvent};
@@ -63,7 +64,7 @@ pub enum WeightedHeard {
 pub struct WeightedList<W: Wakes> {
     // Which list it is. Nobody registers with it.
     name: Source,
-    is_listed: Flag,
+    summary: Summary,
     // Where the list is made, when somebody first joins.
     alloc: Global,
     entries: Mutex<Option<Box<WeightedEvent<W>>>>,
@@ -74,7 +75,7 @@ impl<W: Wakes> Drop for WeightedList<W> {
     fn drop(self) {
         let WeightedList {
             name: _,
-            is_listed: _,
+            summary: _,
             alloc: _,
             entries: _,
         } = self;
@@ -90,7 +91,7 @@ impl<W: Wakes> WeightedList<W> {
         let key = ListKey::new(ListId::of(&name));
         let list = WeightedList {
             name,
-            is_listed: Flag::new(),
+            summary: Summary::new(),
             alloc,
             entries: Mutex::new(None),
         };
@@ -109,7 +110,7 @@ impl<W: Wakes> WeightedList<W> {
     /// Whoever joins says so before the list's lock is released. So if a party joins and then looks at its lock
     /// again, and another releases the lock and then asks here, one of the two finds the other.
     pub fn is_listed(&self) -> bool {
-        self.is_listed.is_set()
+        self.summary.may_have_entries()
     }
 
     /// Returns how many entries the list has. It is for tests.
@@ -136,7 +137,7 @@ impl<W: Wakes> WeightedList<W> {
         let joined = join_first(
             &mut locked(&self.entries, rt),
             self.alloc,
-            &self.is_listed,
+            &self.summary,
             weight,
         );
         match joined {
@@ -169,7 +170,7 @@ impl<W: Wakes> WeightedList<W> {
             weight,
         } = entry;
         let asked = match &mut *locked(&self.entries, rt) {
-            Some(entries) => ask_locked(entries, &self.is_listed, id, waker.take()),
+            Some(entries) => ask_locked(entries, &self.summary, id, waker.take()),
             None => Asked::Unlisted {
                 unused: waker.take(),
             },
@@ -208,7 +209,7 @@ impl<W: Wakes> WeightedList<W> {
             weight: _,
         } = entry;
         let (was_notified, kept) = match &mut *locked(&self.entries, rt) {
-            Some(entries) => remove_locked(entries, &self.is_listed, id),
+            Some(entries) => remove_locked(entries, &self.summary, id),
             None => (false, None),
         };
         drop(kept);
@@ -237,7 +238,7 @@ impl<W: Wakes> WeightedList<W> {
         requires { owed.list.id ≡ self.now.name.id }
         ensures { IfSome result (λ left. left ≡ owed) }
     {
-        owed.unless_listed(&self.is_listed)
+        owed.unless_listed(&self.summary)
     }
 
     // As `fit`, of a list that had entries.
@@ -316,9 +317,9 @@ impl WeightedList<Waker> {
         } = entry;
         let (polled, unused) = match &mut *locked(&self.entries, rt) {
             Some(entries) if is_first => {
-                poll_first_locked(entries, &self.is_listed, id, source, cx)
+                poll_first_locked(entries, &self.summary, id, source, cx)
             }
-            Some(entries) => (poll_locked(entries, &self.is_listed, id, source, cx), None),
+            Some(entries) => (poll_locked(entries, &self.summary, id, source, cx), None),
             None => (Polled::Notified(None), None),
         };
         drop(unused);
@@ -343,51 +344,51 @@ impl WeightedList<Waker> {
 fn join_first<W: Wakes>(
     entries: &mut Option<Box<WeightedEvent<W>>>,
     alloc: Global,
-    is_listed: &Flag,
+    summary: &Summary,
     weight: u64,
 ) -> Result<EntryId, Memory> {
     if let Some(entries) = entries {
-        return join_locked(entries, is_listed, weight);
+        return join_locked(entries, summary, weight);
     }
     let Ok(mut made) = Box::new(alloc, WeightedEvent::new(alloc)) else {
         return Err(Memory);
     };
-    let joined = join_locked(&mut made, is_listed, weight);
+    let joined = join_locked(&mut made, summary, weight);
     *entries = Some(made);
     joined
 }
 
 fn join_locked<W: Wakes>(
     entries: &mut WeightedEvent<W>,
-    is_listed: &Flag,
+    summary: &Summary,
     weight: u64,
 ) -> Result<EntryId, Memory>
     ensures { IfOk result (λ id. entries.new.entries ≡ joined entries.old.entries (laden id weight None)) }
 {
     let joined = entries.listen(weight);
-    is_listed.follow_weighted(entries);
+    summary.follow_weighted(entries);
     joined
 }
 
 fn ask_locked<W: Wakes>(
     entries: &mut WeightedEvent<W>,
-    is_listed: &Flag,
+    summary: &Summary,
     id: EntryId,
     waker: Option<W>,
 ) -> Asked<W> {
     let asked = entries.ask(id, waker);
-    is_listed.follow_weighted(entries);
+    summary.follow_weighted(entries);
     asked
 }
 
 // Whether the entry was notified, and what it kept.
 fn remove_locked<W: Wakes>(
     entries: &mut WeightedEvent<W>,
-    is_listed: &Flag,
+    summary: &Summary,
     id: EntryId,
 ) -> (bool, Option<W>) {
     let removed = entries.withdraw(id);
-    is_listed.follow_weighted(entries);
+    summary.follow_weighted(entries);
     removed
 }
 
@@ -400,7 +401,7 @@ fn fit_locked<W: Wakes>(entries: &mut WeightedEvent<W>, available: u64, owed: Ow
 // By the contract an entry that waits keeps a waker of the task that is answered.
 fn poll_locked(
     entries: &mut WeightedEvent<Waker>,
-    is_listed: &Flag,
+    summary: &Summary,
     id: EntryId,
     source: &Source,
     cx: &mut Context<'_>,
@@ -411,7 +412,7 @@ fn poll_locked(
     let mut waker = match entries.ask(id, None) {
         Asked::Waiting { kept } => kept,
         Asked::Notified { kept, .. } => {
-            is_listed.follow_weighted(entries);
+            summary.follow_weighted(entries);
             return Polled::Notified(kept);
         }
         Asked::Unlisted { .. } => return Polled::Notified(None),
@@ -429,7 +430,7 @@ fn poll_locked(
 // dropped when the list's lock has been released.
 fn poll_first_locked(
     entries: &mut WeightedEvent<Waker>,
-    is_listed: &Flag,
+    summary: &Summary,
     id: EntryId,
     source: &Source,
     cx: &mut Context<'_>,
@@ -443,7 +444,7 @@ fn poll_first_locked(
     match entries.ask(id, made) {
         Asked::Waiting { kept } => (Polled::Waiting(keeps), kept),
         Asked::Notified { kept, unused } => {
-            is_listed.follow_weighted(entries);
+            summary.follow_weighted(entries);
             (Polled::Notified(kept), unused)
         }
         Asked::Unlisted { unused } => (Polled::Notified(unused), None),

@@ -203,8 +203,8 @@ pub(crate) fn later_turn<T, R: Wait + Clock, O: Owns<T, R>>(
     }
 }
 
-/// The rest of a poll that was told. It stands apart as [`first_turn`] does.
-#[inline(never)]
+/// The rest of a poll that was told.
+#[inline(always)]
 fn told_turn<T, R: Wait + Clock, O: Owns<T, R>>(
     stage: &mut Stage<O>,
     cx: &mut Context<'_>,

@@ -248,7 +248,7 @@ impl<W: MutexWord> MutexParty<W> {
     }
 
     #[inline(always)]
-    pub(crate) fn take<R: Clock>(&mut self, word: &W, rt: &R) -> Found
+    fn take<R: Clock>(&mut self, word: &W, rt: &R) -> Found
         requires seated { IsSeated W.MutexWord word.now self.old.seat self.old.hold }
         requires tied { IsTied (W.list_id word.now) self.old.entry self.old.owed }
         requires idle { W.holds self.old.seat ≡ false }
@@ -375,7 +375,7 @@ impl<W: MutexWord> MutexParty<W> {
     }
 
     #[inline(always)]
-    pub(crate) fn join<R: Wait>(&mut self, word: &W, rt: &R) -> Found
+    fn join<R: Wait>(&mut self, word: &W, rt: &R) -> Found
         requires seated { IsSeated W.MutexWord word.now self.old.seat self.old.hold }
         requires tied { IsTied (W.list_id word.now) self.old.entry self.old.owed }
         requires unlisted { self.old.entry ≡ None }
@@ -394,7 +394,7 @@ impl<W: MutexWord> MutexParty<W> {
     }
 
     #[inline(always)]
-    pub(crate) fn ask<R: Wait + Clock>(&mut self, word: &W, rt: &R, cx: &mut Context<'_>) -> Found
+    fn ask<R: Wait + Clock>(&mut self, word: &W, rt: &R, cx: &mut Context<'_>) -> Found
         requires seated { IsSeated W.MutexWord word.now self.old.seat self.old.hold }
         requires tied { IsTied (W.list_id word.now) self.old.entry self.old.owed }
         requires listed { IsSome self.old.entry }
@@ -502,11 +502,18 @@ impl<W: MutexWord> MutexParty<W> {
         ensures { (self.new.seat ≡ self.old.seat) × (self.new.hold ≡ self.old.hold) × (self.new.entry ≡ self.old.entry) × (self.new.owed ≡ self.old.owed) }
     {
         if self.since.is_none() {
-            // Not by `ok`, which moves the whole through memory.
-            if let Ok(now) = Instant::now(rt) {
-                self.since = Some(now);
-            }
+            self.since = now(rt);
         }
+    }
+}
+
+// The time, if the clock can be read.
+#[inline(always)]
+pub(crate) fn now<R: Clock>(rt: &R) -> Option<Instant> {
+    // Not by `ok`, which moves the whole through memory.
+    match Instant::now(rt) {
+        Ok(now) => Some(now),
+        Err(_) => None,
     }
 }
 

@@ -8,6 +8,7 @@ ghost use Rattle.std.specs.Prelude.{◌≡◌, true, false, IfSome, IfNone, IsSo
 ghost use Rattle.futures.specs.Task.{Keeps};
 ghost use Rattle.lock_driver.specs.Parties.{CanPoll, EndsAt, EndsPoll, IfPending, IsPolling, IsReceipt, IsSeated, IsTied, Stands, having, having_of};
 ghost use Rattle.lock_driver.specs.Waits.{OnOutcome, OnWaits, Waits, WasTold, asked_at, entry_of};
+ghost use Rattle.words_base.specs.Tries.{OnTaking};
 ghost use Rattle.lock_program.specs.Mutex.{start_of, action_of, next_of};
 ghost use Rattle.lock_program.specs.declared.mutex.Action.TheVariants as does;
 ghost use Rattle.lock_program.specs.declared.end.End.TheVariants as ends;
@@ -17,9 +18,9 @@ ghost use Rattle.lock_program.specs.declared.end.Next.TheVariants as next;
 ghost use Rattle.lock_program.specs.declared.mutex.Place.TheVariants as at;
 ghost use Rattle.lock_program.specs.declared.refusal.Refusal.TheVariants as refused;
 
-use crate::mutex_party::MutexParty;
+use crate::mutex_party::{MutexParty, now};
 use crate::word::MutexWord;
-use async_driver::{Carries, Listed, Owed, nothing, put};
+use async_driver::{Carries, Heard, Joined, Listed, Owed, nothing, put};
 use futures::task::Context;
 use lock_program::mutex::{Found, Place};
 use lock_program::{End, Refusal};
@@ -49,8 +50,8 @@ pub enum Outcome<W: MutexWord> {
     Refused(W::Seat, Refusal),
 }
 
-/// Goes on with a first poll whose seat found the lock held, or others starved, when it entered: it joins the list, looks
-/// again, and asks.
+/// A first poll, past a look that found the lock held, or others starved: it looks, joins the list with a waker, looks again, and
+/// asks.
 ///
 /// A party that waits has a receipt of the list (`receipt`).
 #[inline(always)]
@@ -70,26 +71,157 @@ pub fn poll_first<W: MutexWord, R: Wait + Clock>(
     ensures kept { Keeps cx.old cx.new }
 {
     first_rows();
-    let mut party = MutexParty::new(word, seat);
-    if let Found::NoMemory = party.join(word, rt) {
-        return Outcome::Refused(party.end(word), Refusal::Memory);
+    let mut seat = seat;
+    match look(word, &mut seat) {
+        Taking::Held => {}
+        Taking::Got(right) => return Outcome::Got(seat, right),
+        Taking::Starved => return enters_starved(word, rt, cx, seat, waiting),
     }
-    match party.take(word, rt) {
-        Found::Held { .. } => {}
-        Found::Free => return drive(word, rt, cx, party, Place::Leave, waiting),
-        _ => {
-            let count = Place::Count {
-                listed: true,
-                told: false,
-            };
-            return drive(word, rt, cx, party, count, waiting);
+    let joined = match word.list().join_with_waker(rt, word.source(), cx) {
+        Ok(joined) => joined,
+        Err(_) => return Outcome::Refused(seat, Refusal::Memory),
+    };
+    match look(word, &mut seat) {
+        Taking::Held => {}
+        Taking::Got(right) => return sees_free(word, rt, cx, seat, right, joined, waiting),
+        Taking::Starved => return sees_starved(word, rt, cx, seat, joined, waiting),
+    }
+    match word.list().ask_joined(rt, joined) {
+        Heard::Waiting(entry) => {
+            let since = now(rt);
+            let is_starved = false;
+            put(
+                waiting,
+                Waiting {
+                    entry,
+                    since,
+                    is_starved,
+                    seat,
+                },
+            );
+            Outcome::Waits
         }
+        Heard::Notified(owed) => hears(word, rt, cx, seat, owed, waiting),
     }
-    if let Found::Yes = party.ask(word, rt, cx) {
-        return drive(word, rt, cx, party, Place::Retry, waiting);
-    }
-    put(waiting, party.into_waiting(word, false));
-    Outcome::Waits
+}
+
+// A take of a party that owes nothing.
+#[inline(always)]
+fn look<W: MutexWord>(word: &W, seat: &mut W::Seat) -> Taking<W::Right>
+    requires of { W.is_of word.now seat.old }
+    requires idle { W.holds seat.old ≡ false }
+    ensures of { W.is_of word.now seat.new }
+    ensures took { OnTaking result (λ right. (W.holds seat.new ≡ true) × W.right_of word.now right) (W.holds seat.new ≡ false) (W.holds seat.new ≡ false) }
+    ensures same { (W.starved seat.new ≡ W.starved seat.old) × (W.beside seat.new ≡ W.beside seat.old) }
+{
+    let mut owed = None;
+    let taking = word.take(seat, &mut owed);
+    nothing(owed);
+    taking
+}
+
+// The rest of a first poll that found others starved when it entered. It joins without a waker: refused, it leaves the list again,
+// and a waker that the list drops wakes its task.
+#[inline(never)]
+fn enters_starved<W: MutexWord, R: Wait + Clock>(
+    word: &W,
+    rt: &R,
+    cx: &mut Context<'_>,
+    seat: W::Seat,
+    waiting: &mut Option<Waiting<W>>,
+) -> Outcome<W>
+    requires of { W.is_of word.now seat }
+    requires idle { (W.holds seat ≡ false) × (W.starved seat ≡ false) }
+    requires none { waiting.old ≡ None }
+    ensures waiting { IfSome waiting.new (Waits W.MutexWord word.now) }
+    ensures outcome { OnOutcome W.MutexWord word.now result waiting.new }
+    ensures receipt { OnWaits result (IsReceipt (W.list_id word.now) (W.source_id word.now) cx.new (entry_of waiting.new)) }
+    ensures kept { Keeps cx.old cx.new }
+{
+    let party = MutexParty::new(word, seat);
+    drive(word, rt, cx, party, Place::Join { told: false }, waiting)
+}
+
+// The rest of a first poll that joined, looked and got the lock: it leaves the list. It stands apart, as do the others here, so
+// that a poll that waits has no party to lay out in memory.
+#[inline(never)]
+fn sees_free<W: MutexWord, R: Wait + Clock>(
+    word: &W,
+    rt: &R,
+    cx: &mut Context<'_>,
+    seat: W::Seat,
+    right: W::Right,
+    joined: Joined,
+    waiting: &mut Option<Waiting<W>>,
+) -> Outcome<W>
+    requires of { W.is_of word.now seat }
+    requires holds { (W.holds seat ≡ true) × (W.starved seat ≡ false) × W.right_of word.now right }
+    requires listed { joined.entry.list.id ≡ W.list_id word.now }
+    requires none { waiting.old ≡ None }
+    ensures waiting { IfSome waiting.new (Waits W.MutexWord word.now) }
+    ensures outcome { OnOutcome W.MutexWord word.now result waiting.new }
+    ensures receipt { OnWaits result (IsReceipt (W.list_id word.now) (W.source_id word.now) cx.new (entry_of waiting.new)) }
+    ensures kept { Keeps cx.old cx.new }
+{
+    let party = MutexParty {
+        entry: Some(joined.unasked()),
+        since: None,
+        seat,
+        hold: Some(right),
+        owed: None,
+    };
+    drive(word, rt, cx, party, Place::Leave, waiting)
+}
+
+// The rest of a first poll that joined, looked and found others starved: it counts as starved too.
+#[inline(never)]
+fn sees_starved<W: MutexWord, R: Wait + Clock>(
+    word: &W,
+    rt: &R,
+    cx: &mut Context<'_>,
+    seat: W::Seat,
+    joined: Joined,
+    waiting: &mut Option<Waiting<W>>,
+) -> Outcome<W>
+    requires of { W.is_of word.now seat }
+    requires idle { (W.holds seat ≡ false) × (W.starved seat ≡ false) }
+    requires listed { joined.entry.list.id ≡ W.list_id word.now }
+    requires none { waiting.old ≡ None }
+    ensures waiting { IfSome waiting.new (Waits W.MutexWord word.now) }
+    ensures outcome { OnOutcome W.MutexWord word.now result waiting.new }
+    ensures receipt { OnWaits result (IsReceipt (W.list_id word.now) (W.source_id word.now) cx.new (entry_of waiting.new)) }
+    ensures kept { Keeps cx.old cx.new }
+{
+    let mut party = MutexParty::new(word, seat);
+    put(&mut party.entry, joined.unasked());
+    let count = Place::Count {
+        listed: true,
+        told: false,
+    };
+    drive(word, rt, cx, party, count, waiting)
+}
+
+// The rest of a first poll that joined, found the lock held, and was told when it asked.
+#[inline(never)]
+fn hears<W: MutexWord, R: Wait + Clock>(
+    word: &W,
+    rt: &R,
+    cx: &mut Context<'_>,
+    seat: W::Seat,
+    owed: Owed,
+    waiting: &mut Option<Waiting<W>>,
+) -> Outcome<W>
+    requires of { W.is_of word.now seat }
+    requires idle { (W.holds seat ≡ false) × (W.starved seat ≡ false) }
+    requires owed { owed.list.id ≡ W.list_id word.now }
+    requires none { waiting.old ≡ None }
+    ensures waiting { IfSome waiting.new (Waits W.MutexWord word.now) }
+    ensures outcome { OnOutcome W.MutexWord word.now result waiting.new }
+    ensures receipt { OnWaits result (IsReceipt (W.list_id word.now) (W.source_id word.now) cx.new (entry_of waiting.new)) }
+    ensures kept { Keeps cx.old cx.new }
+{
+    let party = MutexParty::told(word, seat, None, owed);
+    drive(word, rt, cx, party, Place::Retry, waiting)
 }
 
 /// Asks for the notification of a party that waits, where its entry stands. Told, it has its duty, and goes on by
@@ -149,8 +281,7 @@ pub fn poll_told<W: MutexWord, R: Wait + Clock>(
     };
     entry.end();
     if is_starved {
-        let party = MutexParty::told(word, seat, since, owed);
-        return drive(word, rt, cx, party, Place::Seize, waiting);
+        return seizes(word, rt, cx, seat, since, owed, waiting);
     }
     let mut seat = seat;
     let mut owed = Some(owed);
@@ -167,10 +298,57 @@ pub fn poll_told<W: MutexWord, R: Wait + Clock>(
         }
         Taking::Starved => {
             let Some(owed) = owed else { unreachable!() };
-            let party = MutexParty::told(word, seat, since, owed);
-            drive(word, rt, cx, party, Place::PassOn, waiting)
+            passes_on(word, rt, cx, seat, since, owed, waiting)
         }
     }
+}
+
+// A starved party that was told takes the lock if nobody holds it.
+#[inline(never)]
+fn seizes<W: MutexWord, R: Wait + Clock>(
+    word: &W,
+    rt: &R,
+    cx: &mut Context<'_>,
+    seat: W::Seat,
+    since: Option<Instant>,
+    owed: Owed,
+    waiting: &mut Option<Waiting<W>>,
+) -> Outcome<W>
+    requires of { W.is_of word.now seat }
+    requires starved { (W.holds seat ≡ false) × (W.starved seat ≡ true) }
+    requires owed { owed.list.id ≡ W.list_id word.now }
+    requires none { waiting.old ≡ None }
+    ensures waiting { IfSome waiting.new (Waits W.MutexWord word.now) }
+    ensures outcome { OnOutcome W.MutexWord word.now result waiting.new }
+    ensures receipt { OnWaits result (IsReceipt (W.list_id word.now) (W.source_id word.now) cx.new (entry_of waiting.new)) }
+    ensures kept { Keeps cx.old cx.new }
+{
+    let party = MutexParty::told(word, seat, since, owed);
+    drive(word, rt, cx, party, Place::Seize, waiting)
+}
+
+// A party that was told found others starved: it passes its notification on.
+#[inline(never)]
+fn passes_on<W: MutexWord, R: Wait + Clock>(
+    word: &W,
+    rt: &R,
+    cx: &mut Context<'_>,
+    seat: W::Seat,
+    since: Option<Instant>,
+    owed: Owed,
+    waiting: &mut Option<Waiting<W>>,
+) -> Outcome<W>
+    requires of { W.is_of word.now seat }
+    requires idle { (W.holds seat ≡ false) × (W.starved seat ≡ false) }
+    requires owed { owed.list.id ≡ W.list_id word.now }
+    requires none { waiting.old ≡ None }
+    ensures waiting { IfSome waiting.new (Waits W.MutexWord word.now) }
+    ensures outcome { OnOutcome W.MutexWord word.now result waiting.new }
+    ensures receipt { OnWaits result (IsReceipt (W.list_id word.now) (W.source_id word.now) cx.new (entry_of waiting.new)) }
+    ensures kept { Keeps cx.old cx.new }
+{
+    let party = MutexParty::told(word, seat, since, owed);
+    drive(word, rt, cx, party, Place::PassOn, waiting)
 }
 
 // A party that was told found the lock held. It stands apart, so that a party that got it is never laid out in memory.
@@ -352,7 +530,7 @@ impl<W: MutexWord> MutexParty<W> {
 // The rows of the program's table that `poll_first` carries out straight.
 #[inline]
 fn first_rows()
-    ensures enters { next_of at.Enter (finds.Held false) ≡ next.Do (at.Join false) }
+    ensures enters { (action_of at.Enter ≡ does.Take) × (next_of at.Enter finds.Free ≡ next.End ends.Got at.Holding) × (next_of at.Enter (finds.Held false) ≡ next.Do (at.Join false)) }
     ensures enters_starved { next_of at.Enter finds.SomeStarved ≡ next.Do (at.Join false) }
     ensures joins { (action_of (at.Join false) ≡ does.Join) × (next_of (at.Join false) finds.Done ≡ next.Do (at.Look false)) }
     ensures refuses { next_of (at.Join false) finds.NoMemory ≡ next.End (ends.Refused refused.Memory) at.Out }

@@ -10,8 +10,8 @@ use futures::test::MockTask;
 use std::sync::Wait;
 
 /// Whether nobody stands in either list of a cell.
-pub fn is_unlisted<T, R>(cell: &OnceCell<T, R>) -> bool {
-    !cell.raw().active().is_listed() && !cell.raw().passive().is_listed()
+pub fn is_unlisted<T, R: Wait>(rt: &R, cell: &OnceCell<T, R>) -> bool {
+    !cell.raw().active().is_listed(rt) && !cell.raw().passive().is_listed(rt)
 }
 
 /// Ends a set, and returns its value, if it wasn't ready.

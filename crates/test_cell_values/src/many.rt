@@ -66,7 +66,7 @@ fn a_try_wakes_all_that_wait(rt: HostRuntime) {
         let all = waiters(&rt, &cell, count);
         assert_same(&rt, cell.try_set(5), Ok(()));
         assert_all_woken(&rt, all, 5);
-        assert!(rt; is_unlisted(&cell));
+        assert!(rt; is_unlisted(&rt, &cell));
     }
 }
 
@@ -79,7 +79,7 @@ fn a_made_value_wakes_all_that_wait(rt: HostRuntime) {
         let mut making = Settled(cell.get_or_init(|| future::ready(5u64)));
         assert_same(&rt, one.poll(&mut making), Poll::Ready(Ok(&5)));
         assert_all_woken(&rt, all, 5);
-        assert!(rt; is_unlisted(&cell));
+        assert!(rt; is_unlisted(&rt, &cell));
     }
 }
 
@@ -95,7 +95,7 @@ fn a_pending_makers_value_wakes_all_that_wait(rt: HostRuntime) {
         step.gives(5);
         assert_same(&rt, one.poll(&mut making), Poll::Ready(Ok(&5)));
         assert_all_woken(&rt, all, 5);
-        assert!(rt; is_unlisted(&cell));
+        assert!(rt; is_unlisted(&rt, &cell));
     }
 }
 
@@ -128,7 +128,7 @@ fn a_makers_value_wakes_five_that_would_make_one(rt: HostRuntime) {
     assert_same(&rt, five.poll(&mut fifth), Poll::Ready(Ok(&5)));
     assert_same(&rt, six.poll(&mut sixth), Poll::Ready(Ok(&5)));
     assert_same(&rt, uncalled.counts(), (0, 0));
-    assert!(rt; is_unlisted(&cell));
+    assert!(rt; is_unlisted(&rt, &cell));
 }
 
 /// A pending set of a number of its own, and the task that polls it.
@@ -180,6 +180,6 @@ fn a_try_wakes_all_that_would_put_one_in(rt: HostRuntime) {
         }
         assert_same(&rt, two.poll(&mut second), Poll::Ready(Ok(&5)));
         assert_same(&rt, uncalled.counts(), (0, 0));
-        assert!(rt; is_unlisted(&cell));
+        assert!(rt; is_unlisted(&rt, &cell));
     }
 }

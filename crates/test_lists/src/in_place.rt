@@ -298,7 +298,7 @@ impl Scene {
 
     // Whether the list has the entries of this text, and says whether it has some.
     fn is_as<R: Wait>(&self, rt: &R, text: &str) -> bool {
-        self.list.is_listed() != text.is_empty() && is_read(&Seen { rt, scene: self }, text)
+        self.list.is_listed(rt) != text.is_empty() && is_read(&Seen { rt, scene: self }, text)
     }
 
     fn play<R: Wait + Abort>(&mut self, rt: &R, tasks: &Tasks, rows: &[Row]) {

@@ -439,7 +439,9 @@ impl MutexShell {
             }
         }
         let list = self.lock.words.list();
-        list.is_listed() == (waiting > 0) && list.entry(bench, waiting).is_none()
+        list.is_listed(bench) == (waiting > 0)
+            && (waiting == 0 || list.may_have_entries())
+            && list.entry(bench, waiting).is_none()
     }
 
     // Whether each party stands where it does in the World.

@@ -393,7 +393,9 @@ impl BarrierShell {
             }
         }
         let list = self.list(name);
-        list.is_listed() == (waiting > 0) && list.entry(bench, waiting).is_none()
+        list.is_listed(bench) == (waiting > 0)
+            && (waiting == 0 || list.may_have_entries())
+            && list.entry(bench, waiting).is_none()
     }
 
     // Whether each party stands where it does in the World, at the barrier and at its inner lock.

@@ -67,8 +67,8 @@ fn new_cell<'a, R: Wait>(bench: &Bench<R>, setting: Setting<'a>) -> Option<&'a R
     let ground = setting.ground;
     if let Some(last) = ground.get(ground.count().wrapping_sub(1)) {
         if last.state() == State::Empty
-            && !last.active().is_listed()
-            && !last.passive().is_listed()
+            && !last.active().is_listed(bench)
+            && !last.passive().is_listed(bench)
         {
             return Some(last);
         }
@@ -444,7 +444,9 @@ impl CellShell<'_> {
             }
         }
         let list = self.list(name);
-        list.is_listed() == (waiting > 0) && list.entry(bench, waiting).is_none()
+        list.is_listed(bench) == (waiting > 0)
+            && (waiting == 0 || list.may_have_entries())
+            && list.entry(bench, waiting).is_none()
     }
 
     // Whether the word and the value are the World's.

@@ -199,7 +199,7 @@ impl Scene {
             let found = self.carry_out(rt, tasks, *deed);
             assert_same(
                 rt,
-                (i, found, self.list.is_listed(), tasks.woken()),
+                (i, found, self.list.is_listed(rt), tasks.woken()),
                 (i, *answer, *is_listed, *woken),
             );
         }

@@ -85,7 +85,7 @@ fn a_notification_of_a_dropped_future_that_can_not_fail_goes_on(rt: HostRuntime)
     third.gives(3);
     assert_same(&rt, three.poll(&mut behind), Poll::Ready(Ok(&3)));
     assert_same(&rt, (second.counts(), third.counts()), ((0, 0), (1, 1)));
-    assert!(rt; is_unlisted(&cell));
+    assert!(rt; is_unlisted(&rt, &cell));
 }
 
 // One that was notified, and makes now, and is dropped while its maker is pending: the next is woken and makes.
@@ -247,7 +247,7 @@ fn a_set_that_is_ended_gives_its_value_back(rt: HostRuntime) {
     assert_same(&rt, ended(setting), Some(1));
     assert!(rt; three.is_woken() && !cell.is_initialized());
     assert_same(&rt, three.poll(&mut behind), Poll::Ready(Ok(Ok(&2))));
-    assert!(rt; is_unlisted(&cell));
+    assert!(rt; is_unlisted(&rt, &cell));
     assert_same(&rt, ended(behind), None);
 }
 
@@ -273,7 +273,7 @@ fn a_dropped_future_that_a_value_told_leaves_the_others_woken(rt: HostRuntime) {
     assert_same(&rt, three.poll(&mut behind), Poll::Ready(Ok(&1)));
     assert_same(&rt, four.poll(&mut setting), Poll::Ready(Ok(Err(4))));
     assert_same(&rt, (second.counts(), third.counts()), ((0, 0), (0, 0)));
-    assert!(rt; is_unlisted(&cell));
+    assert!(rt; is_unlisted(&rt, &cell));
 }
 
 // A future that was never polled gives nothing back, and calls no closure.

@@ -31,7 +31,7 @@ fn a_dropped_maker_leaves_the_making_to_the_next(rt: HostRuntime) {
         Poll::Ready(Ok(Err(2))),
     );
     assert_same(&rt, (cell.get(), second.counts()), (Some(&7), (1, 1)));
-    assert!(rt; is_unlisted(&cell));
+    assert!(rt; is_unlisted(&rt, &cell));
 }
 
 // A failure leaves the cell empty, a value fills it, and a later failure isn't asked for: by futures.

@@ -160,18 +160,18 @@ fn a_blocking_wait_stands_in_the_list_until_the_value_is_set(rt: HostRuntime) {
         Ok(value) => *value,
         Err(_) => u64::MAX,
     };
-    let sets = || comes(|| cell.raw().passive().is_listed()) && cell.try_set(7).is_ok();
+    let sets = || comes(|| cell.raw().passive().is_listed(&rt)) && cell.try_set(7).is_ok();
     let (got, was_set) = thread::join(&rt, &waits, &sets);
     assert!(rt; was_set);
     assert_same(&rt, got, 7);
 }
 
 // A maker that fails once another stands in the list behind it, and its failure is whether one came to stand there.
-fn fails_when_listed<R>(cell: &OnceCell<u64, R>) -> bool
+fn fails_when_listed<R>(rt: &R, cell: &OnceCell<u64, R>) -> bool
 where
     R: Wait + Clock + RandomSource + AllocGlobal,
 {
-    let tried = cell.get_or_try_init_blocking(|| Err(comes(|| cell.raw().active().is_listed())));
+    let tried = cell.get_or_try_init_blocking(|| Err(comes(|| cell.raw().active().is_listed(rt))));
     matches!(tried, Err(InitFault::Closure(true)))
 }
 
@@ -179,7 +179,7 @@ where
 #[test]
 fn a_blocking_set_stands_in_the_list_until_the_maker_fails(rt: HostRuntime) {
     let cell = fresh::<u64, _>(rt);
-    let fails = || fails_when_listed(&cell);
+    let fails = || fails_when_listed(&rt, &cell);
     let sets = || {
         let is_making = comes(|| cell.raw().state() == State::Making);
         match cell.set_blocking(7) {
@@ -197,7 +197,7 @@ fn a_blocking_set_stands_in_the_list_until_the_maker_fails(rt: HostRuntime) {
 #[test]
 fn a_blocking_initialisation_makes_once_the_maker_fails(rt: HostRuntime) {
     let cell = fresh::<u64, _>(rt);
-    let fails = || fails_when_listed(&cell);
+    let fails = || fails_when_listed(&rt, &cell);
     let makes = || {
         let is_making = comes(|| cell.raw().state() == State::Making);
         match cell.get_or_init_blocking(|| 7) {
@@ -216,7 +216,7 @@ fn a_blocking_initialisation_makes_once_the_maker_fails(rt: HostRuntime) {
 fn a_blocking_initialisation_that_may_fail_gets_the_makers_value(rt: HostRuntime) {
     let cell = fresh::<u64, _>(rt);
     let makes = || {
-        let made = cell.get_or_init_blocking(|| if comes(|| cell.raw().active().is_listed()) {
+        let made = cell.get_or_init_blocking(|| if comes(|| cell.raw().active().is_listed(&rt)) {
             5
         } else {
             0

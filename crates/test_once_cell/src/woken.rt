@@ -111,7 +111,7 @@ fn a_failure_wakes_the_next_that_can_not_fail(rt: HostRuntime) {
     second.gives(6);
     assert_same(&rt, two.poll(&mut waiting), Poll::Ready(Ok(&6)));
     assert_same(&rt, (cell.get(), second.counts()), (Some(&6), (1, 1)));
-    assert!(rt; is_unlisted(&cell));
+    assert!(rt; is_unlisted(&rt, &cell));
 }
 
 // A maker that is dropped wakes the next one alone, of makers that can't fail as well.
@@ -133,7 +133,7 @@ fn a_dropped_maker_wakes_the_next_that_can_not_fail(rt: HostRuntime) {
     assert!(rt; three.is_woken());
     assert_same(&rt, three.poll(&mut behind), Poll::Ready(Ok(Ok(&7))));
     assert_same(&rt, (second.counts(), third.counts()), ((1, 1), (0, 0)));
-    assert!(rt; is_unlisted(&cell));
+    assert!(rt; is_unlisted(&rt, &cell));
 }
 
 // A set that waited puts its value in once the maker failed.
