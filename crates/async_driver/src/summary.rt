@@ -70,9 +70,11 @@ impl Summary {
         }
     }
 
-    /// Under the list's lock: whether it has entries, of a list whose entries have weights.
-    pub(crate) fn follow_weighted<W: Drop>(&self, entries: &WeightedEvent<W>) {
-        self.say(entries.len() > 0);
+    /// The same of a list whose entries have weights. Nobody asks there how many notifications there were.
+    pub(crate) fn fitted<W: Drop>(&self, entries: &WeightedEvent<W>) {
+        if entries.len() == 0 {
+            self.say(false);
+        }
     }
 
     fn say(&self, may_have_entries: bool) {

@@ -105,11 +105,8 @@ impl<W: Wakes> WeightedList<W> {
         ListId::of(&self.name)
     }
 
-    /// Returns whether the list had entries at some moment of the call. It waits for nobody.
-    ///
-    /// Whoever joins says so before the list's lock is released. So if a party joins and then looks at its lock
-    /// again, and another releases the lock and then asks here, one of the two finds the other.
-    pub fn is_listed(&self) -> bool {
+    /// Returns whether the list may have entries, as [`WaitingList::may_have_entries`](crate::WaitingList::may_have_entries) does.
+    pub fn may_have_entries(&self) -> bool {
         self.summary.may_have_entries()
     }
 
@@ -170,7 +167,7 @@ impl<W: Wakes> WeightedList<W> {
             weight,
         } = entry;
         let asked = match &mut *locked(&self.entries, rt) {
-            Some(entries) => ask_locked(entries, &self.summary, id, waker.take()),
+            Some(entries) => entries.ask(id, waker.take()),
             None => Asked::Unlisted {
                 unused: waker.take(),
             },
@@ -209,7 +206,7 @@ impl<W: Wakes> WeightedList<W> {
             weight: _,
         } = entry;
         let (was_notified, kept) = match &mut *locked(&self.entries, rt) {
-            Some(entries) => remove_locked(entries, &self.summary, id),
+            Some(entries) => entries.withdraw(id),
             None => (false, None),
         };
         drop(kept);
@@ -245,7 +242,7 @@ impl<W: Wakes> WeightedList<W> {
     #[inline(never)]
     fn fit_listed<R: Wait>(&self, rt: &R, available: u64, owed: Owed) {
         let due = match &mut *locked(&self.entries, rt) {
-            Some(entries) => fit_locked(entries, available, owed),
+            Some(entries) => fit_locked(entries, &self.summary, available, owed),
             None => {
                 owed.end_unlisted();
                 None
@@ -316,10 +313,8 @@ impl WeightedList<Waker> {
             weight,
         } = entry;
         let (polled, unused) = match &mut *locked(&self.entries, rt) {
-            Some(entries) if is_first => {
-                poll_first_locked(entries, &self.summary, id, source, cx)
-            }
-            Some(entries) => (poll_locked(entries, &self.summary, id, source, cx), None),
+            Some(entries) if is_first => poll_first_locked(entries, id, source, cx),
+            Some(entries) => (poll_locked(entries, id, source, cx), None),
             None => (Polled::Notified(None), None),
         };
         drop(unused);
@@ -366,42 +361,27 @@ fn join_locked<W: Wakes>(
     ensures { IfOk result (λ id. entries.new.entries ≡ joined entries.old.entries (laden id weight None)) }
 {
     let joined = entries.listen(weight);
-    summary.follow_weighted(entries);
+    if joined.is_ok() {
+        summary.joined();
+    }
     joined
 }
 
-fn ask_locked<W: Wakes>(
-    entries: &mut WeightedEvent<W>,
-    summary: &Summary,
-    id: EntryId,
-    waker: Option<W>,
-) -> Asked<W> {
-    let asked = entries.ask(id, waker);
-    summary.follow_weighted(entries);
-    asked
-}
-
-// Whether the entry was notified, and what it kept.
-fn remove_locked<W: Wakes>(
-    entries: &mut WeightedEvent<W>,
-    summary: &Summary,
-    id: EntryId,
-) -> (bool, Option<W>) {
-    let removed = entries.withdraw(id);
-    summary.follow_weighted(entries);
-    removed
-}
-
 // Notifies one entry for which so many are enough: the waker that is due.
-fn fit_locked<W: Wakes>(entries: &mut WeightedEvent<W>, available: u64, owed: Owed) -> Option<W> {
+fn fit_locked<W: Wakes>(
+    entries: &mut WeightedEvent<W>,
+    summary: &Summary,
+    available: u64,
+    owed: Owed,
+) -> Option<W> {
     owed.fit(entries, available);
+    summary.fitted(entries);
     entries.next_waker()
 }
 
 // By the contract an entry that waits keeps a waker of the task that is answered.
 fn poll_locked(
     entries: &mut WeightedEvent<Waker>,
-    summary: &Summary,
     id: EntryId,
     source: &Source,
     cx: &mut Context<'_>,
@@ -411,10 +391,7 @@ fn poll_locked(
 {
     let mut waker = match entries.ask(id, None) {
         Asked::Waiting { kept } => kept,
-        Asked::Notified { kept, .. } => {
-            summary.follow_weighted(entries);
-            return Polled::Notified(kept);
-        }
+        Asked::Notified { kept, .. } => return Polled::Notified(kept),
         Asked::Unlisted { .. } => return Polled::Notified(None),
     };
     let _: Poll<()> = cx.register(source, &mut waker);
@@ -430,7 +407,6 @@ fn poll_locked(
 // dropped when the list's lock has been released.
 fn poll_first_locked(
     entries: &mut WeightedEvent<Waker>,
-    summary: &Summary,
     id: EntryId,
     source: &Source,
     cx: &mut Context<'_>,
@@ -443,10 +419,7 @@ fn poll_first_locked(
     let keeps = Kept::of(&made);
     match entries.ask(id, made) {
         Asked::Waiting { kept } => (Polled::Waiting(keeps), kept),
-        Asked::Notified { kept, unused } => {
-            summary.follow_weighted(entries);
-            (Polled::Notified(kept), unused)
-        }
+        Asked::Notified { kept, unused } => (Polled::Notified(kept), unused),
         Asked::Unlisted { unused } => (Polled::Notified(unused), None),
     }
 }

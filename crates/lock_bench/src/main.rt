@@ -1,6 +1,7 @@
 //! Times the public locks beside std's mutex, and prints median nanoseconds. It asserts nothing.
 #![tactic(auto)]
 
+mod alone;
 mod barrier;
 mod once_cell;
 mod permits;
@@ -36,6 +37,9 @@ const SELDOM: u64 = 20_000;
 
 /// How often threads are started in a run.
 const RARELY: u64 = 20;
+
+/// How often many locks are waited for in a run.
+const ROUNDS: u64 = 300;
 
 fn print<R: Print + Clock, W: Row>(rt: &R, name: &str, row: &W, times: u64) -> io::Result<()> {
     print_tenths(rt, name, median(rt, row, times)?)
@@ -107,6 +111,17 @@ where
         }
     }
     Ok(())
+}
+
+/// Futures that each wait alone for their lock.
+fn print_alone<R>(rt: &R, task: &MockTask) -> io::Result<()>
+where
+    R: Wait + Clock + Print + AllocGlobal + Copy + Drop,
+{
+    let mutexes = alone::of_mutexes(rt, task, ROUNDS)?;
+    print_tenths(rt, "cancel the only one of a mutex", mutexes)?;
+    let semaphores = alone::of_semaphores(rt, task, ROUNDS)?;
+    print_tenths(rt, "cancel the only acquire of a semaphore", semaphores)
 }
 
 /// What is timed of a read-write lock that nobody else wants, but for the last: a reader beside which another stays.
@@ -345,6 +360,7 @@ where
     print_rwlocks(&rt, task)?;
     print_semaphores(&rt, task)?;
     print_permits(&rt, task)?;
+    print_alone(&rt, task)?;
     print_cells(&rt, task)?;
     print_barriers(&rt, task)?;
     print_contenders(&rt, &owned)?;
