@@ -73,11 +73,7 @@ impl Joined {
         ensures { (result.list.id ≡ self.entry.list.id) × (result.keeps.by ≡ None) }
     {
         let Joined { entry, then: _ } = self;
-        let Listed {
-            id,
-            list,
-            keeps: _,
-        } = entry;
+        let Listed { id, list, keeps: _ } = entry;
         Listed {
             id,
             list,
