@@ -156,6 +156,7 @@ impl<T: Drop, R: Wait + Clock + RandomSource + AllocGlobal> Mutex<T, R> {
     /// Acquires the lock, blocking the calling thread until it is available. Any error of `block_on` is
     /// [`Refusal::Memory`]. It is refused as this, or as [`Refusal::Starved`] (`refused`).
     /// Don't call it in an async context: it blocks the thread that runs the other tasks, and may deadlock.
+    #[inline]
     pub fn lock_blocking(&self) -> Result<MutexGuard<'_, T, R>, Refusal>
         ensures mutex { IfOk result (λ guard. guard.mutex ≡ self.now) }
         ensures refused { IfErr result IsGivenUp }
@@ -163,6 +164,15 @@ impl<T: Drop, R: Wait + Clock + RandomSource + AllocGlobal> Mutex<T, R> {
         if let Some(guard) = self.try_lock() {
             return Ok(guard);
         }
+        self.lock_held()
+    }
+
+    // As `lock_blocking`, where the lock isn't free. It stands apart, so that the call is short where it is.
+    #[inline(never)]
+    fn lock_held(&self) -> Result<MutexGuard<'_, T, R>, Refusal>
+        ensures mutex { IfOk result (λ guard. guard.mutex ≡ self.now) }
+        ensures refused { IfErr result IsGivenUp }
+    {
         match block_on(&self.rt, Settled(self.lock())) {
             Ok(settled) => settled,
             Err(_) => Err(Refusal::Memory),

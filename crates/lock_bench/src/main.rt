@@ -33,7 +33,7 @@ use waiting::{Part, median_of};
 /// How often a run does what is timed, where it takes some ten nanoseconds, and where it takes more.
 const OFTEN: u64 = 500_000;
 
-const SELDOM: u64 = 20_000;
+const SELDOM: u64 = 100_000;
 
 /// How often threads are started in a run.
 const RARELY: u64 = 20;
@@ -94,10 +94,11 @@ const WAITS: [(&str, Part, [u64; 5]); 8] = [
     ("hand-over", Part::HandOverAlone, [1, 10, 100, 1000, 10_000]),
 ];
 
-/// A lock that futures wait for.
-fn print_waits<R>(rt: &R, mutex: &Mutex<u64, R>, task: &MockTask) -> io::Result<()>
+/// A lock that futures wait for. Each row has a new one, since where the entries of a list lie in memory depends on the order in
+/// which others left it before.
+fn print_waits<R>(rt: &R, task: &MockTask) -> io::Result<()>
 where
-    R: Wait + Clock + Print + AllocGlobal,
+    R: Wait + Clock + Print + AllocGlobal + Copy + Drop,
 {
     for (name, part, counts) in WAITS {
         for (at, waiting) in counts.into_iter().enumerate() {
@@ -105,7 +106,10 @@ where
             if at > 0 && waiting == 0 {
                 continue;
             }
-            let tenths = median_of(rt, mutex, task, part, waiting, SELDOM)?;
+            let Ok(mutex) = Mutex::new(*rt, 0_u64) else {
+                return Err(io::Error::other("no memory for a lock"));
+            };
+            let tenths = median_of(rt, &mutex, task, part, waiting, SELDOM)?;
             println!(rt; "{waiting} waiting:")?;
             print_tenths(rt, name, tenths)?;
         }
@@ -330,11 +334,11 @@ where
 /// The rows of one mutex.
 fn print_rows<R>(rt: &R, owned: &Arc<Mutex<u64, R>>) -> io::Result<()>
 where
-    R: Wait + Clock + Print + AllocGlobal + RandomSource + Drop,
+    R: Wait + Clock + Print + AllocGlobal + RandomSource + Copy + Drop,
 {
     let task = &MockTask::new(rt)?;
     print_pairs(rt, owned, task)?;
-    print_waits(rt, owned, task)
+    print_waits(rt, task)
 }
 
 /// All rows, or none where memory is refused.
