@@ -1,6 +1,7 @@
 //! Times the public locks beside std's mutex, and prints median nanoseconds. It asserts nothing.
 #![tactic(auto)]
 
+mod alone;
 mod barrier;
 mod once_cell;
 mod permits;
@@ -32,10 +33,13 @@ use waiting::{Part, median_of};
 /// How often a run does what is timed, where it takes some ten nanoseconds, and where it takes more.
 const OFTEN: u64 = 500_000;
 
-const SELDOM: u64 = 20_000;
+const SELDOM: u64 = 100_000;
 
 /// How often threads are started in a run.
 const RARELY: u64 = 20;
+
+/// How often many locks are waited for in a run.
+const ROUNDS: u64 = 300;
 
 fn print<R: Print + Clock, W: Row>(rt: &R, name: &str, row: &W, times: u64) -> io::Result<()> {
     print_tenths(rt, name, median(rt, row, times)?)
@@ -90,10 +94,11 @@ const WAITS: [(&str, Part, [u64; 5]); 8] = [
     ("hand-over", Part::HandOverAlone, [1, 10, 100, 1000, 10_000]),
 ];
 
-/// A lock that futures wait for.
-fn print_waits<R>(rt: &R, mutex: &Mutex<u64, R>, task: &MockTask) -> io::Result<()>
+/// A lock that futures wait for. Each row has a new one, since where the entries of a list lie in memory depends on the order in
+/// which others left it before.
+fn print_waits<R>(rt: &R, task: &MockTask) -> io::Result<()>
 where
-    R: Wait + Clock + Print + AllocGlobal,
+    R: Wait + Clock + Print + AllocGlobal + Copy + Drop,
 {
     for (name, part, counts) in WAITS {
         for (at, waiting) in counts.into_iter().enumerate() {
@@ -101,12 +106,26 @@ where
             if at > 0 && waiting == 0 {
                 continue;
             }
-            let tenths = median_of(rt, mutex, task, part, waiting, SELDOM)?;
+            let Ok(mutex) = Mutex::new(*rt, 0_u64) else {
+                return Err(io::Error::other("no memory for a lock"));
+            };
+            let tenths = median_of(rt, &mutex, task, part, waiting, SELDOM)?;
             println!(rt; "{waiting} waiting:")?;
             print_tenths(rt, name, tenths)?;
         }
     }
     Ok(())
+}
+
+/// Futures that each wait alone for their lock.
+fn print_alone<R>(rt: &R, task: &MockTask) -> io::Result<()>
+where
+    R: Wait + Clock + Print + AllocGlobal + Copy + Drop,
+{
+    let mutexes = alone::of_mutexes(rt, task, ROUNDS)?;
+    print_tenths(rt, "cancel the only one of a mutex", mutexes)?;
+    let semaphores = alone::of_semaphores(rt, task, ROUNDS)?;
+    print_tenths(rt, "cancel the only acquire of a semaphore", semaphores)
 }
 
 /// What is timed of a read-write lock that nobody else wants, but for the last: a reader beside which another stays.
@@ -315,11 +334,11 @@ where
 /// The rows of one mutex.
 fn print_rows<R>(rt: &R, owned: &Arc<Mutex<u64, R>>) -> io::Result<()>
 where
-    R: Wait + Clock + Print + AllocGlobal + RandomSource + Drop,
+    R: Wait + Clock + Print + AllocGlobal + RandomSource + Copy + Drop,
 {
     let task = &MockTask::new(rt)?;
     print_pairs(rt, owned, task)?;
-    print_waits(rt, owned, task)
+    print_waits(rt, task)
 }
 
 /// All rows, or none where memory is refused.
@@ -345,6 +364,7 @@ where
     print_rwlocks(&rt, task)?;
     print_semaphores(&rt, task)?;
     print_permits(&rt, task)?;
+    print_alone(&rt, task)?;
     print_cells(&rt, task)?;
     print_barriers(&rt, task)?;
     print_contenders(&rt, &owned)?;
