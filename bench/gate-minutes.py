@@ -1,9 +1,9 @@
 #!/usr/bin/env python3
 """Runs the whole gate, `rt ci`, and writes docs/GATE.md: the processor minutes that each crate took.
 
-Run it at the top of a clean checkout, with nothing else running: bench/gate-minutes.py
-It prints what the gate prints. Every half second it looks at the gate's processes, so that what a process takes after the
-last look is missing: some seconds in all.
+Run it at the top of a clean checkout, with nothing else running: bench/gate-minutes.py [--anew]
+With --anew all is proved and tried again that earlier runs on this machine kept. It prints what the gate prints. Every half
+second it looks at the gate's processes, so that what a process takes after the last look is missing: some seconds in all.
 """
 
 import os
@@ -48,7 +48,8 @@ def look(session, seen):
 def gate():
     """Runs the gate, and gives its last line, the minutes that it took, and what was seen of its processes."""
     began = time.monotonic()
-    running = subprocess.Popen(['rt', 'ci'], stdout=subprocess.PIPE, stderr=subprocess.STDOUT, start_new_session=True)
+    words = ['rt', 'ci', *sys.argv[1:]]
+    running = subprocess.Popen(words, stdout=subprocess.PIPE, stderr=subprocess.STDOUT, start_new_session=True)
     os.set_blocking(running.stdout.fileno(), False)
     seen, said = {}, b''
     while True:

@@ -298,7 +298,7 @@ impl<W: Wakes> WaitingList<W> {
         }
     }
 
-    // As `notify`, of a list that had entries.
+    // As `notify`, of a list that may have entries.
     #[inline(never)]
     fn notify_listed<R: Wait>(&self, rt: &R, n: usize, owed: Owed)
         requires { 1 ≤ n }

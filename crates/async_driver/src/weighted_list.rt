@@ -238,7 +238,7 @@ impl<W: Wakes> WeightedList<W> {
         owed.unless_listed(&self.summary)
     }
 
-    // As `fit`, of a list that had entries.
+    // As `fit`, of a list that may have entries.
     #[inline(never)]
     fn fit_listed<R: Wait>(&self, rt: &R, available: u64, owed: Owed) {
         let due = match &mut *locked(&self.entries, rt) {

@@ -2,11 +2,11 @@
 use Rattle.std.specs.Bool.{⊤}
 use Rattle.std.specs.Option.{IfSome}
 use Rattle.std.proofs.lemmas.Bool.{eqb-true}
-use Rattle.std.proofs.Common.{◌≡◌, ℕ, ◌==◌, Bool, true, false, Option, Some, None, IsSome, if◌then◌else◌, nat_lt, refl, ap, sym, subst, ◌∙◌, eq-eqb}
+use Rattle.std.proofs.Common.{◌≡◌, ℕ, ◌==◌, Bool, true, false, Option, Some, None, if◌then◌else◌, nat_lt, refl, ap, sym, subst, ◌∙◌}
 use Rattle.semaphore_driver.specs.Duties.{left}
 use Rattle.semaphore_driver.specs.Parties.{CanDo, CanFind, Having, IsFor, IsPolling, IsWithin, Stands, after, having, having_at, knowing, owing}
 use Rattle.semaphore_driver.specs.Semaphores.{Semaphore}
-use Rattle.semaphore_driver.specs.Table.{CanPoll, action_in, first_of, next_position, position_of}
+use Rattle.semaphore_driver.specs.Table.{action_in, first_of, next_position, position_of}
 use Rattle.semaphore_driver.specs.declared.carries.PollFor.{PollFor}
 use Rattle.semaphore_driver.specs.declared.party.PermitParty.{PermitParty}
 use Rattle.sync_program.specs.Permits.{after_taking_with, told_more}
@@ -41,12 +41,6 @@ starts c p (Some q) is = λ raw party s. let b = subst (λ o. OnStart c.permits 
 pub begins_within : (c : PollFor) (p : Position) (o : Option Position) → o ≡ first_of c p → IfSome o (IsWithin c)
 begins_within c p None is = tt
 begins_within c p (Some q) is = let b = subst (λ o. OnStart c.permits o p) (sym is) (on_start c p) in (b.2, b.3)
-
--- a party that may be polled for its permits begins
-pub begins : (c : PollFor) (p : Position) → CanPoll p → IsFor c.permits p → IsSome (first_of c p)
-begins c (Unlisted j) can same = rw (eq-eqb j c.permits same) refl
-begins c (Waiting j) can same = rw (eq-eqb j c.permits same) refl
-begins c p can same = absurd can
 
 can_at : (k : ℕ) (p : Position) → IsFor k p → CanDo k (action_in p) (having_at p)
 can_at k (At (Take j listed true)) m = (refl, tt)

@@ -1,5 +1,6 @@
 -- What each place's step in the inner lock does, by what it comes to there.
 use Rattle.world_barrier.proofs.Prelude.{◌≡◌, ◌≢◌, ℕ, ◌+◌, ◌||◌, ◌⊎◌, inl, inr, Bool, true, false, List, Option, Some, None, is_some, refl, arith, ap, sym, ◌∙◌, subst, entries_of, Answer, Move, Refusal, Within, is_refusal, refused, Deed, nothing, changes, does, joins, asks, leaves, notifies, notifies_additionally, some_eq, none_some, Table, Course, holds, starved_there, decision, is_holding, is_releasing, Takes, Releases, End, LockStep as Step, holders, starved, holder_of, starved_of, IsLegal, IsReason, decided_then, MayDo, IsPolls, holding_holds, releasing_free, Aim, Ending, Found, Next, Made, Words, arrivals_at, position_after, after_lock, after_cancel, after_release, released, with_lock, Wait, no_wait, wait_for, wait_until, wait_at, refused_by, verdict_until, Barrier, IsBarrier, answer_by, ListName, Lock, Generation, LockState, World, list_in, wait_of, is_held_by, is_starved, Change, takes, releases, lock_after, lock_list_after, gives_back, gives_up, IsAllowed, ◌<◌, IsUndecided, listed_there, may_tell, taking as polling, releasing, undecided, called, counting, has_lock, giving_up, standing_of}
+use Rattle.std.proofs.Math.Bool.{or-true}
 use Rattle.world_mutex.specs.machine.Deeds as mutex
 use Rattle.world_mutex.specs.machine.Mutex.{is_counted}
 use Rattle.world_mutex.proofs.of_machine.callers.Holders as sees
@@ -123,10 +124,6 @@ release_said e (Step.End x) c = released_said e c
 cancel_said : (s : Step) (c : Course) → said (after_cancel (Found.Lock s)) c ≡ Some Answer.GivenBack
 cancel_said Step.More c = refl
 cancel_said (Step.End x) c = refl
-
-or_true : (b : Bool) → b || true ≡ true
-or_true true = refl
-or_true false = refl
 
 same_state : (h l : Option ℕ) (a b : List Bool) → h ≡ l → a ≡ b → Path LockState (record { holder = h; starved = a }) (record { holder = l; starved = b })
 same_state h l a b e f = cc
@@ -369,7 +366,7 @@ module _ (t u : Table Barrier) (m : Move) (w : Within) (laws : IsBarrier t.machi
     releasing_on e starts s deed g backs ups after = row_of deed (wait_until e num) (verdict_until e) (after_release e (Found.Lock s)) starts g (record {
       wait = after ∙ release_wait e s num;
       parting = λ h. backs;
-      giving_up = λ h. ap (λ b. is_some (verdict_until e) || b) (ups h) ∙ or_true (is_some (verdict_until e));
+      giving_up = λ h. ap (λ b. is_some (verdict_until e) || b) (ups h) ∙ or-true (is_some (verdict_until e));
       judged = (let P : Option Answer → Type 0 = Judged starts (verdict_until e) in subst P (sym (release_said e s d)) (kept e));
       clear = release_clear e s;
       not_over = release_over e s;

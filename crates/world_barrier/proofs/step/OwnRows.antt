@@ -1,8 +1,13 @@
 -- What each place's action does that is no step in the inner lock, finding by finding.
-use Rattle.world_barrier.proofs.Prelude.{◌≡◌, ℕ, ◌+◌, ◌≤◌, inl, inr, true, false, List, Some, None, refl, arith, ap, sym, ◌∙◌, subst, Entry, is_marked_at, mark_at, is_party, entries_of, Answer, Got, Move, Refusal, Within, nothing, changes, does, joins, asks, leaves, notifies, list_after, Table, is_holding, Mutex, holder_of, starved_of, holding_holds, holding_unlisted, Found, Place, Look, Join, Arrive, Complete, NotifyAll, Check, JoinAgain, Ask, CancelLeave, Abandon, Progress, Words, arrivals_at, everyone, Wait, uncounted, counted, Barrier, IsBarrier, ListName, Lock, Generation, Leads, generations_of, LockState, World, list_in, wait_of, told_in, arrives, HasToWait, IsAnswered, IsAsBefore}
+use Rattle.world_barrier.proofs.Prelude.{◌≡◌, ℕ, ◌+◌, ◌≤◌, inl, inr, true, false, List, Some, None, refl, arith, ap, sym, ◌∙◌, subst, Entry, is_marked_at, mark_at, is_party, entries_of, Answer, Got, Move, Refusal, Within, nothing, changes, does, joins, asks, leaves, notifies, list_after, Table, is_holding, Mutex, holder_of, starved_of, holding_holds, holding_unlisted, Found, Place, Look, Join, Arrive, Complete, NotifyAll, Check, JoinAgain, Ask, CancelLeave, Abandon, Progress, Words, arrivals_at, everyone, Wait, uncounted, counted, Barrier, IsBarrier, ListName, Lock, Generation, Leads, generations_of, LockState, World, list_in, wait_of, told_in, arrives, HasToWait, IsAnswered, IsAsBefore, ◌||◌, Bool, Option, is_some, Deed, Course, lock_after, lock_list_after, arrivals_after, generation_list_after, gives_back, gives_up, is_refusal, answer_by, next_of, place_wait, verdict_of, Change, true≢false, false≢true, inputs_of, is_held_by, IsAllowed, ◌≢◌, refused}
 use Rattle.lock_event.specs.declared.event.Mark.TheVariants.{Waiting as Waits_unmarked}
 use Rattle.world_base.proofs.of_queue.Told.{waits_at}
 use Rattle.world_mutex.proofs.of_machine.callers.Holders as sees
+use Rattle.std.proofs.Math.Bool.{not, or-true}
+use Rattle.world_base.specs.Steps.{ListFunction}
+use Rattle.std.proofs.lemmas.Bool.{or_left}
+use Rattle.world_barrier.proofs.step.Here.{may_begin_at}
+use Rattle.world_barrier.proofs.step.Locks.{wait_by}
 use Rattle.world_barrier.proofs.step.Turns as turns
 use Rattle.world_barrier.proofs.step.Turns.{said}
 use Rattle.world_barrier.proofs.Numbers as numbers
@@ -28,6 +33,12 @@ module _ (t u : Table Barrier) (m : Move) (w : Within) (laws : IsBarrier t.machi
 
   abbrev RowAt : Place → Found → Type 0
   RowAt = turns.RowAt t u m w
+
+  abbrev c : Course
+  c = turns.c t u m w
+
+  abbrev d : Course
+  d = turns.d t u m w
 
   abbrev old : World
   old = turns.old t u m w
@@ -109,112 +120,101 @@ module _ (t u : Table Barrier) (m : Move) (w : Within) (laws : IsBarrier t.machi
       let P : List (Entry ℕ) → Type 0 = λ es. mark_at (is_party p) es ≡ Some Waits_unmarked in
       subst P (sym kept) (waits_at p t.machine.entries x.owner x.finds)
 
-  pub look_waits : Known Look Found.MustWait → RowAt Look Found.MustWait
-  look_waits x = record {
-    deed = nothing;
-    allowed = tt;
-    lock = same_lock x.lock;
-    arrivals = same_arrivals x.lock x.words_then;
-    lock_list = same_lock_list x.lock;
-    list = x.entries_then;
-    wait = x.after;
-    memory = λ list e. absurd (cc);
-    parting = λ h. absurd (cc);
-    giving_up = λ h. absurd (cc);
-    judged = tt;
-    led = λ e leads. absurd (never_more x.lock x.words_then e);
-    clear = λ h. absurd (cc);
-    not_over = λ e. cc;
+  implied : (a b : Bool) → not a || b ≡ true → a ≡ true → b ≡ true
+  implied true b h e = h
+  implied false b h e = absurd (false≢true e)
+
+  -- A step that leaves the inner lock and the count alone makes at most one call of the generation's list.
+  abbrev on_list : Option ListFunction → Deed Change ListName
+  on_list None = nothing
+  on_list (Some g) = does Generation g
+
+  lock_alone : (o : Option ListFunction) (s : LockState) → lock_after p (on_list o) s ≡ s
+  lock_alone None s = refl
+  lock_alone (Some g) s = refl
+
+  lock_list_alone : (o : Option ListFunction) (l : List (Entry ℕ)) → lock_list_after p (on_list o) l ≡ l
+  lock_list_alone None l = refl
+  lock_list_alone (Some g) l = refl
+
+  arrivals_alone : (o : Option ListFunction) (n : ℕ) → arrivals_after (on_list o) n ≡ n
+  arrivals_alone None n = refl
+  arrivals_alone (Some g) n = refl
+
+  -- what differs from one such step to the next
+  record Beside (o : Option ListFunction) (y : Place) (f : Found) : Type 0 where
+    pub allowed : IsAllowed old m (on_list o)
+    pub list : new.list ≡ generation_list_after p (on_list o) old.list
+    pub wait : wait_of new p ≡ wait_by (on_list o) k (answer_by (next_of y f)) (place_wait y num)
+    pub memory : (list : ListName) → on_list o ≡ does list joins → (inputs_of m.what).memory ≡ true
+    pub judged : turns.Judged t u m w (may_begin_at y) (verdict_of y c) (said (next_of y f) d)
+
+  -- A decided call only gives back, only a decided call gives up, and no call is refused before the lock is released.
+  beside : (o : Option ListFunction) (y : Place) (f : Found) → u.machine.lock ≡ t.machine.lock → u.machine.words ≡ words → not (is_some (verdict_of y c)) || gives_back (on_list o) ≡ true → not (gives_up (on_list o)) || is_some (verdict_of y c) ≡ true → is_refusal (answer_by (next_of y f)) ≡ false → answer_by (next_of y f) ≢ refused Refusal.Finished → Beside o y f → RowAt y f
+  beside o y f lock still back up unrefused over b = record {
+    deed = on_list o;
+    allowed = b.allowed;
+    lock = same_lock lock ∙ sym (lock_alone o old.lock);
+    arrivals = same_arrivals lock still ∙ sym (arrivals_alone o old.arrivals);
+    lock_list = same_lock_list lock ∙ sym (lock_list_alone o old.lock_list);
+    list = b.list;
+    wait = b.wait;
+    memory = b.memory;
+    parting = implied (is_some (verdict_of y c)) (gives_back (on_list o)) back;
+    giving_up = λ h. or_left (is_some (verdict_of y c)) (is_held_by old.lock.holder p) (implied (gives_up (on_list o)) (is_some (verdict_of y c)) up h);
+    judged = b.judged;
+    led = λ e leads. absurd (never_more lock still e);
+    clear = λ h. absurd (true≢false (sym h ∙ unrefused));
+    not_over = over;
   }
+
+  -- A step that does nothing.
+  idle : (y : Place) (f : Found) → u.machine.lock ≡ t.machine.lock → u.machine.words ≡ words → new.list ≡ old.list → wait_of new p ≡ wait_by nothing k (answer_by (next_of y f)) (place_wait y num) → is_refusal (answer_by (next_of y f)) ≡ false → answer_by (next_of y f) ≢ refused Refusal.Finished → turns.Judged t u m w (may_begin_at y) (verdict_of y c) (said (next_of y f) d) → RowAt y f
+  idle y f lock still list wait unrefused over judged = beside None y f lock still (or-true (not (is_some (verdict_of y c)))) refl unrefused over (record {
+    allowed = tt;
+    list = list;
+    wait = wait;
+    memory = λ l e. absurd (cc);
+    judged = judged;
+  })
+
+  pub look_waits : Known Look Found.MustWait → RowAt Look Found.MustWait
+  look_waits x = idle Look Found.MustWait x.lock x.words_then x.entries_then x.after refl (λ e. cc) tt
 
   pub look_leads : Known Look Found.Leads → RowAt Look Found.Leads
-  look_leads x = record {
-    deed = nothing;
-    allowed = tt;
-    lock = same_lock x.lock;
-    arrivals = same_arrivals x.lock x.words_then;
-    lock_list = same_lock_list x.lock;
-    list = x.entries_then;
-    wait = x.after;
-    memory = λ list e. absurd (cc);
-    parting = λ h. absurd (cc);
-    giving_up = λ h. absurd (cc);
-    judged = tt;
-    led = λ e leads. absurd (never_more x.lock x.words_then e);
-    clear = λ h. absurd (cc);
-    not_over = λ e. cc;
-  }
+  look_leads x = idle Look Found.Leads x.lock x.words_then x.entries_then x.after refl (λ e. cc) tt
 
   pub look_past : Known Look Found.Past → RowAt Look Found.Past
-  look_past x = record {
-    deed = nothing;
-    allowed = tt;
-    lock = same_lock x.lock;
-    arrivals = same_arrivals x.lock x.words_then;
-    lock_list = same_lock_list x.lock;
-    list = x.entries_then;
-    wait = x.after;
-    memory = λ list e. absurd (cc);
-    parting = λ h. absurd (cc);
-    giving_up = λ h. absurd (cc);
-    judged = (
-      (
-        Refusal.Generations,
-        refl,
-        record {
-          uncounted = x.before refl;
-          leads = numbers.next_leads words.size words.progress laws.sound.unfinished x.finds.0;
-          limit = at_limit x.finds.1;
-          unchanged = as_before x.lock x.words_then x.entries_then uncounted (x.before refl) x.after;
-        },
-      ),
+  look_past x = idle Look Found.Past x.lock x.words_then x.entries_then x.after refl (λ e. cc) (
+    (
+      Refusal.Generations,
       refl,
-      λ e. absurd (omega (arith, e)),
-    );
-    led = λ e leads. absurd (never_more x.lock x.words_then e);
-    clear = λ h. absurd (cc);
-    not_over = λ e. cc;
-  }
+      record {
+        uncounted = x.before refl;
+        leads = numbers.next_leads words.size words.progress laws.sound.unfinished x.finds.0;
+        limit = at_limit x.finds.1;
+        unchanged = as_before x.lock x.words_then x.entries_then uncounted (x.before refl) x.after;
+      },
+    ),
+    refl,
+    λ e. absurd (omega (arith, e)),
+  )
 
   pub join_done : Known Join Found.Done → RowAt Join Found.Done
-  join_done x = record {
-    deed = does Generation joins;
+  join_done x = beside (Some joins) Join Found.Done x.lock x.words_then refl refl refl (λ e. cc) (record {
     allowed = (its_lock x.link, (let P : Wait → Type 0 = HasToWait old in subst P (sym (x.before refl)) (numbers.next_follows words.size words.progress x.sure)));
-    lock = same_lock x.lock;
-    arrivals = same_arrivals x.lock x.words_then;
-    lock_list = same_lock_list x.lock;
     list = x.entries_then;
     wait = x.after;
     memory = λ list e. x.finds;
-    parting = λ h. absurd (cc);
-    giving_up = λ h. absurd (cc);
     judged = tt;
-    led = λ e leads. absurd (never_more x.lock x.words_then e);
-    clear = λ h. absurd (cc);
-    not_over = λ e. cc;
-  }
+  })
 
   pub join_refused : Known Join Found.NoMemory → RowAt Join Found.NoMemory
-  join_refused x = record {
-    deed = nothing;
-    allowed = tt;
-    lock = same_lock x.lock;
-    arrivals = same_arrivals x.lock x.words_then;
-    lock_list = same_lock_list x.lock;
-    list = x.entries_then;
-    wait = x.after;
-    memory = λ list e. absurd (cc);
-    parting = λ h. absurd (cc);
-    giving_up = λ h. absurd (cc);
-    judged = (
-      (Refusal.Memory, refl, record { input = x.finds; needed = λ h. (let P : Wait → Type 0 = HasToWait old in subst P (sym (x.before refl)) (numbers.next_follows words.size words.progress x.sure)); unlisted = both_lists x.link x.owner; unchanged = as_before x.lock x.words_then x.entries_then (uncounted) (x.before refl) x.after }),
-      refl,
-      λ e. absurd (omega (arith, e)),
-    );
-    led = λ e leads. absurd (never_more x.lock x.words_then e);
-    clear = λ h. absurd (cc);
-    not_over = λ e. cc;
-  }
+  join_refused x = idle Join Found.NoMemory x.lock x.words_then x.entries_then x.after refl (λ e. cc) (
+    (Refusal.Memory, refl, record { input = x.finds; needed = λ h. (let P : Wait → Type 0 = HasToWait old in subst P (sym (x.before refl)) (numbers.next_follows words.size words.progress x.sure)); unlisted = both_lists x.link x.owner; unchanged = as_before x.lock x.words_then x.entries_then (uncounted) (x.before refl) x.after }),
+    refl,
+    λ e. absurd (omega (arith, e)),
+  )
 
   pub arrive : Known Arrive Found.Done → RowAt Arrive Found.Done
   arrive x = record {
@@ -263,167 +263,62 @@ module _ (t u : Table Barrier) (m : Move) (w : Within) (laws : IsBarrier t.machi
   }
 
   pub notify : Known NotifyAll Found.Done → RowAt NotifyAll Found.Done
-  notify x = record {
-    deed = does Generation (notifies everyone);
+  notify x = beside (Some (notifies everyone)) NotifyAll Found.Done x.lock x.words_then refl refl refl (λ e. cc) (record {
     allowed = (refl, its_lock x.link, (num, x.before refl, numbers.leads words.size mine x.outcome.0));
-    lock = same_lock x.lock;
-    arrivals = same_arrivals x.lock x.words_then;
-    lock_list = same_lock_list x.lock;
     list = x.entries_then;
     wait = x.after;
     memory = λ list e. absurd (cc);
-    parting = λ h. refl;
-    giving_up = λ h. absurd (cc);
     judged = refl;
-    led = λ e leads. absurd (never_more x.lock x.words_then e);
-    clear = λ h. absurd (cc);
-    not_over = λ e. cc;
-  }
+  })
 
   pub check_finished : Known Check Found.Finished → RowAt Check Found.Finished
-  check_finished x = record {
-    deed = nothing;
-    allowed = tt;
-    lock = same_lock x.lock;
-    arrivals = same_arrivals x.lock x.words_then;
-    lock_list = same_lock_list x.lock;
-    list = x.entries_then;
-    wait = x.after;
-    memory = λ list e. absurd (cc);
-    parting = λ h. absurd (cc);
-    giving_up = λ h. absurd (cc);
-    judged = (num, x.after, (let P : Words → Type 0 = λ v. sized v num in subst P (sym x.words_then) (numbers.follower_follows words.size mine (x.follower refl), numbers.is_finished_apart words.size mine words.progress (x.follower refl) (laws.past p) x.finds)));
-    led = λ e leads. absurd (never_more x.lock x.words_then e);
-    clear = λ h. absurd (cc);
-    not_over = λ e. cc;
-  }
+  check_finished x = idle Check Found.Finished x.lock x.words_then x.entries_then x.after refl (λ e. cc) (num, x.after, (let P : Words → Type 0 = λ v. sized v num in subst P (sym x.words_then) (numbers.follower_follows words.size mine (x.follower refl), numbers.is_finished_apart words.size mine words.progress (x.follower refl) (laws.past p) x.finds)))
 
   pub check_unfinished : Known Check Found.Unfinished → RowAt Check Found.Unfinished
-  check_unfinished x = record {
-    deed = nothing;
-    allowed = tt;
-    lock = same_lock x.lock;
-    arrivals = same_arrivals x.lock x.words_then;
-    lock_list = same_lock_list x.lock;
-    list = x.entries_then;
-    wait = x.after;
-    memory = λ list e. absurd (cc);
-    parting = λ h. absurd (cc);
-    giving_up = λ h. absurd (cc);
-    judged = tt;
-    led = λ e leads. absurd (never_more x.lock x.words_then e);
-    clear = λ h. absurd (cc);
-    not_over = λ e. cc;
-  }
+  check_unfinished x = idle Check Found.Unfinished x.lock x.words_then x.entries_then x.after refl (λ e. cc) tt
 
   pub rejoin_done : Known JoinAgain Found.Done → RowAt JoinAgain Found.Done
-  rejoin_done x = record {
-    deed = does Generation joins;
+  rejoin_done x = beside (Some joins) JoinAgain Found.Done x.lock x.words_then refl refl refl (λ e. cc) (record {
     allowed = (its_lock x.link, (let P : Wait → Type 0 = HasToWait old in subst P (sym (x.before refl)) (numbers.is_unfinished words.size mine words.progress (x.follower refl) laws.sound.unfinished x.sure)));
-    lock = same_lock x.lock;
-    arrivals = same_arrivals x.lock x.words_then;
-    lock_list = same_lock_list x.lock;
     list = x.entries_then;
     wait = x.after;
     memory = λ list e. x.finds;
-    parting = λ h. absurd (cc);
-    giving_up = λ h. absurd (cc);
     judged = tt;
-    led = λ e leads. absurd (never_more x.lock x.words_then e);
-    clear = λ h. absurd (cc);
-    not_over = λ e. cc;
-  }
+  })
 
   pub rejoin_refused : Known JoinAgain Found.NoMemory → RowAt JoinAgain Found.NoMemory
-  rejoin_refused x = record {
-    deed = nothing;
-    allowed = tt;
-    lock = same_lock x.lock;
-    arrivals = same_arrivals x.lock x.words_then;
-    lock_list = same_lock_list x.lock;
-    list = x.entries_then;
-    wait = x.after;
-    memory = λ list e. absurd (cc);
-    parting = λ h. absurd (cc);
-    giving_up = λ h. absurd (cc);
-    judged = (
-      (Refusal.Memory, refl, record { input = x.finds; needed = λ h. (let P : Wait → Type 0 = HasToWait old in subst P (sym (x.before refl)) (numbers.is_unfinished words.size mine words.progress (x.follower refl) laws.sound.unfinished x.sure)); unlisted = both_lists x.link x.owner; unchanged = as_before x.lock x.words_then x.entries_then (counted num) (x.before refl) x.after }),
-      refl,
-      λ e. absurd (omega (arith, e)),
-    );
-    led = λ e leads. absurd (never_more x.lock x.words_then e);
-    clear = λ h. absurd (cc);
-    not_over = λ e. cc;
-  }
+  rejoin_refused x = idle JoinAgain Found.NoMemory x.lock x.words_then x.entries_then x.after refl (λ e. cc) (
+    (Refusal.Memory, refl, record { input = x.finds; needed = λ h. (let P : Wait → Type 0 = HasToWait old in subst P (sym (x.before refl)) (numbers.is_unfinished words.size mine words.progress (x.follower refl) laws.sound.unfinished x.sure)); unlisted = both_lists x.link x.owner; unchanged = as_before x.lock x.words_then x.entries_then (counted num) (x.before refl) x.after }),
+    refl,
+    λ e. absurd (omega (arith, e)),
+  )
 
   pub ask_yes : Known Ask Found.Yes → RowAt Ask Found.Yes
-  ask_yes x = record {
-    deed = does Generation asks;
+  ask_yes x = beside (Some asks) Ask Found.Yes x.lock x.words_then refl refl refl (λ e. cc) (record {
     allowed = (num, x.before refl);
-    lock = same_lock x.lock;
-    arrivals = same_arrivals x.lock x.words_then;
-    lock_list = same_lock_list x.lock;
     list = x.entries_then;
     wait = x.after;
     memory = λ list e. absurd (cc);
-    parting = λ h. absurd (cc);
-    giving_up = λ h. absurd (cc);
     judged = tt;
-    led = λ e leads. absurd (never_more x.lock x.words_then e);
-    clear = λ h. absurd (cc);
-    not_over = λ e. cc;
-  }
+  })
 
   pub ask_no : Known Ask Found.No → RowAt Ask Found.No
-  ask_no x = record {
-    deed = does Generation asks;
+  ask_no x = beside (Some asks) Ask Found.No x.lock x.words_then refl refl refl (λ e. cc) (record {
     allowed = (num, x.before refl);
-    lock = same_lock x.lock;
-    arrivals = same_arrivals x.lock x.words_then;
-    lock_list = same_lock_list x.lock;
     list = x.entries_then;
     wait = x.after;
     memory = λ list e. absurd (cc);
-    parting = λ h. absurd (cc);
-    giving_up = λ h. absurd (cc);
     judged = inr ((num, x.after), told_so x);
-    led = λ e leads. absurd (never_more x.lock x.words_then e);
-    clear = λ h. absurd (cc);
-    not_over = λ e. cc;
-  }
+  })
 
   pub leave : Known CancelLeave Found.Done → RowAt CancelLeave Found.Done
-  leave x = record {
-    deed = does Generation leaves;
+  leave x = beside (Some leaves) CancelLeave Found.Done x.lock x.words_then refl refl refl (λ e. cc) (record {
     allowed = x.drops refl;
-    lock = same_lock x.lock;
-    arrivals = same_arrivals x.lock x.words_then;
-    lock_list = same_lock_list x.lock;
     list = x.entries_then;
     wait = x.after;
     memory = λ list e. absurd (cc);
-    parting = λ h. refl;
-    giving_up = λ h. refl;
     judged = refl;
-    led = λ e leads. absurd (never_more x.lock x.words_then e);
-    clear = λ h. absurd (cc);
-    not_over = λ e. cc;
-  }
+  })
 
   pub abandon : Known Abandon Found.Done → RowAt Abandon Found.Done
-  abandon x = record {
-    deed = nothing;
-    allowed = tt;
-    lock = same_lock x.lock;
-    arrivals = same_arrivals x.lock x.words_then;
-    lock_list = same_lock_list x.lock;
-    list = x.entries_then;
-    wait = x.after;
-    memory = λ list e. absurd (cc);
-    parting = λ h. refl;
-    giving_up = λ h. absurd (cc);
-    judged = refl;
-    led = λ e leads. absurd (never_more x.lock x.words_then e);
-    clear = λ h. absurd (cc);
-    not_over = λ e. cc;
-  }
+  abandon x = idle Abandon Found.Done x.lock x.words_then x.entries_then x.after refl (λ e. cc) refl

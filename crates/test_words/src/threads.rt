@@ -2,7 +2,7 @@
 
 use crate::found::Found::{FreeWithOthers, Got};
 use crate::found::{add_one, while_counted};
-use crate::words::{Row, play};
+use crate::mutex_tests::{Row, play};
 use lock_words::Words;
 use std::sync::Wait;
 use std::thread;
