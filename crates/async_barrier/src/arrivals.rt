@@ -20,7 +20,7 @@ pub struct Arrival {
 }
 
 impl Arrival {
-    /// The generation that it was counted in, from 0. It is for tests.
+    /// Returns the generation that it was counted in, from 0. It is for tests.
     pub fn generation(&self) -> u64
         ensures { result ≡ self.now.generation }
     {

@@ -59,7 +59,7 @@ impl<R: AllocGlobal + Drop> Barrier<R> {
 }
 
 impl<R> Barrier<R> {
-    /// The barrier without its runtime. It is for tests.
+    /// Returns the barrier without its runtime. It is for tests.
     pub fn raw(&self) -> &RawBarrier
         ensures { result.now ≡ self.now.raw }
     {
@@ -70,7 +70,7 @@ impl<R> Barrier<R> {
 impl<R: Wait> Barrier<R> {
     ghost use Rattle.async_barrier.specs.Futures.{future};
 
-    /// A future of a wait at this barrier, which does nothing until it is polled. Its arrival counts once a poll has had the
+    /// Returns a future of a wait at this barrier, which does nothing until it is polled. Its arrival counts once a poll has had the
     /// inner lock.
     pub fn wait(&self) -> BarrierWait<'_, R>
         ensures { result ≡ future self.now false None }

@@ -72,7 +72,7 @@ pub struct BarrierParty {
 }
 
 impl BarrierParty {
-    /// How the wait of a party has ended that is ready: its evidence. The rest of it is dropped.
+    /// Returns how the wait of a party has ended that is ready: its evidence. The rest of it is dropped.
     pub fn into_verdict(self, raw: &RawBarrier, leads: bool) -> Verdict
         requires { Stands raw.now self (left.Ready leads) }
         ensures { leads_by result ≡ leads }
@@ -114,7 +114,7 @@ impl BarrierParty {
 }
 
 impl RawBarrier {
-    /// A party outside every call, with nothing.
+    /// Returns a party outside every call, with nothing.
     pub fn party(&self) -> BarrierParty
         ensures { Stands self.now result (left.Outside position.Out) }
     {

@@ -26,7 +26,7 @@ impl BarrierWaitResult {
         }
     }
 
-    /// Whether this wait was the arrival that finished its generation. Of each generation exactly one is.
+    /// Returns whether this wait was the arrival that finished its generation. Of each generation exactly one is.
     pub fn is_leader(&self) -> bool
         ensures { result ≡ self.now.is_leader }
     {

@@ -63,7 +63,7 @@ impl<'a, R: Wait> BarrierWait<'a, R> {
 }
 
 impl<R: Wait + Clock> BarrierWait<'_, R> {
-    /// One poll: ready with whether this wait led its generation, or pending.
+    /// Polls once: ready with whether this wait led its generation, or pending.
     ///
     /// It is refused as [`Refusal::Memory`] if memory for an entry was refused, as [`Refusal::Starved`] if as many wait starved
     /// for the inner lock as may, and as [`Refusal::Generations`] if the arrival would finish a generation past the limit. Then

@@ -50,7 +50,7 @@ impl<T, R: Wait, O: Owns<T, R>> Guard<T, R, O> {
 }
 
 impl<'a, T, R: Wait> Guard<T, R, &'a Mutex<T, R>> {
-    /// The mutex that the guard holds.
+    /// Returns the mutex that the guard holds.
     pub fn source(guard: &Guard<T, R, &'a Mutex<T, R>>) -> &'a Mutex<T, R>
         ensures { result.now ≡ guard.now.mutex }
     {
@@ -59,7 +59,7 @@ impl<'a, T, R: Wait> Guard<T, R, &'a Mutex<T, R>> {
 }
 
 impl<T: Drop, R: Wait + Drop> Guard<T, R, Arc<Mutex<T, R>>> {
-    /// The mutex that the guard holds.
+    /// Returns the mutex that the guard holds.
     pub fn source(guard: &Guard<T, R, Arc<Mutex<T, R>>>) -> &Arc<Mutex<T, R>>
         ensures { arc_value result.now ≡ guard.now.mutex }
     {

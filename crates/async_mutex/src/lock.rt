@@ -57,7 +57,7 @@ impl<T, R: Wait, O: Owns<T, R>> LockFuture<T, R, O> {
 }
 
 impl<T, R: Wait + Clock, O: Owns<T, R>> LockFuture<T, R, O> {
-    /// One poll: ready with the guard, or pending.
+    /// Polls once: ready with the guard, or pending.
     ///
     /// It is refused as [`Refusal::Memory`] if memory for its entry was refused, or if no share of the mutex could be had, and as
     /// [`Refusal::Starved`] if as many waiters are starved as may be. Then the future is as when it was made, and may be polled

@@ -70,7 +70,7 @@ impl<T: Drop, R: AllocGlobal + Drop> Mutex<T, R> {
 }
 
 impl<T, R> Mutex<T, R> {
-    /// The value, also of a mutex that a forgotten guard left held. It waits for nobody and takes no memory.
+    /// Returns the value, also of a mutex that a forgotten guard left held. It waits for nobody and takes no memory.
     pub fn into_inner(self) -> T
     where
         R: Drop,
@@ -80,7 +80,7 @@ impl<T, R> Mutex<T, R> {
         raw.into_inner()
     }
 
-    /// The value, also of a mutex that a forgotten guard left held, which stays held. It waits for nobody and takes
+    /// Returns the value, also of a mutex that a forgotten guard left held, which stays held. It waits for nobody and takes
     /// no memory.
     pub fn get_mut(&mut self) -> &mut T {
         self.raw.words.get_mut()
@@ -98,7 +98,7 @@ impl<T, R: Wait> Mutex<T, R> {
         Some(Guard::new(self, seat, hold))
     }
 
-    /// A future of the lock, which does nothing until it is polled.
+    /// Returns a future of the lock, which does nothing until it is polled.
     pub fn lock(&self) -> Lock<'_, T, R>
         ensures mutex { IsFor (λ o. o.now) result.stage self.now }
         ensures new { is_finished result.stage ≡ false }
@@ -125,7 +125,7 @@ impl<T, R: Wait> Mutex<T, R> {
 }
 
 impl<T: Drop, R: Wait + Drop> Mutex<T, R> {
-    /// As [`Mutex::try_lock`], for a guard that owns its share of the mutex. It is `None` too where that share
+    /// Does as [`Mutex::try_lock`] does, for a guard that owns its share of the mutex. It is `None` too where that share
     /// can't be had.
     pub fn try_lock_arc(this: &Arc<Mutex<T, R>>) -> Option<MutexGuardArc<T, R>>
         ensures { IfSome result (λ guard. guard.mutex ≡ arc_value this.now) }
@@ -140,7 +140,7 @@ impl<T: Drop, R: Wait + Drop> Mutex<T, R> {
         }
     }
 
-    /// As [`Mutex::lock`], for a future that owns its share of the mutex and gives it to its guard. Where that share
+    /// Does as [`Mutex::lock`] does, for a future that owns its share of the mutex and gives it to its guard. Where that share
     /// can't be had, its polls are refused as [`Refusal::Memory`].
     #[inline]
     pub fn lock_arc(this: &Arc<Mutex<T, R>>) -> LockArc<T, R>
@@ -181,7 +181,7 @@ impl<T: Drop, R: Wait + Clock + RandomSource + AllocGlobal> Mutex<T, R> {
 }
 
 impl<T: Drop, R: Wait + Clock + RandomSource + AllocGlobal + Drop> Mutex<T, R> {
-    /// As [`Mutex::lock_blocking`], for a guard that owns its share of the mutex.
+    /// Does as [`Mutex::lock_blocking`] does, for a guard that owns its share of the mutex.
     pub fn lock_arc_blocking(this: &Arc<Mutex<T, R>>) -> Result<MutexGuardArc<T, R>, Refusal>
         ensures mutex { IfOk result (λ guard. guard.mutex ≡ arc_value this.now) }
         ensures refused { IfErr result IsGivenUp }

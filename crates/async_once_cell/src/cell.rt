@@ -123,7 +123,7 @@ impl<T, R> OnceCell<T, R> {
 }
 
 impl<T, R> OnceCell<T, R> {
-    /// The cell without its runtime. It is for tests.
+    /// Returns the cell without its runtime. It is for tests.
     pub fn raw(&self) -> &RawCell<T>
         ensures { result.now ≡ self.now.raw }
     {
@@ -132,7 +132,7 @@ impl<T, R> OnceCell<T, R> {
 }
 
 impl<T: Drop, R: Waits> OnceCell<T, R> {
-    /// A future of the value, which only waits until the cell has one. It does nothing until it is polled; its polls ask the runtime
+    /// Returns a future of the value, which only waits until the cell has one. It does nothing until it is polled; its polls ask the runtime
     /// for the clock, the lists' short locks and memory. In the Rust crate it is an `async fn`, as are the three below.
     pub fn wait(&self) -> Wait<'_, T, R>
         ensures { result ≡ record { cell = self.now; is_over = false; entry = None } }
@@ -140,7 +140,7 @@ impl<T: Drop, R: Waits> OnceCell<T, R> {
         Wait::new(self)
     }
 
-    /// A future of the value, which the closure's future makes if the cell is empty, and which may fail: then the cell stays empty,
+    /// Returns a future of the value, which the closure's future makes if the cell is empty, and which may fail: then the cell stays empty,
     /// and the next one that would make the value is notified. It does nothing until it is polled. The closure is called once at
     /// most by each future: after a maker that failed or was cancelled another's closure is called, as in the Rust crate.
     ///
@@ -157,7 +157,7 @@ impl<T: Drop, R: Waits> OnceCell<T, R> {
         GetOrTryInit::new(self, closure)
     }
 
-    /// A future of the value, which the closure's future makes if the cell is empty. It does nothing until it is polled. The closure
+    /// Returns a future of the value, which the closure's future makes if the cell is empty. It does nothing until it is polled. The closure
     /// is called once at most by each future. What it asks of the closure (`call`, `poll`) is as in [`OnceCell::get_or_try_init`].
     pub fn get_or_init<F: FnOnce() -> Fut, Fut: Future<Output = T>>(
         &self,
@@ -170,7 +170,7 @@ impl<T: Drop, R: Waits> OnceCell<T, R> {
         GetOrInit::new(self, closure)
     }
 
-    /// A future that puts this value in if the cell is empty, and else has it back. It does nothing until it is polled.
+    /// Returns a future that puts this value in if the cell is empty, and else has it back. It does nothing until it is polled.
     pub fn set(&self, value: T) -> Set<'_, T, R>
         ensures { result ≡ record { cell = self.now; is_over = false; entry = None; value = Some value } }
     {
@@ -186,7 +186,7 @@ impl<T: Drop, R: Waits> OnceCell<T, R> {
         self.raw.try_set(&self.rt, value)
     }
 
-    /// As [`OnceCell::try_set`]; a value that is put in is shown (`shown`), so that whatever shows the cell's value while this does shows
+    /// Does as [`OnceCell::try_set`] does; a value that is put in is shown (`shown`), so that whatever shows the cell's value while this does shows
     /// the same. The Rust crate has no such call.
     pub fn try_set_shown(&self, value: T) -> Result<OnceToken<'_, T>, T>
         ensures shown { IfOk result (λ token. (token.of ≡ self.now.raw.word.store) × (token.value ≡ value)) }

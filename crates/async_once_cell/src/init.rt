@@ -78,7 +78,7 @@ impl<
     F: FnOnce() -> Fut,
     Fut: Future<Output = Result<T, E>>,
 > GetOrTryInit<'a, T, E, R, F, Fut> {
-    /// One poll: ready with the cell's value or with how the closure's future failed, or pending. It asks that the closure may be
+    /// Polls once: ready with the cell's value or with how the closure's future failed, or pending. It asks that the closure may be
     /// called and its future polled, as its maker said, and keeps that (`again`).
     ///
     /// It is refused as [`Refusal::Memory`](crate::Refusal) if memory for its entry was refused; then it is as when it was made, with its
@@ -205,7 +205,7 @@ impl<'a, T: Drop, R: Wait + Clock, F: FnOnce() -> Fut, Fut: Future<Output = T>> 
 > {
     ghost use Rattle.std.specs.declared.convert.Infallible.{Infallible};
 
-    /// One poll, as [`GetOrTryInit::poll`]: ready with the cell's value, or pending.
+    /// Polls once, as [`GetOrTryInit::poll`]: ready with the cell's value, or pending.
     #[inline]
     pub fn poll(&mut self, cx: &mut Context<'_>) -> Turn<&'a T>
         requires { IfSome self.old.maker (CanMake F.pre F.post Fut.can_poll) }

@@ -84,7 +84,7 @@ fn value_of<'a, T: Drop, R: Wait>(cell: &'a OnceCell<T, R>, stage: Stage<Given<T
 }
 
 impl<'a, T: Drop, R: Wait + Clock> Set<'a, T, R> {
-    /// One poll: ready with the cell's value, which is the one that was set; ready with the value back, if the cell was full;
+    /// Polls once: ready with the cell's value, which is the one that was set; ready with the value back, if the cell was full;
     /// or pending, while another task makes the value.
     ///
     /// It is refused as [`Refusal::Memory`](crate::Refusal) if memory for its entry was refused; then it is as when it was made, with its

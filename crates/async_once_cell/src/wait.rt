@@ -54,7 +54,7 @@ impl<'a, T: Drop, R: Waits> Wait<'a, T, R> {
 }
 
 impl<'a, T: Drop, R: Waits + Clock> Wait<'a, T, R> {
-    /// One poll: ready with the cell's value, or pending.
+    /// Polls once: ready with the cell's value, or pending.
     ///
     /// It is refused as [`Refusal::Memory`](crate::Refusal) if memory for its entry was refused; then it stands in no list and may be
     /// polled again. Once it was ready it is refused as `Refusal::Finished`, and nothing changes (`turn`, `over`).

@@ -162,7 +162,7 @@ impl<T: Drop, R: Wait + Clock + RandomSource + AllocGlobal> RwLock<T, R> {
 }
 
 impl<T: Drop, R: Wait + Drop> RwLock<T, R> {
-    /// As [`RwLock::try_read`], for a guard that has a share of the lock. It is `None` too if that share can't be had.
+    /// Does as [`RwLock::try_read`] does, for a guard that has a share of the lock. It is `None` too if that share can't be had.
     pub fn try_read_arc(this: &Arc<RwLock<T, R>>) -> Option<RwLockReadGuardArc<T, R>>
         ensures { IfSome result (λ guard. guard.lock ≡ arc_value this.now) }
     {
@@ -176,7 +176,7 @@ impl<T: Drop, R: Wait + Drop> RwLock<T, R> {
         }
     }
 
-    /// As [`RwLock::try_upgradable_read`], for a guard that has a share of the lock. It is `None` too if that share can't be had.
+    /// Does as [`RwLock::try_upgradable_read`] does, for a guard that has a share of the lock. It is `None` too if that share can't be had.
     pub fn try_upgradable_read_arc(
         this: &Arc<RwLock<T, R>>,
     ) -> Option<RwLockUpgradableReadGuardArc<T, R>>
@@ -195,7 +195,7 @@ impl<T: Drop, R: Wait + Drop> RwLock<T, R> {
         }
     }
 
-    /// As [`RwLock::try_write`], for a guard that has a share of the lock. It is `None` too if that share can't be had.
+    /// Does as [`RwLock::try_write`] does, for a guard that has a share of the lock. It is `None` too if that share can't be had.
     pub fn try_write_arc(this: &Arc<RwLock<T, R>>) -> Option<RwLockWriteGuardArc<T, R>>
         ensures { IfSome result (λ guard. guard.lock ≡ arc_value this.now) }
     {
@@ -209,7 +209,7 @@ impl<T: Drop, R: Wait + Drop> RwLock<T, R> {
         }
     }
 
-    /// As [`RwLock::read`], for a future that has a share of the lock and gives it to its guard. If that share can't be
+    /// Does as [`RwLock::read`] does, for a future that has a share of the lock and gives it to its guard. If that share can't be
     /// had, its polls are refused as [`Refusal::Memory`].
     pub fn read_arc(this: &Arc<RwLock<T, R>>) -> ReadArc<T, R>
         ensures lock { IsFor arc_value result.stage (arc_value this.now) }
@@ -218,7 +218,7 @@ impl<T: Drop, R: Wait + Drop> RwLock<T, R> {
         ReadFuture::new(first::<T, R, Arc<RwLock<T, R>>>(Arc::try_clone(this).ok()))
     }
 
-    /// As [`RwLock::upgradable_read`], for a future that has a share of the lock and gives it to its guard. If that share can't be
+    /// Does as [`RwLock::upgradable_read`] does, for a future that has a share of the lock and gives it to its guard. If that share can't be
     /// had, its polls are refused as [`Refusal::Memory`].
     pub fn upgradable_read_arc(this: &Arc<RwLock<T, R>>) -> UpgradableReadArc<T, R>
         ensures lock { IsFor arc_value result.stage (arc_value this.now) }
@@ -227,7 +227,7 @@ impl<T: Drop, R: Wait + Drop> RwLock<T, R> {
         UpgradableFuture::new(first::<T, R, Arc<RwLock<T, R>>>(Arc::try_clone(this).ok()))
     }
 
-    /// As [`RwLock::write`], for a future that has a share of the lock and gives it to its guard. If that share can't be
+    /// Does as [`RwLock::write`] does, for a future that has a share of the lock and gives it to its guard. If that share can't be
     /// had, its polls are refused as [`Refusal::Memory`].
     pub fn write_arc(this: &Arc<RwLock<T, R>>) -> WriteArc<T, R>
         ensures lock { IsFor arc_value result.stage (arc_value this.now) }
@@ -238,7 +238,7 @@ impl<T: Drop, R: Wait + Drop> RwLock<T, R> {
 }
 
 impl<T: Drop, R: Wait + Clock + RandomSource + AllocGlobal + Drop> RwLock<T, R> {
-    /// As [`RwLock::read_blocking`], for a guard that has a share of the lock.
+    /// Does as [`RwLock::read_blocking`] does, for a guard that has a share of the lock.
     pub fn read_arc_blocking(this: &Arc<RwLock<T, R>>) -> Result<RwLockReadGuardArc<T, R>, Refusal>
         ensures lock { IfOk result (λ guard. guard.lock ≡ arc_value this.now) }
         ensures refused { IfErr result (Refuses aims.Read) }
@@ -252,7 +252,7 @@ impl<T: Drop, R: Wait + Clock + RandomSource + AllocGlobal + Drop> RwLock<T, R> 
         }
     }
 
-    /// As [`RwLock::upgradable_read_blocking`], for a guard that has a share of the lock.
+    /// Does as [`RwLock::upgradable_read_blocking`] does, for a guard that has a share of the lock.
     pub fn upgradable_read_arc_blocking(
         this: &Arc<RwLock<T, R>>,
     ) -> Result<RwLockUpgradableReadGuardArc<T, R>, Refusal>
@@ -268,7 +268,7 @@ impl<T: Drop, R: Wait + Clock + RandomSource + AllocGlobal + Drop> RwLock<T, R> 
         }
     }
 
-    /// As [`RwLock::write_blocking`], for a guard that has a share of the lock.
+    /// Does as [`RwLock::write_blocking`] does, for a guard that has a share of the lock.
     pub fn write_arc_blocking(
         this: &Arc<RwLock<T, R>>,
     ) -> Result<RwLockWriteGuardArc<T, R>, Refusal>

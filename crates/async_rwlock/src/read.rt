@@ -55,7 +55,7 @@ impl<T, R: Wait, O: Owns<T, R>> ReadFuture<T, R, O> {
 }
 
 impl<T, R: Wait + Clock, O: Owns<T, R>> ReadFuture<T, R, O> {
-    /// One poll: ready with the guard, or pending.
+    /// Polls once: ready with the guard, or pending.
     ///
     /// It is refused as [`Refusal::Memory`](crate::Refusal::Memory) if memory for its entry was refused, and as
     /// [`Refusal::Readers`](crate::Refusal::Readers) if as many read as may. Then the future is as when it was made, and may be polled

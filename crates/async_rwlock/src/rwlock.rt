@@ -63,7 +63,7 @@ impl<T: Drop, R: AllocGlobal + Drop> RwLock<T, R> {
 }
 
 impl<T, R> RwLock<T, R> {
-    /// The value, whatever became of the guards. It waits for nobody and takes no memory.
+    /// Returns the value, whatever became of the guards. It waits for nobody and takes no memory.
     pub fn into_inner(self) -> T
     where
         R: Drop,
@@ -82,7 +82,7 @@ impl<T, R> RwLock<T, R> {
         value
     }
 
-    /// The value, to write, whatever became of the guards: a forgotten one stays counted. It waits for nobody and takes
+    /// Returns the value, to write, whatever became of the guards: a forgotten one stays counted. It waits for nobody and takes
     /// no memory.
     pub fn get_mut(&mut self) -> &mut T {
         let renewal = self.vault.next_age();

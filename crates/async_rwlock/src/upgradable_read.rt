@@ -55,7 +55,7 @@ impl<T, R: Wait, O: Owns<T, R>> UpgradableFuture<T, R, O> {
 }
 
 impl<T, R: Wait + Clock, O: Owns<T, R>> UpgradableFuture<T, R, O> {
-    /// One poll: ready with the guard, or pending.
+    /// Polls once: ready with the guard, or pending.
     ///
     /// It is refused as [`Refusal::Memory`](crate::Refusal::Memory) if memory for its entry was refused, as
     /// [`Refusal::Starved`](crate::Refusal::Starved) if as many waiters are starved for the turn as may be, and as

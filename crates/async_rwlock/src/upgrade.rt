@@ -60,7 +60,7 @@ impl<T, R: Wait, O: Owns<T, R>> UpgradeFuture<T, R, O> {
 }
 
 impl<T, R: Wait + Clock, O: Owns<T, R>> UpgradeFuture<T, R, O> {
-    /// One poll: ready with the guard, or pending.
+    /// Polls once: ready with the guard, or pending.
     ///
     /// It is refused as [`Refusal::Memory`](crate::Refusal::Memory) if memory for its entry was refused. Then it keeps the right to be
     /// next, and may be polled again (`refused`). Once it was ready it is refused as

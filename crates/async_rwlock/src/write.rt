@@ -56,7 +56,7 @@ impl<T, R: Wait, O: Owns<T, R>> WriteFuture<T, R, O> {
 }
 
 impl<T, R: Wait + Clock, O: Owns<T, R>> WriteFuture<T, R, O> {
-    /// One poll: ready with the guard, or pending.
+    /// Polls once: ready with the guard, or pending.
     ///
     /// It is refused as [`Refusal::Memory`](crate::Refusal::Memory) if memory for its entry was refused, and as
     /// [`Refusal::Starved`](crate::Refusal::Starved) if as many waiters are starved for the turn as may be. Then the future is as when

@@ -64,7 +64,7 @@ impl<R: Wait, O: Owns<R>> AcquireFuture<R, O> {
 }
 
 impl<R: Wait + Clock, O: Owns<R>> AcquireFuture<R, O> {
-    /// One poll: ready with the guard, or pending.
+    /// Polls once: ready with the guard, or pending.
     ///
     /// It is refused as [`Refusal::Memory`] if memory for its entry was refused, or if no share of the semaphore could be had. Then
     /// the future is as when it was made, and may be polled again (`refused`). Once it was ready it is refused as

@@ -124,7 +124,7 @@ impl<R: Wait + Clock + RandomSource + AllocGlobal> Semaphore<R> {
 }
 
 impl<R: Wait + Drop> Semaphore<R> {
-    /// As [`Semaphore::try_acquire`], for a guard that has a share of the semaphore. It is `None` too if that share can't be had.
+    /// Does as [`Semaphore::try_acquire`] does, for a guard that has a share of the semaphore. It is `None` too if that share can't be had.
     #[inline]
     pub fn try_acquire_arc(this: &Arc<Semaphore<R>>) -> Option<SemaphoreGuardArc<R>>
         ensures { IfSome result (λ guard. (guard.semaphore ≡ arc_value this.now) × (guard.permits ≡ 1)) }
@@ -132,7 +132,7 @@ impl<R: Wait + Drop> Semaphore<R> {
         Semaphore::try_acquire_many_arc(this, 1)
     }
 
-    /// As [`Semaphore::try_acquire_many`], for a guard that has a share of the semaphore. It is `None` too if that share can't be
+    /// Does as [`Semaphore::try_acquire_many`] does, for a guard that has a share of the semaphore. It is `None` too if that share can't be
     /// had.
     #[inline]
     pub fn try_acquire_many_arc(
@@ -154,7 +154,7 @@ impl<R: Wait + Drop> Semaphore<R> {
         Some(PermitGuard::new(owner, seat, permits))
     }
 
-    /// As [`Semaphore::acquire`], for a future that has a share of the semaphore and gives it to its guard. If that share can't be
+    /// Does as [`Semaphore::acquire`] does, for a future that has a share of the semaphore and gives it to its guard. If that share can't be
     /// had, its polls are refused as [`Refusal::Memory`].
     #[inline]
     pub fn acquire_arc(this: &Arc<Semaphore<R>>) -> AcquireArc<R>
@@ -165,7 +165,7 @@ impl<R: Wait + Drop> Semaphore<R> {
         Semaphore::acquire_many_arc(this, 1)
     }
 
-    /// As [`Semaphore::acquire_many`], for a future that has a share of the semaphore and gives it to its guard. If that share
+    /// Does as [`Semaphore::acquire_many`] does, for a future that has a share of the semaphore and gives it to its guard. If that share
     /// can't be had, its polls are refused as [`Refusal::Memory`].
     #[inline]
     pub fn acquire_many_arc(this: &Arc<Semaphore<R>>, permits: usize) -> AcquireArc<R>
@@ -179,7 +179,7 @@ impl<R: Wait + Drop> Semaphore<R> {
 }
 
 impl<R: Wait + Clock + RandomSource + AllocGlobal + Drop> Semaphore<R> {
-    /// As [`Semaphore::acquire_blocking`], for a guard that has a share of the semaphore.
+    /// Does as [`Semaphore::acquire_blocking`] does, for a guard that has a share of the semaphore.
     pub fn acquire_arc_blocking(this: &Arc<Semaphore<R>>) -> Result<SemaphoreGuardArc<R>, Refusal>
         ensures permits { IfOk result (λ guard. (guard.semaphore ≡ arc_value this.now) × (guard.permits ≡ 1)) }
         ensures memory { IfErr result (λ refusal. refusal ≡ Refusal.Memory) }
@@ -187,7 +187,7 @@ impl<R: Wait + Clock + RandomSource + AllocGlobal + Drop> Semaphore<R> {
         Semaphore::acquire_many_arc_blocking(this, 1)
     }
 
-    /// As [`Semaphore::acquire_many_blocking`], for a guard that has a share of the semaphore.
+    /// Does as [`Semaphore::acquire_many_blocking`] does, for a guard that has a share of the semaphore.
     pub fn acquire_many_arc_blocking(
         this: &Arc<Semaphore<R>>,
         permits: usize,

@@ -3,6 +3,7 @@
 
 mod alone;
 mod barrier;
+mod bytes;
 mod once_cell;
 mod permits;
 mod rows;
@@ -368,7 +369,8 @@ where
     print_cells(&rt, task)?;
     print_barriers(&rt, task)?;
     print_contenders(&rt, &owned)?;
-    print_threads(&rt)
+    print_threads(&rt)?;
+    bytes::print(&rt)
 }
 
 /// Whether the arguments are the one word `run`.

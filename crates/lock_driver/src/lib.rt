@@ -5,6 +5,7 @@
 //! whoever has a mutex's word ([`MutexWord`]): a mutex ([`RawMutex`]), or a lock whose turn is one.
 #![tactic(auto)]
 
+mod joining;
 mod mutex_party;
 mod raw;
 mod waiting;

@@ -18,9 +18,10 @@ ghost use Rattle.lock_program.specs.declared.end.Next.TheVariants as next;
 ghost use Rattle.lock_program.specs.declared.mutex.Place.TheVariants as at;
 ghost use Rattle.lock_program.specs.declared.refusal.Refusal.TheVariants as refused;
 
+use crate::joining::Joining;
 use crate::mutex_party::{MutexParty, now};
 use crate::word::MutexWord;
-use async_driver::{Carries, Heard, Joined, Listed, Owed, nothing, put};
+use async_driver::{Carries, Heard, Listed, Owed, nothing, put};
 use futures::task::Context;
 use lock_program::mutex::{Found, Place};
 use lock_program::{End, Refusal};
@@ -77,16 +78,16 @@ pub fn poll_first<W: MutexWord, R: Wait + Clock>(
         Taking::Got(right) => return Outcome::Got(seat, right),
         Taking::Starved => return enters_starved(word, rt, cx, seat, waiting),
     }
-    let joined = match word.list().join_with_waker(rt, word.source(), cx) {
-        Ok(joined) => joined,
+    let mut joining = match Joining::join(word, rt, cx) {
+        Ok(joining) => joining,
         Err(_) => return Outcome::Refused(seat, Refusal::Memory),
     };
-    match look(word, &mut seat) {
+    match joining.look(word, &mut seat) {
         Taking::Held => {}
-        Taking::Got(right) => return sees_free(word, rt, cx, seat, right, joined, waiting),
-        Taking::Starved => return sees_starved(word, rt, cx, seat, joined, waiting),
+        Taking::Got(right) => return sees_free(word, rt, cx, seat, right, joining, waiting),
+        Taking::Starved => return sees_starved(word, rt, cx, seat, joining, waiting),
     }
-    match word.list().ask_joined(rt, joined) {
+    match joining.ask(word, rt) {
         Heard::Waiting(entry) => {
             let since = now(rt);
             let is_starved = false;
@@ -107,7 +108,7 @@ pub fn poll_first<W: MutexWord, R: Wait + Clock>(
 
 // A take of a party that owes nothing.
 #[inline(always)]
-fn look<W: MutexWord>(word: &W, seat: &mut W::Seat) -> Taking<W::Right>
+pub(crate) fn look<W: MutexWord>(word: &W, seat: &mut W::Seat) -> Taking<W::Right>
     requires of { W.is_of word.now seat.old }
     requires idle { W.holds seat.old ≡ false }
     ensures of { W.is_of word.now seat.new }
@@ -151,12 +152,12 @@ fn sees_free<W: MutexWord, R: Wait + Clock>(
     cx: &mut Context<'_>,
     seat: W::Seat,
     right: W::Right,
-    joined: Joined,
+    joining: Joining,
     waiting: &mut Option<Waiting<W>>,
 ) -> Outcome<W>
     requires of { W.is_of word.now seat }
     requires holds { (W.holds seat ≡ true) × (W.starved seat ≡ false) × W.right_of word.now right }
-    requires listed { joined.entry.list.id ≡ W.list_id word.now }
+    requires listed { joining.joined.entry.list.id ≡ W.list_id word.now }
     requires none { waiting.old ≡ None }
     ensures waiting { IfSome waiting.new (Waits W.MutexWord word.now) }
     ensures outcome { OnOutcome W.MutexWord word.now result waiting.new }
@@ -164,7 +165,7 @@ fn sees_free<W: MutexWord, R: Wait + Clock>(
     ensures kept { Keeps cx.old cx.new }
 {
     let party = MutexParty {
-        entry: Some(joined.unasked()),
+        entry: Some(joining.unasked()),
         since: None,
         seat,
         hold: Some(right),
@@ -180,12 +181,12 @@ fn sees_starved<W: MutexWord, R: Wait + Clock>(
     rt: &R,
     cx: &mut Context<'_>,
     seat: W::Seat,
-    joined: Joined,
+    joining: Joining,
     waiting: &mut Option<Waiting<W>>,
 ) -> Outcome<W>
     requires of { W.is_of word.now seat }
     requires idle { (W.holds seat ≡ false) × (W.starved seat ≡ false) }
-    requires listed { joined.entry.list.id ≡ W.list_id word.now }
+    requires listed { joining.joined.entry.list.id ≡ W.list_id word.now }
     requires none { waiting.old ≡ None }
     ensures waiting { IfSome waiting.new (Waits W.MutexWord word.now) }
     ensures outcome { OnOutcome W.MutexWord word.now result waiting.new }
@@ -193,7 +194,7 @@ fn sees_starved<W: MutexWord, R: Wait + Clock>(
     ensures kept { Keeps cx.old cx.new }
 {
     let mut party = MutexParty::new(word, seat);
-    put(&mut party.entry, joined.unasked());
+    put(&mut party.entry, joining.unasked());
     let count = Place::Count {
         listed: true,
         told: false,

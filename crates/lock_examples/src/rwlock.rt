@@ -1,9 +1,10 @@
 //! The read-write lock as its users meet it: read by two threads at a time, upgraded without letting a writer in between, owned by
-//! its guard, and round a cache that one refreshes; and its other calls. Each module is one example. The program runs them all and
+//! its guard, and round a cache that one refreshes; its other calls, and how one guard becomes another. Each module is one example. The program runs them all and
 //! the one of `user_proofs`, and prints a line for each.
 
 mod cache;
 mod calls;
+mod changes;
 mod owned;
 mod two_readers;
 mod upgraded;
@@ -37,7 +38,7 @@ where
     let owned = owned::read(rt, 9)?;
     let (degrees, asked) = cache::run(rt)?;
     let read_again = user_proofs::rwlock::run(rt, 5)?;
-    let is_as_shown = calls::run(rt)?;
+    let is_as_shown = calls::run(rt)? && changes::run(rt)?;
     Ok(Results {
         sum,
         upgraded: first.saturating_add(second),

@@ -1,5 +1,7 @@
 -- What a seat has on a read-write lock.
-use Rattle.std.specs.Prelude.{◌≡◌, ◌≢◌, ◌≤◌, ◌/◌, ◌%◌, ◌⊎◌, Bool, true, false, []}
+use Rattle.std.specs.Prelude.{◌≡◌, ◌≢◌, ◌≤◌, ◌/◌, ◌%◌, ◌⊎◌, ⊤, Bool, true, false, []}
+use Rattle.lock_program.specs.declared.rwlock.Found.{Found}
+use Rattle.lock_program.specs.declared.rwlock.Found.TheVariants as found
 use Rattle.words_rwlock.specs.declared.view.Seat.{Seat}
 use Rattle.words_rwlock.specs.declared.view.View.{View}
 use Rattle.rwlock_driver.specs.declared.raw.RawRwLock.{RawRwLock}
@@ -47,6 +49,12 @@ Has raw right seat = (seat.inner.table_id ≡ raw.words.table) × (seat.inner.me
 -- its last look at the state word found as many readers as may be
 abbrev pub IsFull : RawRwLock → Seat → Type 0
 IsFull raw seat = raw.words.readers ≤ seat.inner.me.0.found / 2
+
+-- what a try to read finds where it doesn't read is what its seat saw: a writer's bit, or as many readers as may be
+abbrev pub IsSeen : RawRwLock → Found → Seat → Type 0
+IsSeen raw found.Writer seat = seat.inner.me.0.found % 2 ≡ 1
+IsSeen raw found.Full seat = IsFull raw seat
+IsSeen raw _ seat = ⊤
 
 -- its last look found a writer's bit, or as many readers as may be
 abbrev pub IsClosed : RawRwLock → Seat → Type 0

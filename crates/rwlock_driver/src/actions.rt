@@ -4,6 +4,7 @@ ghost use Rattle.std.specs.Prelude.{◌≡◌, IfSome, IfNone};
 ghost use Rattle.futures.specs.Task.{Keeps};
 ghost use Rattle.lock_program.specs.declared.rwlock.Action.TheVariants as does;
 ghost use Rattle.rwlock_driver.specs.Parties.{IsOf, CanDo, Does, IsSame, Waits, IfWaits, share_of, turned};
+ghost use Rattle.rwlock_driver.specs.Rights.{IsSeen};
 
 use crate::finding::Finding;
 use crate::party::RwLockParty;
@@ -20,6 +21,7 @@ impl RwLockParty {
         requires of { IsOf raw.now self.old }
         requires can { CanDo does.Read turn (turned self.old) (share_of self.old) }
         ensures did { IfSome result (λ found. Does raw.now does.Read turn found self.old self.new) }
+        ensures seen { IfSome result (λ f. IsSeen raw.now f.found self.new.turn.seat) }
         ensures again { IfNone result (IsSame raw.now self.old self.new) }
     {
         match raw.words.read(&mut self.turn.seat) {
@@ -34,6 +36,7 @@ impl RwLockParty {
         requires of { IsOf raw.now self.old }
         requires can { CanDo does.Add turn (turned self.old) (share_of self.old) }
         ensures did { IfSome result (λ found. Does raw.now does.Add turn found self.old self.new) }
+        ensures seen { IfSome result (λ f. IsSeen raw.now f.found self.new.turn.seat) }
         ensures again { IfNone result (IsSame raw.now self.old self.new) }
     {
         match raw.words.add(&mut self.turn.seat) {

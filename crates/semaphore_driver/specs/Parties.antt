@@ -107,6 +107,11 @@ CanFind act.Load (found.Available a) = ⊤
 CanFind (act.Fit a) found.Done = ⊤
 CanFind _ _ = ⊥
 
+-- of a find of too few permits, by how many there were
+abbrev pub IfShort : Found → (ℕ → Type 0) → Type 0
+IfShort (found.Short a) fact = fact a
+IfShort _ fact = ⊤
+
 -- no look was made since the duty arose
 abbrev pub IsUnseen : Option (Option ℕ) → Type 0
 IsUnseen (Some (Some a)) = ⊥

@@ -6,6 +6,7 @@
 
 mod carries;
 mod duty;
+mod joining;
 mod party;
 mod raw;
 mod stock;

@@ -1,11 +1,11 @@
 //! What a party of a semaphore has, and each action of its poll.
 
-ghost use Rattle.std.specs.Prelude.{◌≡◌, ℕ, true, false, IfSome, IfNone, is_some, Some, None};
+ghost use Rattle.std.specs.Prelude.{◌≡◌, ◌<◌, ℕ, true, false, IfSome, IfNone, is_some, Some, None};
 ghost use Rattle.futures.specs.Task.{Keeps};
 ghost use Rattle.lock_program.specs.declared.end.End.{End};
 ghost use Rattle.lock_program.specs.declared.end.End.TheVariants as ends;
 ghost use Rattle.lock_program.specs.declared.end.Next.TheVariants as next;
-ghost use Rattle.semaphore_driver.specs.Parties.{AsksNo, CanDo, CanFind, EndsAt, IsReceipt, IsTied, IsUnseen, Stands, StopsAt, after, having_of};
+ghost use Rattle.semaphore_driver.specs.Parties.{AsksNo, CanDo, CanFind, EndsAt, IfShort, IsReceipt, IsTied, IsUnseen, Stands, StopsAt, after, having_of};
 ghost use Rattle.semaphore_driver.specs.Semaphores.{Has};
 ghost use Rattle.sync_program.specs.Permits.{action_of, next_of};
 ghost use Rattle.sync_program.specs.declared.permits.Action.TheVariants as does;
@@ -72,6 +72,7 @@ impl PermitParty {
         ensures tied { IsTied raw.now self.new }
         ensures permits { self.new.permits ≡ self.old.permits }
         ensures found { IfSome result (λ found. CanFind (does.Take permits) found × (having_of self.new ≡ after (does.Take permits) found (having_of self.old))) }
+        ensures short { IfSome result (λ found. IfShort found (λ a. (a < permits) × (a ≡ self.new.seat.inner.me.0.found))) }
         ensures again { IfNone result (having_of self.new ≡ having_of self.old) }
     {
         match raw.stock.take(&mut self.seat, permits, &mut self.duty) {

@@ -378,7 +378,7 @@ impl Stock {
     /// is available the list isn't asked: nobody waits for 0, which is always had at once. Else the duty comes back, for
     /// [`Stock::fit`].
     ///
-    /// It waits for nobody, so that a drop beside which nobody waits has no call that may.
+    /// It waits for nobody, so that a drop has no call that may, while the word beside the list says that it has no entries.
     #[inline]
     pub fn unless_vain(&self, seat: &Seat, available: u64, duty: Duty) -> Option<Duty>
         requires seat { seat.now.inner.table_id ≡ self.now.word.table }

@@ -17,6 +17,7 @@ ghost use Rattle.sync_program.specs.declared.permits.Place.TheVariants as at;
 ghost use Rattle.sync_program.specs.declared.permits.Position.TheVariants as stands;
 ghost use Rattle.sync_program.specs.declared.permits.SemaphoreCall.TheVariants as calls;
 
+use crate::joining::Joining;
 use crate::party::PermitParty;
 use crate::raw::RawSemaphore;
 use crate::stock::Duty;
@@ -123,17 +124,17 @@ impl RawSemaphore {
             Tried::Short(seat) => seat,
             Tried::Changed(seat) => return self.look_anew(rt, cx, permits, seat, waiting),
         };
-        let mut duty = None;
-        let joined = self.stock.join(rt, permits, &mut duty);
-        nothing(duty);
-        let Ok(entry) = joined else {
+        let Ok(mut joining) = Joining::join(self, rt, permits) else {
             self.stock.rise(seat);
             return Outcome::Refused(Refusal::Memory);
         };
-        let seat = match self.try_once(seat, permits) {
-            Tried::Got(seat) => return Outcome::Got(self.leave_with(rt, permits, seat, entry)),
+        let seat = match joining.look(self, seat, permits) {
+            Tried::Got(seat) => {
+                return Outcome::Got(self.leave_with(rt, permits, seat, joining.entry()));
+            }
             Tried::Short(seat) => seat,
             Tried::Changed(seat) => {
+                let entry = joining.entry();
                 let place = Place::Take {
                     permits,
                     listed: true,
@@ -142,7 +143,7 @@ impl RawSemaphore {
                 return self.look_again(rt, cx, Waiting { seat, entry }, place, waiting);
             }
         };
-        match self.stock.poll_first(rt, entry, &self.source, cx) {
+        match joining.ask(self, rt, cx) {
             Ok(entry) => {
                 put(waiting, Waiting { seat, entry });
                 Outcome::Waits
@@ -193,7 +194,7 @@ impl RawSemaphore {
 
     // One try, by a seat that has nothing, of a party that has no duty.
     #[inline(always)]
-    fn try_once(&self, seat: Seat, permits: u64) -> Tried
+    pub(crate) fn try_once(&self, seat: Seat, permits: u64) -> Tried
         requires { Has self.now 0 seat }
         ensures { OnTried self.now permits result }
     {

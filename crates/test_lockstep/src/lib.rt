@@ -4,6 +4,8 @@
 #[cfg(test)]
 mod changed;
 #[cfg(test)]
+mod interfered;
+#[cfg(test)]
 mod mutex;
 #[cfg(test)]
 mod mutex_tests;

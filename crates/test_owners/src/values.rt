@@ -72,6 +72,7 @@ fn a_refused_lock_drops_its_value_once(rt: HostRuntime) {
 fn get_mut(rt: HostRuntime) {
     let mut lock = RwLock::new(rt, 10u64).expect(&rt, AMPLE);
     *lock.get_mut() = 20;
+    assert_same(&rt, lock.try_write().is_some(), true);
     assert_same(&rt, lock.into_inner(), 20);
 }
 

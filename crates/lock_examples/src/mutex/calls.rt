@@ -1,7 +1,9 @@
-//! The other calls of a mutex: tries, a future that owns its share of the mutex, and which mutex a guard holds.
+//! The other calls of a mutex: tries, a future that is polled by hand, one that owns its share of the mutex, which mutex a guard
+//! holds, and a mutex that nobody else can have.
 
-use async_lock::{Mutex, MutexGuard, MutexGuardArc, Refusal, Settled};
+use async_lock::{Mutex, MutexGuard, MutexGuardArc, Refusal, Settled, Turn};
 use futures::executor::block_on;
+use futures::test::MockTask;
 use std::alloc::AllocGlobal;
 use std::random::RandomSource;
 use std::sync::{Arc, Wait};
@@ -19,6 +21,45 @@ where
     let is_held = MutexGuard::source(&guard).try_lock().is_none();
     drop(guard);
     Ok(is_held && mutex.try_lock().is_some())
+}
+
+/// By polls of one's own, each with the context of a task: pending while the lock is held, which leaves a waker in the mutex's
+/// list, and ready once the guard was dropped, which wakes the task.
+fn by_polls<R>(rt: R) -> Result<bool, Refusal>
+where
+    R: Wait + Clock + RandomSource + AllocGlobal + Drop,
+{
+    let Ok(task) = MockTask::new(&rt) else {
+        return Err(Refusal::Memory);
+    };
+    let mutex = Mutex::new(rt, 5_u64)?;
+    let Some(guard) = mutex.try_lock() else {
+        return Ok(false);
+    };
+    let mut future = mutex.lock();
+    match task.enter(|cx| future.poll(cx)) {
+        Turn::Pending => {}
+        Turn::Ready(_) => return Ok(false),
+        Turn::Refused(refusal) => return Err(refusal),
+    }
+    drop(guard);
+    let is_woken = task.is_woken();
+    match task.enter(|cx| future.poll(cx)) {
+        Turn::Pending => Ok(false),
+        Turn::Ready(guard) => Ok(is_woken && *guard == 5),
+        Turn::Refused(refusal) => Err(refusal),
+    }
+}
+
+/// By `&mut`, which no guard outlives: the value without a lock.
+fn alone<R>(rt: R) -> Result<bool, Refusal>
+where
+    R: Wait + AllocGlobal + Drop,
+{
+    let mut mutex = Mutex::new(rt, 1_u64)?;
+    let value = mutex.get_mut();
+    *value = value.saturating_add(1);
+    Ok(mutex.into_inner() == 2)
 }
 
 /// By a try and a future that own their share of the mutex.
@@ -44,5 +85,5 @@ pub(crate) fn run<R>(rt: R) -> Result<bool, Refusal>
 where
     R: Wait + Clock + RandomSource + AllocGlobal + Copy + Drop,
 {
-    Ok(by_tries(rt)? && owned(rt)?)
+    Ok(by_tries(rt)? && by_polls(rt)? && alone(rt)? && owned(rt)?)
 }

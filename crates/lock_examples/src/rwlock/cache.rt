@@ -21,7 +21,8 @@ fn ask(day: u64, asked: &AtomicU64) -> Entry {
     Entry { day, degrees: 21 }
 }
 
-// What is kept. The guard is dropped here: who upgrades while it reads by another guard waits for itself.
+// What is kept. The guard is dropped here: a task that still had a read guard while it upgrades would wait for that guard,
+// which it holds itself.
 fn kept<R: Wait + Clock + RandomSource + AllocGlobal>(
     cache: &RwLock<Entry, R>,
 ) -> Result<Entry, Refusal> {

@@ -36,11 +36,14 @@ where
         Ok(settled) => settled?,
         Err(_) => return Err(Refusal::Memory),
     };
-    let two = match block_on(&rt, Settled(semaphore.acquire_many(2))) {
+    let of_two = semaphore.acquire_many(2);
+    let is_of_two = of_two.permits() == 2;
+    let two = match block_on(&rt, Settled(of_two)) {
         Ok(settled) => settled?,
         Err(_) => return Err(Refusal::Memory),
     };
-    Ok(one.permits() == 1 && two.permits() == 2 && semaphore.available_permits() == 0)
+    let has_all = one.permits() == 1 && two.permits() == 2;
+    Ok(is_of_two && has_all && semaphore.available_permits() == 0)
 }
 
 /// By guards that own their share of the semaphore, which try or block.
