@@ -9,7 +9,6 @@ use futures::task::Context;
 use futures::test::MockTask;
 use std::alloc::AllocGlobal;
 use std::hint::black_box;
-use std::io;
 use std::mem::forget;
 use std::sync::Wait;
 use std::time::{Clock, Instant};
@@ -27,15 +26,24 @@ pub(crate) fn of_mutexes<R: Wait + Clock + AllocGlobal + Copy + Drop>(
     rt: &R,
     task: &MockTask,
     rounds: u64,
-) -> io::Result<u64> {
+) -> u64 {
     let mutexes = held_mutexes(rt);
+    median_of_locks(rt, &mutexes, task, rounds)
+}
+
+fn median_of_locks<R: Wait + Clock + AllocGlobal>(
+    rt: &R,
+    mutexes: &Vec<Mutex<u64, R>>,
+    task: &MockTask,
+    rounds: u64,
+) -> u64 {
     let count = mutexes.len() as u64;
     let mut slots = empty_slots(rt.alloc(), count);
     let mut found = [0_u64; RUNS];
     for run in found.iter_mut() {
-        *run = task.enter(|cx| lock_rounds(rt, &mutexes, &mut slots, rounds, cx));
+        *run = task.enter(|cx| lock_rounds(rt, mutexes, &mut slots, rounds, cx));
     }
-    Ok(tenths(&mut found, rounds.wrapping_mul(count)))
+    tenths(&mut found, rounds.wrapping_mul(count))
 }
 
 /// The same of a semaphore's futures.
@@ -43,15 +51,24 @@ pub(crate) fn of_semaphores<R: Wait + Clock + AllocGlobal + Copy + Drop>(
     rt: &R,
     task: &MockTask,
     rounds: u64,
-) -> io::Result<u64> {
+) -> u64 {
     let semaphores = empty_semaphores(rt);
+    median_of_acquires(rt, &semaphores, task, rounds)
+}
+
+fn median_of_acquires<R: Wait + Clock + AllocGlobal>(
+    rt: &R,
+    semaphores: &Vec<Semaphore<R>>,
+    task: &MockTask,
+    rounds: u64,
+) -> u64 {
     let count = semaphores.len() as u64;
     let mut slots = empty_slots(rt.alloc(), count);
     let mut found = [0_u64; RUNS];
     for run in found.iter_mut() {
-        *run = task.enter(|cx| acquire_rounds(rt, &semaphores, &mut slots, rounds, cx));
+        *run = task.enter(|cx| acquire_rounds(rt, semaphores, &mut slots, rounds, cx));
     }
-    Ok(tenths(&mut found, rounds.wrapping_mul(count)))
+    tenths(&mut found, rounds.wrapping_mul(count))
 }
 
 // Mutexes whose guards were forgotten.

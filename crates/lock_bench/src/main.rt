@@ -3,7 +3,6 @@
 
 mod alone;
 mod barrier;
-mod bytes;
 mod once_cell;
 mod permits;
 mod rows;
@@ -13,13 +12,15 @@ mod threads;
 mod timing;
 mod waiting;
 
-use async_lock::{Barrier, Mutex, OnceCell, RwLock, Semaphore};
+use async_lock::lock_futures::{Acquire, BarrierWait, Lock, LockArc, Read, Set, Upgrade, Write};
+use async_lock::{Barrier, Mutex, OnceCell, RwLock, Semaphore, lock_futures};
 use barrier::{RoundOfFour, RoundOfOne};
 use futures::test::MockTask;
 use once_cell::{Filling, Fresh, Get, InitBlocking, InitReady, WaitReady};
 use rows::{BlockingPair, HeldTry, LockArcPair, LockPair, NewPair, StdPair, TryArcPair, TryPair};
 use rwlock::{Pair, Use};
 use std::alloc::AllocGlobal;
+use std::mem::size_of;
 use std::process::ExitCode;
 use std::random::RandomSource;
 use std::rt::Env;
@@ -123,9 +124,9 @@ fn print_alone<R>(rt: &R, task: &MockTask) -> io::Result<()>
 where
     R: Wait + Clock + Print + AllocGlobal + Copy + Drop,
 {
-    let mutexes = alone::of_mutexes(rt, task, ROUNDS)?;
+    let mutexes = alone::of_mutexes(rt, task, ROUNDS);
     print_tenths(rt, "cancel the only one of a mutex", mutexes)?;
-    let semaphores = alone::of_semaphores(rt, task, ROUNDS)?;
+    let semaphores = alone::of_semaphores(rt, task, ROUNDS);
     print_tenths(rt, "cancel the only acquire of a semaphore", semaphores)
 }
 
@@ -369,8 +370,7 @@ where
     print_cells(&rt, task)?;
     print_barriers(&rt, task)?;
     print_contenders(&rt, &owned)?;
-    print_threads(&rt)?;
-    bytes::print(&rt)
+    print_threads(&rt)
 }
 
 /// Whether the arguments are the one word `run`.
@@ -384,10 +384,41 @@ fn is_asked<R: Env + AllocGlobal>(rt: &R) -> bool {
     }
 }
 
+/// What has how many bytes.
+type Bytes = (&'static str, usize);
+
+fn print_bytes<R: Print>(rt: &R, all: &[Bytes]) -> io::Result<()> {
+    for (name, bytes) in all {
+        println!(rt; "bytes of {name}: {bytes}")?;
+    }
+    Ok(())
+}
+
 fn main(rt: HostRuntime) -> ExitCode {
     if !is_asked(&rt) {
         let _ = eprintln!(rt; "usage: lock_bench run");
         return ExitCode::from(2);
+    }
+    // Over the host's runtime, which has no bytes.
+    let bytes = [
+        ("Mutex<u64>", size_of::<Mutex<u64, HostRuntime>>()),
+        ("RwLock<u64>", size_of::<RwLock<u64, HostRuntime>>()),
+        ("Semaphore", size_of::<Semaphore<HostRuntime>>()),
+        ("OnceCell<u64>", size_of::<OnceCell<u64, HostRuntime>>()),
+        ("Barrier", size_of::<Barrier<HostRuntime>>()),
+        ("Lock", size_of::<Lock<'static, u64, HostRuntime>>()),
+        ("LockArc", size_of::<LockArc<u64, HostRuntime>>()),
+        ("Read", size_of::<Read<'static, u64, HostRuntime>>()),
+        ("Write", size_of::<Write<'static, u64, HostRuntime>>()),
+        ("Upgrade", size_of::<Upgrade<'static, u64, HostRuntime>>()),
+        ("Acquire", size_of::<Acquire<'static, HostRuntime>>()),
+        (
+            "BarrierWait",
+            size_of::<BarrierWait<'static, HostRuntime>>(),
+        ),
+    ];
+    if print_bytes(&rt, &bytes).is_err() {
+        return ExitCode::FAILURE;
     }
     match print_all(rt) {
         Ok(()) => ExitCode::SUCCESS,

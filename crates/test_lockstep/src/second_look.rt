@@ -6,7 +6,7 @@ use async_driver::nothing;
 use futures::task::Context;
 use futures::test::MockTask;
 use lock_driver::{Outcome, RawMutex, cancel, poll_first};
-use lock_words::{Seat, Words};
+use lock_words::Words;
 use std::alloc::{AllocGlobal, Global};
 use std::sync::Wait;
 use std::sync::atomic::AtomicBool;
@@ -25,14 +25,9 @@ fn free(alloc: Global, has_looked: bool) -> Option<Interfered> {
 }
 
 // Whether a first poll gets the lock, or is refused memory.
-fn gets_it<R: Wait + Clock>(
-    word: &Interfered,
-    rt: &R,
-    cx: &mut Context<'_>,
-    seat: Seat<u64>,
-) -> bool {
+fn gets_it<R: Wait + Clock>(word: &Interfered, rt: &R, cx: &mut Context<'_>) -> bool {
     let mut waiting = None;
-    match poll_first(word, rt, cx, seat, &mut waiting) {
+    match poll_first(word, rt, cx, word.raw.words.sit(), &mut waiting) {
         Outcome::Got(seat, hold) => {
             nothing(waiting);
             word.raw.release(rt, seat, hold);
@@ -61,9 +56,8 @@ fn gets_what_was_given_back<R: Wait + Clock>(
     let Some((holder, hold)) = word.raw.take() else {
         return false;
     };
-    let seat = word.raw.words.sit();
     word.raw.release(rt, holder, hold);
-    gets_it(word, rt, cx, seat)
+    gets_it(word, rt, cx)
 }
 
 #[test]
@@ -87,6 +81,6 @@ fn a_first_poll_looks_again_once_it_has_joined(rt: HostRuntime) {
     let Some(word) = free(rt.alloc(), false) else {
         return;
     };
-    let gets = task.enter(|cx| gets_it(&word, &rt, cx, word.raw.words.sit()));
+    let gets = task.enter(|cx| gets_it(&word, &rt, cx));
     assert!(rt; gets);
 }
