@@ -12,8 +12,10 @@ mod threads;
 mod timing;
 mod waiting;
 
-use async_lock::lock_futures::{Acquire, BarrierWait, Lock, LockArc, Read, Set, Upgrade, Write};
-use async_lock::{Barrier, Mutex, OnceCell, RwLock, Semaphore, lock_futures};
+use async_lock::lock_futures::{
+    Acquire, BarrierWait, Lock, LockArc, Read, Set, Upgrade, Wait as WaitFuture, Write,
+};
+use async_lock::{Barrier, Mutex, OnceCell, RwLock, Semaphore};
 use barrier::{RoundOfFour, RoundOfOne};
 use futures::test::MockTask;
 use once_cell::{Filling, Fresh, Get, InitBlocking, InitReady, WaitReady};
@@ -412,6 +414,8 @@ fn main(rt: HostRuntime) -> ExitCode {
         ("Write", size_of::<Write<'static, u64, HostRuntime>>()),
         ("Upgrade", size_of::<Upgrade<'static, u64, HostRuntime>>()),
         ("Acquire", size_of::<Acquire<'static, HostRuntime>>()),
+        ("Wait", size_of::<WaitFuture<'static, u64, HostRuntime>>()),
+        ("Set", size_of::<Set<'static, u64, HostRuntime>>()),
         (
             "BarrierWait",
             size_of::<BarrierWait<'static, HostRuntime>>(),
