@@ -1,8 +1,10 @@
 //! The other calls of a mutex: tries, a future that is polled by hand, one that owns its share of the mutex, which mutex a guard
 //! holds, and a mutex that nobody else can have.
 
+use async_lock::lock_futures::Lock;
 use async_lock::{Mutex, MutexGuard, MutexGuardArc, Refusal, Settled, Turn};
 use futures::executor::block_on;
+use futures::task::Context;
 use futures::test::MockTask;
 use std::alloc::AllocGlobal;
 use std::random::RandomSource;
@@ -23,6 +25,18 @@ where
     Ok(is_held && mutex.try_lock().is_some())
 }
 
+// One poll: the value that it found, or nothing if the future waits.
+fn poll_once<R: Wait + Clock>(
+    future: &mut Lock<'_, u64, R>,
+    cx: &mut Context<'_>,
+) -> Result<Option<u64>, Refusal> {
+    match future.poll(cx) {
+        Turn::Pending => Ok(None),
+        Turn::Ready(guard) => Ok(Some(*guard)),
+        Turn::Refused(refusal) => Err(refusal),
+    }
+}
+
 /// By polls of one's own, each with the context of a task: pending while the lock is held, which leaves a waker in the mutex's
 /// list, and ready once the guard was dropped, which wakes the task.
 fn by_polls<R>(rt: R) -> Result<bool, Refusal>
@@ -37,18 +51,11 @@ where
         return Ok(false);
     };
     let mut future = mutex.lock();
-    match task.enter(|cx| future.poll(cx)) {
-        Turn::Pending => {}
-        Turn::Ready(_) => return Ok(false),
-        Turn::Refused(refusal) => return Err(refusal),
-    }
+    let first = task.enter(|cx| poll_once(&mut future, cx))?;
     drop(guard);
     let is_woken = task.is_woken();
-    match task.enter(|cx| future.poll(cx)) {
-        Turn::Pending => Ok(false),
-        Turn::Ready(guard) => Ok(is_woken && *guard == 5),
-        Turn::Refused(refusal) => Err(refusal),
-    }
+    let second = task.enter(|cx| poll_once(&mut future, cx))?;
+    Ok(first.is_none() && is_woken && second == Some(5))
 }
 
 /// By `&mut`, which no guard outlives: the value without a lock.
