@@ -143,7 +143,9 @@ pub(crate) struct NewPair<'a, R> {
 impl<R: AllocGlobal + Copy + Drop> Row for NewPair<'_, R> {
     fn go(&self, times: u64) {
         for _ in 0..times {
-            drop(black_box(Mutex::new(*self.rt, black_box(7_u64))));
+            if let Ok(mutex) = Mutex::new(*self.rt, black_box(7_u64)) {
+                black_box(&mutex);
+            }
         }
     }
 }

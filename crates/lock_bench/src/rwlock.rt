@@ -51,11 +51,13 @@ impl<R: Wait + Clock + Drop> Row for Pair<'_, '_, R> {
 
 impl<R: Wait + Clock + Drop> Pair<'_, '_, R> {
     fn try_read(&self, times: u64) {
+        let mut sum = 0_u64;
         for _ in 0..times {
             if let Some(guard) = black_box(self.lock).try_read() {
-                black_box(*guard);
+                sum = sum.wrapping_add(*guard);
             }
         }
+        black_box(sum);
     }
 
     fn try_write(&self, times: u64) {
@@ -69,11 +71,13 @@ impl<R: Wait + Clock + Drop> Pair<'_, '_, R> {
     fn read(&self, times: u64) {
         let lock = self.lock;
         self.task.enter(|cx| {
+            let mut sum = 0_u64;
             for _ in 0..times {
                 if let Turn::Ready(guard) = black_box(lock).read().poll(cx) {
-                    black_box(*guard);
+                    sum = sum.wrapping_add(*guard);
                 }
             }
+            black_box(sum);
         });
     }
 
@@ -104,11 +108,13 @@ impl<R: Wait + Clock + Drop> Pair<'_, '_, R> {
     }
 
     fn try_read_arc(&self, times: u64) {
+        let mut sum = 0_u64;
         for _ in 0..times {
             if let Some(guard) = RwLock::try_read_arc(black_box(self.owned)) {
-                black_box(*guard);
+                sum = sum.wrapping_add(*guard);
             }
         }
+        black_box(sum);
     }
 
     fn try_write_arc(&self, times: u64) {
@@ -136,11 +142,13 @@ impl<R: Wait + Clock + Drop> Pair<'_, '_, R> {
     fn read_arc(&self, times: u64) {
         let owned = self.owned;
         self.task.enter(|cx| {
+            let mut sum = 0_u64;
             for _ in 0..times {
                 if let Turn::Ready(guard) = RwLock::read_arc(black_box(owned)).poll(cx) {
-                    black_box(*guard);
+                    sum = sum.wrapping_add(*guard);
                 }
             }
+            black_box(sum);
         });
     }
 

@@ -1,7 +1,7 @@
 //! What is timed of a semaphore on one thread.
 
 use crate::timing::Row;
-use async_lock::{Semaphore, Turn};
+use async_lock::Semaphore;
 use futures::test::MockTask;
 use std::hint::black_box;
 use std::sync::{Arc, Wait};
@@ -48,14 +48,13 @@ impl<R: Wait + Clock + Drop> Row for Pair<'_, '_, R> {
 impl<R: Wait + Clock + Drop> Pair<'_, '_, R> {
     fn try_acquire(&self, times: u64) {
         for _ in 0..times {
-            black_box(black_box(self.semaphore).try_acquire().is_some());
+            black_box(self.semaphore).try_acquire();
         }
     }
 
     fn try_many(&self, times: u64, permits: usize) {
         for _ in 0..times {
-            let guard = black_box(self.semaphore).try_acquire_many(black_box(permits));
-            black_box(guard.is_some());
+            black_box(self.semaphore).try_acquire_many(black_box(permits));
         }
     }
 
@@ -63,9 +62,7 @@ impl<R: Wait + Clock + Drop> Pair<'_, '_, R> {
         let semaphore = self.semaphore;
         self.task.enter(|cx| {
             for _ in 0..times {
-                if let Turn::Ready(guard) = black_box(semaphore).acquire().poll(cx) {
-                    black_box(guard.permits());
-                }
+                black_box(semaphore).acquire().poll(cx);
             }
         });
     }
@@ -74,9 +71,7 @@ impl<R: Wait + Clock + Drop> Pair<'_, '_, R> {
         let owned = self.owned;
         self.task.enter(|cx| {
             for _ in 0..times {
-                if let Turn::Ready(guard) = Semaphore::acquire_arc(black_box(owned)).poll(cx) {
-                    black_box(guard.permits());
-                }
+                Semaphore::acquire_arc(black_box(owned)).poll(cx);
             }
         });
     }

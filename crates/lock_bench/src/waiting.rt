@@ -113,7 +113,7 @@ fn put<'a, R: Wait + Clock>(
     if let Some(slot) = slots.get_mut(at) {
         *slot = Some(mutex.lock());
         if let Some(future) = slot {
-            black_box(matches!(future.poll(cx), Turn::Pending));
+            future.poll(cx);
         }
     }
 }
@@ -223,7 +223,7 @@ fn polls_again<'a, R: Wait + Clock>(
     let start = Instant::now(rt);
     for _ in 0..times {
         if let Some(Some(future)) = slots.get_mut(at) {
-            black_box(matches!(future.poll(cx), Turn::Pending));
+            future.poll(cx);
         }
         at = next(at, slots.len());
     }
