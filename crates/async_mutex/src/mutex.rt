@@ -140,7 +140,7 @@ impl<T: Drop, R: Wait + Drop> Mutex<T, R> {
         }
     }
 
-    /// Does as [`Mutex::lock`] does, for a future that owns its share of the mutex and gives it to its guard. Where that share
+    /// Returns a future as [`Mutex::lock`] does, which owns its share of the mutex and gives it to its guard. Where that share
     /// can't be had, its polls are refused as [`Refusal::Memory`].
     #[inline]
     pub fn lock_arc(this: &Arc<Mutex<T, R>>) -> LockArc<T, R>

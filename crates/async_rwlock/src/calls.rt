@@ -209,7 +209,7 @@ impl<T: Drop, R: Wait + Drop> RwLock<T, R> {
         }
     }
 
-    /// Does as [`RwLock::read`] does, for a future that has a share of the lock and gives it to its guard. If that share can't be
+    /// Returns a future as [`RwLock::read`] does, which has a share of the lock and gives it to its guard. If that share can't be
     /// had, its polls are refused as [`Refusal::Memory`].
     pub fn read_arc(this: &Arc<RwLock<T, R>>) -> ReadArc<T, R>
         ensures lock { IsFor arc_value result.stage (arc_value this.now) }
@@ -218,7 +218,7 @@ impl<T: Drop, R: Wait + Drop> RwLock<T, R> {
         ReadFuture::new(first::<T, R, Arc<RwLock<T, R>>>(Arc::try_clone(this).ok()))
     }
 
-    /// Does as [`RwLock::upgradable_read`] does, for a future that has a share of the lock and gives it to its guard. If that share can't be
+    /// Returns a future as [`RwLock::upgradable_read`] does, which has a share of the lock and gives it to its guard. If that share can't be
     /// had, its polls are refused as [`Refusal::Memory`].
     pub fn upgradable_read_arc(this: &Arc<RwLock<T, R>>) -> UpgradableReadArc<T, R>
         ensures lock { IsFor arc_value result.stage (arc_value this.now) }
@@ -227,7 +227,7 @@ impl<T: Drop, R: Wait + Drop> RwLock<T, R> {
         UpgradableFuture::new(first::<T, R, Arc<RwLock<T, R>>>(Arc::try_clone(this).ok()))
     }
 
-    /// Does as [`RwLock::write`] does, for a future that has a share of the lock and gives it to its guard. If that share can't be
+    /// Returns a future as [`RwLock::write`] does, which has a share of the lock and gives it to its guard. If that share can't be
     /// had, its polls are refused as [`Refusal::Memory`].
     pub fn write_arc(this: &Arc<RwLock<T, R>>) -> WriteArc<T, R>
         ensures lock { IsFor arc_value result.stage (arc_value this.now) }

@@ -154,7 +154,7 @@ impl<R: Wait + Drop> Semaphore<R> {
         Some(PermitGuard::new(owner, seat, permits))
     }
 
-    /// Does as [`Semaphore::acquire`] does, for a future that has a share of the semaphore and gives it to its guard. If that share can't be
+    /// Returns a future as [`Semaphore::acquire`] does, which has a share of the semaphore and gives it to its guard. If that share can't be
     /// had, its polls are refused as [`Refusal::Memory`].
     #[inline]
     pub fn acquire_arc(this: &Arc<Semaphore<R>>) -> AcquireArc<R>
@@ -165,7 +165,7 @@ impl<R: Wait + Drop> Semaphore<R> {
         Semaphore::acquire_many_arc(this, 1)
     }
 
-    /// Does as [`Semaphore::acquire_many`] does, for a future that has a share of the semaphore and gives it to its guard. If that share
+    /// Returns a future as [`Semaphore::acquire_many`] does, which has a share of the semaphore and gives it to its guard. If that share
     /// can't be had, its polls are refused as [`Refusal::Memory`].
     #[inline]
     pub fn acquire_many_arc(this: &Arc<Semaphore<R>>, permits: usize) -> AcquireArc<R>
