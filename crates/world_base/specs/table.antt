@@ -1,6 +1,7 @@
 pub mod Ends
 pub mod Stages
 pub mod Tables
+pub mod Worlds
 pub mod Views
 pub mod Rights
 pub mod Lending

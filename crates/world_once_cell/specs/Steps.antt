@@ -4,6 +4,7 @@ use Rattle.world_base.specs.declared.moves.Answer.{Answer}
 use Rattle.world_base.specs.declared.moves.Move.{Move}
 use Rattle.world_base.specs.declared.standing.Rest.TheVariants.{Finished}
 use Rattle.world_base.specs.table.Tables.{Table, IsTable, IsStep}
+use Rattle.world_base.specs.table.Worlds.{DidOn, StepsBy}
 use Rattle.world_once_cell.specs.machine.Machine.{OnceCell, IsCell, knows, Moves, Stands as StandsThere}
 use Rattle.world_once_cell.specs.State.{World, HasOneTeller}
 use Rattle.world_once_cell.specs.View.{view_of}
@@ -24,13 +25,9 @@ pub record Stands (w : World) : Type 0 where
   pub one_teller : HasOneTeller w
 
 -- what the table did
-pub record Did (old : World) (m : Move) (a : Answer) (new : World) : Type 0 where
-  pub stood : Stands old
-  pub step : TableSteps old.behind m a new.behind
-  pub stands : Stands new
+abbrev pub Did : World → Move → Answer → World → Type 0
+Did = DidOn (λ (w : World). w.behind) TableSteps Stands
 
 -- From the old World the move may be answered so, and lead to the new World: a legal step, whose immediate answers are right, and which its table did.
-pub record Steps (old : World) (m : Move) (a : Answer) (new : World) : Type 0 where
-  pub legal : Legal old m a new
-  pub at_once : AnswersAtOnce old m a new
-  pub did : Did old m a new
+abbrev pub Steps : World → Move → Answer → World → Type 0
+Steps = StepsBy Legal AnswersAtOnce Did

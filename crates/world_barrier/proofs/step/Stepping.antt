@@ -42,7 +42,7 @@ module _ (t u : Table Barrier) (m : Move) (a : Answer) (tl : IsBarrier t.machine
   by_step P none again act step = by_way known_calls Rest.Finished Moves t u m a P none again (λ w e f d. act w (carried w e f d)) (way known_calls Rest.Finished Moves t u m a step)
 
   stands : (x : Table Barrier) → IsBarrier x.machine → IsBarrierTable x → Stands (view_of x)
-  stands x laws fits = record { seen = refl; barrier = laws; fits = fits }
+  stands x laws fits = record { seen = refl; laws = laws; fits = fits }
 
   call_is : call_of (view_of t) m ≡ call_at knows (stage_at t.stages m.party) m.what
   call_is = ap (λ z. call_in knows z m.what) (seen.standing_seen t m.party) ∙ call_seen knows (verdict_in t.machine m.party) (stage_at t.stages m.party) m.what

@@ -133,9 +133,9 @@ module _ (t : Table Barrier) (p : ℕ) (i : Inputs) (Going : Position → Barrie
     onward : (x : World) (a : Answer) (v : World) → GoesAt x → Steps x (going_on p i) a v → Onward GoesAt EndsAt a v
     onward x a v so s =
         let place = inside (position_at x.behind.machine.positions p) x.behind.machine so.going in
-        let d = went x.behind v.behind p a s.did.stood.barrier s.did.stood.fits i place.0 place.1 s.did.step in
+        let d = went x.behind v.behind p a s.did.stood.laws s.did.stood.fits i place.0 place.1 s.did.step in
         let P : Position → Type 0 = λ z. Going z x.behind.machine in
-        by_step x v (Go i) place.0 a so.elsewhere d (leads x.behind.machine v.behind.machine place.0 d.found s.did.stood.barrier s.did.stands.barrier place.1 (subst P place.1 so.going) d.step)
+        by_step x v (Go i) place.0 a so.elsewhere d (leads x.behind.machine v.behind.machine place.0 d.found s.did.stood.laws s.did.stands.laws place.1 (subst P place.1 so.going) d.step)
 
     -- from its first step, at this place, to its end
     pub whole : (known : ℕ → Account) (w : World) (c : Call) (n : ℕ) (a : Answer) (v : World) (s : Stage) (within : Within) (from : Place) → w.behind ≡ t → stage_at w.behind.stages p ≡ s → call_at knows s (Begin c i) ≡ Some within → polls_again s (Begin c i) ≡ false
@@ -143,6 +143,6 @@ module _ (t : Table Barrier) (p : ℕ) (i : Inputs) (Going : Position → Barrie
         → Runs known w (moves_of p c i n) (answers_of n a) v → a ≢ Answer.Stepped → EndsAt a v
     whole known w c n a v s within from is at called first starts begins runs ended =
         along Steps accounts_after HoldsWell p i GoesAt EndsAt onward known n w (beginning p c i) a v
-        (λ b x step. (let d = did w.behind x.behind p b step.did.stood.barrier step.did.stood.fits (Begin c i) s within from at called first starts step.did.step in
-        by_step w x (Begin c i) from b (λ q apart. ap (λ (y : Table Barrier). stage_at y.stages q) is) d (begins d.found x.behind.machine step.did.stands.barrier d.step)))
+        (λ b x step. (let d = did w.behind x.behind p b step.did.stood.laws step.did.stood.fits (Begin c i) s within from at called first starts step.did.step in
+        by_step w x (Begin c i) from b (λ q apart. ap (λ (y : Table Barrier). stage_at y.stages q) is) d (begins d.found x.behind.machine step.did.stands.laws d.step)))
         ended runs

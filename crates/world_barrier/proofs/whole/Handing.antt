@@ -116,9 +116,9 @@ module _ (known : ℕ → Account) (w : World) (p : ℕ) (i : Inputs) (n : ℕ) 
   pub hands_on : standing_of w p ≡ outside Rest.Pending → 0 < entries_of p w.lock_list → is_refusal a ≡ true → 0 < length v.lock_list → 0 < marked_count v.lock_list
   hands_on pending some refused =
       let t : Table Barrier = w.behind in
-      let at = at_rest_there t p stood.barrier stood.fits Rest.Pending (subst (λ x. standing_of x p ≡ outside Rest.Pending) stood.seen pending) in
+      let at = at_rest_there t p stood.laws stood.fits Rest.Pending (subst (λ x. standing_of x p ≡ outside Rest.Pending) stood.seen pending) in
       let there = subst (λ x. 0 < entries_of p x.lock_list) stood.seen some in
-      let found = from_waiting t p stood.barrier stood.fits i (position_at t.machine.positions p) refl at (stands_at t p stood.barrier stood.fits Rest.Pending at) there in
+      let found = from_waiting t p stood.laws stood.fits i (position_at t.machine.positions p) refl at (stands_at t p stood.laws stood.fits Rest.Pending at) there in
       let k = found.0 in
       let end = whole t p i (Hands p) (Handed p) (hands_inside p) (λ x y from f laws later here so step. hands p i x y laws from f here so step)
       known w Call.Poll n a v k.stage k.within (WaitLock k.its_aim) refl k.at k.called k.first k.starts (λ f y laws step. begins p i k.its_aim f t.machine y found.2 step) runs ended in

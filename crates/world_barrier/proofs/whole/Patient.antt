@@ -30,7 +30,7 @@ module _ (x v : World) (m : Move) (a : Answer) (s : Steps x m a v) (d : DecidesO
       let D : World → World → Type 0 = λ y z. DecidesOn y m a z starved_refusal in
       let Left : World → Type 0 = λ y. D y v in
       let U : World → Type 0 = λ y. IsUndecided (standing_of y m.party) in
-      by_step x.behind v.behind m a s.did.stood.barrier s.did.stood.fits s.did.stands.barrier s.did.stands.fits Counts
+      by_step x.behind v.behind m a s.did.stood.laws s.did.stood.fits s.did.stands.laws s.did.stands.fits Counts
       (λ e at y. absurd (decides_nothing (view_of x.behind) m.party Answer.NotPossible at y.1))
       (λ w e f at y. absurd (decides_nothing (view_of x.behind) m.party (refused Refusal.Finished) at y.1))
       (λ w k at y. acting.counts x.behind v.behind m a w k y)

@@ -164,30 +164,30 @@ module _ (known : ℕ → Account) (w : World) (p : ℕ) (i : Inputs) (n : ℕ) 
 
   -- the poll of a wait like this finds memory if it has to wait
   supplied : (c : Call) (from : Aim → Place) (k : Begins t p c i from) → (HasToWait (view_of t) (wait_for k.its_aim (arrivals_at s.words.size (arrival_at s.arrivals p))) → i.memory ≡ true) → IsSupplied p k.its_aim s i
-  supplied c from k memory must = memory (has_to_wait p k.its_aim t v.behind a stood.barrier stands.barrier k.follower must)
+  supplied c from k memory must = memory (has_to_wait p k.its_aim t v.behind a stood.laws stands.laws k.follower must)
 
   pub first : (c : Call) → IsRun c → is_first_poll (standing_of w p) (Begin c i) (entries_in w p) ≡ true → is_free w.lock ≡ true → (HasToWait w (wait_then (Begin c i) Answer.Stepped (wait_of w p)) → i.memory ≡ true) → Takes w p (wait_then (Begin c i) Answer.Stepped (wait_of w p)) a v
   first c runs is free memory =
       let is' = subst (λ x. is_first_poll (standing_of x p) (Begin c i) (entries_in x p) ≡ true) stood.seen is in
       let is'' = subst (λ z. is_first_poll z (Begin c i) (entries_in (view_of t) p) ≡ true) (standing_seen t p) is' in
       let free' = free_there t (subst (λ x. is_free x.lock ≡ true) stood.seen free) in
-      let k = first_from t p stood.barrier stood.fits i c (stage_at t.stages p) refl is'' in
+      let k = first_from t p stood.laws stood.fits i c (stage_at t.stages p) refl is'' in
       let memory' = subst (λ x. HasToWait x (wait_then (Begin c i) Answer.Stepped (wait_of x p)) → i.memory ≡ true) stood.seen memory in
       let some = supplied c EnterLock k (subst (λ z. HasToWait (view_of t) z → i.memory ≡ true) k.wait memory') in
       as_seen (λ x y. Takes x p (wait_then (Begin c i) Answer.Stepped (wait_of x p)) a y)
-      (subst (λ z. Takes (view_of t) p z a (view_of v.behind)) (sym k.wait) (takes_seen p k.its_aim t v.behind a stood.barrier stands.barrier k.follower (first_comes c runs k some free'.0 free'.1)))
+      (subst (λ z. Takes (view_of t) p z a (view_of v.behind)) (sym k.wait) (takes_seen p k.its_aim t v.behind a stood.laws stands.laws k.follower (first_comes c runs k some free'.0 free'.1)))
 
   module _ (runs : IsRun Call.Poll) where
     pub notified : IsNotified w p i → is_free w.lock ≡ true → Takes w p (wait_of w p) a v
     notified solo free =
         let solo' = subst (λ x. IsNotified x p i) stood.seen solo in
         let free' = free_there t (subst (λ x. is_free x.lock ≡ true) stood.seen free) in
-        let at = at_rest_there t p stood.barrier stood.fits Rest.Pending solo'.pending in
-        let found = from_listed t p stood.barrier stood.fits i (position_at s.positions p) refl at (stands_at t p stood.barrier stood.fits Rest.Pending at) (marked_listed p s.entries solo'.marked) in
+        let at = at_rest_there t p stood.laws stood.fits Rest.Pending solo'.pending in
+        let found = from_listed t p stood.laws stood.fits i (position_at s.positions p) refl at (stands_at t p stood.laws stood.fits Rest.Pending at) (marked_listed p s.entries solo'.marked) in
         let k = found.0 in
         let some = supplied Call.Poll (λ _. Ask) k (subst (λ z. HasToWait (view_of t) z → i.memory ≡ true) k.wait solo'.memory) in
         as_seen (λ x y. Takes x p (wait_of x p) a y)
-        (subst (λ z. Takes (view_of t) p z a (view_of v.behind)) (sym k.wait) (takes_seen p k.its_aim t v.behind a stood.barrier stands.barrier k.follower (notified_comes runs k some found.1 solo'.marked free'.0 free'.1)))
+        (subst (λ z. Takes (view_of t) p z a (view_of v.behind)) (sym k.wait) (takes_seen p k.its_aim t v.behind a stood.laws stands.laws k.follower (notified_comes runs k some found.1 solo'.marked free'.0 free'.1)))
 
     why_seen : (is_starved (view_of t).lock p ≡ true) ⊎ (how_many (view_of t).lock.starved ≡ 0) → IsStarved s.lock p ⊎ (starved s.lock ≡ 0)
     why_seen (inl starving) = inl (sym (sees.counted_bit (course_at s.lock.courses p)) ∙ ap bit (sym (sees.starved_at s.lock.courses p) ∙ starving))
@@ -199,7 +199,7 @@ module _ (known : ℕ → Account) (w : World) (p : ℕ) (i : Inputs) (n : ℕ) 
 
     -- a poll that has had the inner lock
     came_seen : (k : Begins t p Call.Poll i WaitLock) → Came p k.its_aim s a (position_at v.behind.machine.positions p) v.behind.machine → Takes (view_of t) p (wait_of (view_of t) p) a (view_of v.behind)
-    came_seen k came = subst (λ z. Takes (view_of t) p z a (view_of v.behind)) (sym k.wait) (takes_seen p k.its_aim t v.behind a stood.barrier stands.barrier k.follower came)
+    came_seen k came = subst (λ z. Takes (view_of t) p z a (view_of v.behind)) (sym k.wait) (takes_seen p k.its_aim t v.behind a stood.laws stands.laws k.follower came)
 
     -- it has had it, where it is starved or nobody is
     must_come : (k : Begins t p Call.Poll i WaitLock) → (law : SoloPolls s.lock) → IsCalled s.lock p → (is_starved (view_of t).lock p ≡ true) ⊎ (how_many (view_of t).lock.starved ≡ 0)
@@ -219,10 +219,10 @@ module _ (known : ℕ → Account) (w : World) (p : ℕ) (i : Inputs) (n : ℕ) 
     solo polls free =
         let solo' = subst (λ x. IsSolo x p i) stood.seen polls in
         let free' = nobody_holds t (subst (λ x. x.lock.holder ≡ None) stood.seen free) in
-        let at = at_rest_there t p stood.barrier stood.fits Rest.Pending solo'.pending in
+        let at = at_rest_there t p stood.laws stood.fits Rest.Pending solo'.pending in
         let there = marked_listed p s.lock.entries solo'.marked in
-        let found = from_waiting t p stood.barrier stood.fits i (position_at s.positions p) refl at (stands_at t p stood.barrier stood.fits Rest.Pending at) there in
-        let law = lock_law s.lock stood.barrier.lock free' in
+        let found = from_waiting t p stood.laws stood.fits i (position_at s.positions p) refl at (stands_at t p stood.laws stood.fits Rest.Pending at) there in
+        let law = lock_law s.lock stood.laws.lock free' in
         let called : IsCalled s.lock p = (found.2, solo'.marked) in
         let M : LockEnd → Mutex → Bool → Type 0 = λ e new m. PollsAlone m p e new s.lock in
         let end = lock_comes runs found.0 (λ must. solo'.memory) (λ e new polls. law.takes_or_gives_way p e new called (subst (M e new) solo'.memory polls)) in
@@ -234,11 +234,11 @@ module _ (known : ℕ → Account) (w : World) (p : ℕ) (i : Inputs) (n : ℕ) 
         let told' = subst (λ x. IsToldOfLock x p i) stood.seen polls in
         let free' = nobody_holds t (subst (λ x. x.lock.holder ≡ None) stood.seen free) in
         let why' = subst (λ x. (is_starved x.lock p ≡ true) ⊎ (how_many x.lock.starved ≡ 0)) stood.seen why in
-        let at = at_rest_there t p stood.barrier stood.fits Rest.Pending told'.pending in
+        let at = at_rest_there t p stood.laws stood.fits Rest.Pending told'.pending in
         let there = marked_listed p s.lock.entries told'.marked in
-        let found = from_waiting t p stood.barrier stood.fits i (position_at s.positions p) refl at (stands_at t p stood.barrier stood.fits Rest.Pending at) there in
+        let found = from_waiting t p stood.laws stood.fits i (position_at s.positions p) refl at (stands_at t p stood.laws stood.fits Rest.Pending at) there in
         let k = found.0 in
-        let law = lock_law s.lock stood.barrier.lock free' in
+        let law = lock_law s.lock stood.laws.lock free' in
         let called : IsCalled s.lock p = (found.2, told'.marked) in
         let some = supplied Call.Poll WaitLock k (subst (λ z. HasToWait (view_of t) z → i.memory ≡ true) k.wait told'.memory) in
         let end = lock_comes runs k some (λ e new polls. inl (law.takes i.memory p e new called (why_seen why') polls)) in

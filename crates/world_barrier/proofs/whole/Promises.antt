@@ -39,7 +39,7 @@ module _ (p : ℕ) (i : Inputs) (patient : i.starving ≡ false) where
   goes_unstarved x a v g s = steps_unstarved x (Go i) a v patient g.0 (λ w k. g.1) s
 
   first_unstarved : (c : Call) (x : World) → Unstarved x.behind → (a : Answer) (v : World) → Steps x (beginning p c i) a v → Left a v
-  first_unstarved c x none a v s = steps_unstarved x (Begin c i) a v patient none (λ w k. begins_uncounted c (position_at x.behind.machine.positions p) k.acts.from (course_at x.behind.machine.lock.courses p) k.acts.starts (s.did.stood.barrier.links p)) s
+  first_unstarved c x none a v s = steps_unstarved x (Begin c i) a v patient none (λ w k. begins_uncounted c (position_at x.behind.machine.positions p) k.acts.from (course_at x.behind.machine.lock.courses p) k.acts.starts (s.did.stood.laws.links p)) s
 
 -- ---- and refuses nobody for too many starved parties
 

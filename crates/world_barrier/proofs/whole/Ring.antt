@@ -289,7 +289,7 @@ module _ (p : ℕ) (i : Inputs) (patient : i.starving ≡ false) (l0 : List (Ent
 
     o : Onward Calm Kept a v.behind
     o = onward known_calls Rest.Finished Moves x.behind v.behind m a Calm Kept (λ y. y) (λ e. absurd (cc e)) (λ e. absurd (cc e))
-        (λ w e f k. let calm = calm_then x.behind v.behind what a w still s.did.stood.barrier s.did.stood.fits k (before w k) in record { going = λ g. calm; ended = λ g y. kept_so v.behind calm }) s.did.step
+        (λ w e f k. let calm = calm_then x.behind v.behind what a w still s.did.stood.laws s.did.stood.fits k (before w k) in record { going = λ g. calm; ended = λ g y. kept_so v.behind calm }) s.did.step
 
     ends_pending : a ≡ Answer.Pending → standing_of v p ≡ outside Rest.Pending
     ends_pending is = by_call (call_of x m) refl where
@@ -307,14 +307,14 @@ module _ (p : ℕ) (i : Inputs) (patient : i.starving ≡ false) (l0 : List (Ent
     before w k (inr q) =
         let at = going_at i (here x.behind) k.acts.from k.acts.starts in
         let F : Position → Type 0 = λ z. fits_lock (in_lock z) (course_at x.behind.machine.lock.courses p) ≡ true in
-        inr (quiet_before k.acts.from (ap is_quiet (sym at) ∙ q.0), subst F at (s.did.stood.barrier.links p), q.1)
+        inr (quiet_before k.acts.from (ap is_quiet (sym at) ∙ q.0), subst F at (s.did.stood.laws.links p), q.1)
 
   first : (c : Call) (x : World) → starved x.behind.machine.lock ≡ 0 → MarksNobody p l0 x.behind.machine.lock.entries → (a : Answer) (v : World) → Steps x (beginning p c i) a v → Onward (λ y. Calm y.behind) Done a v
   first c x none kept a v s = moved x (Begin c i) a v patient (λ w k. before k) s where
     before : {w : Within} (k : Acted known_calls Rest.Finished Moves w x.behind (beginning p c i) a v.behind) → Before k.acts.from x.behind
     before k =
         let course = course_at x.behind.machine.lock.courses p in
-        let link = s.did.stood.barrier.links p in
+        let link = s.did.stood.laws.links p in
         let at = starts_before c (here x.behind) k.acts.from course k.acts.starts link in
         inr (at.0, at.1, record { unstarved = none; uncounting = begins_uncounted c (here x.behind) k.acts.from course k.acts.starts link; kept = kept })
 
@@ -324,9 +324,9 @@ tells_nobody_at_end known w p c i n a v stood stands runs ended patient none is 
     let u = v.behind in
     let zero : starved w.behind.machine.lock ≡ 0 = nobody_starved w.behind (subst (λ x. how_many x.lock.starved ≡ 0) stood.seen none) in
     let done : Done p i patient l0 a v = along Steps accounts_after HoldsWell p i (λ y. Calm p i patient l0 y.behind) (Done p i patient l0) (goes p i patient l0) known n w (beginning p c i) a v (first p i patient l0 c w zero (λ q apart h. h)) ended runs in
-    let at = at_rest_there u p stands.barrier stands.fits Rest.Pending (ap (λ y. standing_of y p) (sym stands.seen) ∙ done.outside is) in
+    let at = at_rest_there u p stands.laws stands.fits Rest.Pending (ap (λ y. standing_of y p) (sym stands.seen) ∙ done.outside is) in
     let listed_there : 0 < entries_of p u.machine.lock.entries = subst (λ y. 0 < entries_of p y.lock_list) stands.seen there in
-    let waits = from_waiting u p stands.barrier stands.fits i (position_at u.machine.positions p) refl at (stands_at u p stands.barrier stands.fits Rest.Pending at) listed_there in
+    let waits = from_waiting u p stands.laws stands.fits i (position_at u.machine.positions p) refl at (stands_at u p stands.laws stands.fits Rest.Pending at) listed_there in
     let M : List (Entry ℕ) → Type 0 = λ l. MarksNobody p l v.lock_list in
     let N : List (Entry ℕ) → Type 0 = λ l. MarksNobody p l0 l in
     subst M (sym (ap (λ y. y.lock_list) stood.seen)) (subst N (sym (ap (λ y. y.lock_list) stands.seen)) (done.kept is waits.0.its_aim waits.1))

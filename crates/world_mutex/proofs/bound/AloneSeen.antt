@@ -80,7 +80,7 @@ module _ (t : Table Guarded) (p : ℕ) where
 pub poll_seen : (known : ℕ → Account) (w : World) (p : ℕ) (i : Inputs) (k : ℕ) (a : Answer) (v : World) → Stands w → Stands v → Runs known w (moves_of p Call.Poll i k) (answers_of k a) v → a ≢ Answer.Stepped → IsSolo w p i → w.state.holder ≡ None → SoloPoll w p a v
 poll_seen known w p i k a v stood stands runs not_stepped solo free =
     let seen_so = subst (λ x. IsSolo x p i) stood.seen solo in
-    let polls = polls_alone p i solo.memory known k w v a not_stepped (at_stage w.behind p i stood.mutex stood.fits seen_so) runs in
+    let polls = polls_alone p i solo.memory known k w v a not_stepped (at_stage w.behind p i stood.laws stood.fits seen_so) runs in
     subst (λ x. SoloPoll x p a v) (sym stood.seen)
     (subst (SoloPoll (view_of w.behind) p a) (sym stands.seen)
-    (ended_seen w.behind p i stood.mutex stood.fits seen_so v.behind a stands.mutex stands.fits polls.0 polls.1 polls.2 (sym (ap (λ x. x.state.holder) stood.seen) ∙ free)))
+    (ended_seen w.behind p i stood.laws stood.fits seen_so v.behind a stands.laws stands.fits polls.0 polls.1 polls.2 (sym (ap (λ x. x.state.holder) stood.seen) ∙ free)))

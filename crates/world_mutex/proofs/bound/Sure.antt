@@ -124,7 +124,7 @@ module _ (p : ℕ) (i : Inputs) (n : ℕ) where
           ended = λ e. record {
             ready = ready ∙ ap (λ k. Answer.Ready (Value k)) was;
             value = d.carries.carried.value ∙ was;
-            holder = sees.holds_it v.behind.machine.lock.places p stands.mutex.one_holder (ap holds at);
+            holder = sees.holds_it v.behind.machine.lock.places p stands.laws.one_holder (ap holds at);
           };
         }
 
@@ -175,7 +175,7 @@ notified_takes known w p i k a v stood stands runs ended told free cause =
     let told_so = subst (λ x. IsNotified x p) stood.seen told in
     let cause_so = subst (λ x. (is_starved x.state p ≡ true) ⊎ (how_many x.state.starved ≡ 0)) stood.seen cause in
     let taken = along Steps accounts_after HoldsWell p i (λ y. Going p i n y.behind) (λ b y. Taken p i n b y.behind) (onward p i n) known k w (beginning p Call.Poll i) a v
-    (λ b x s. first p i n w b x (at_stage t p stood.mutex stood.fits told_so) (waits t p stood.mutex stood.fits told_so) (sees.none_holds 0 t.machine.lock.places (sym (ap (λ x. x.state.holder) stood.seen) ∙ free)) (why t p stood.mutex stood.fits told_so cause_so) told_so.marked refl s)
+    (λ b x s. first p i n w b x (at_stage t p stood.laws stood.fits told_so) (waits t p stood.laws stood.fits told_so) (sees.none_holds 0 t.machine.lock.places (sym (ap (λ x. x.state.holder) stood.seen) ∙ free)) (why t p stood.laws stood.fits told_so cause_so) told_so.marked refl s)
     ended runs in
     subst (λ x. Takes x p a v) (sym stood.seen)
     (subst (Takes (view_of t) p a) (sym stands.seen)

@@ -9,10 +9,10 @@ use Rattle.world_mutex.proofs.laws.Sound.{sound, awake}
 use Rattle.world_mutex.proofs.whole.Whole as whole
 
 sound_now : (w : World) → Stands w → IsSound w
-sound_now w s = subst IsSound (sym s.seen) (sound w.behind s.mutex s.fits)
+sound_now w s = subst IsSound (sym s.seen) (sound w.behind s.laws s.fits)
 
 awake_now : (w : World) → Stands w → is_at_rest w ≡ true → IsAwake w
-awake_now w s = let A : World → Type 0 = λ x. is_at_rest x ≡ true → IsAwake x in subst A (sym s.seen) (awake w.behind s.mutex s.fits)
+awake_now w s = let A : World → Type 0 = λ x. is_at_rest x ≡ true → IsAwake x in subst A (sym s.seen) (awake w.behind s.laws s.fits)
 
 pub told_at_first : (w : World) → TellsRights (accounts_of w) w
 told_at_first w p = refl
@@ -20,16 +20,16 @@ told_at_first w p = refl
 own_now : (w : World) (m : Move) (a : Answer) (v : World) → Steps w m a v → account_after (accounts_of w m.party) m.what a ≡ accounts_of v m.party
 own_now w m a v s =
     ap (λ x. account_after (accounts_of x m.party) m.what a) s.did.stood.seen
-    ∙ (own w.behind v.behind m a s.did.stood.mutex s.did.stood.fits s.did.stands.mutex s.did.stands.fits s.did.step ∙ ap (λ x. accounts_of x m.party) (sym s.did.stands.seen))
+    ∙ (own w.behind v.behind m a s.did.stood.laws s.did.stood.fits s.did.stands.laws s.did.stands.fits s.did.step ∙ ap (λ x. accounts_of x m.party) (sym s.did.stands.seen))
 
 pub goes_well : (known : ℕ → Account) (w : World) (m : Move) (a : Answer) (v : World) → TellsRights known w → Steps w m a v → StepsWell TellsRights HoldsWell (accounts_after known m a) v
 goes_well known w m a v tells s = holds_well known w m a v tells (own_now w m a v s) s.legal (sound_now v s.did.stands) (awake_now v s.did.stands)
 
 pub begins : (w : World) (p : ℕ) (c : Call) (i : Inputs) (a : Answer) (v : World) → Steps w (beginning p c i) a v → 1 + left_by a (steps_left_of v p) ≤ most_steps_of c
-begins w p c i a v s = whole.begins w.behind v.behind p c i a s.did.stood.mutex s.did.stood.fits s.did.stands.mutex s.did.stands.fits s.did.step
+begins w p c i a v s = whole.begins w.behind v.behind p c i a s.did.stood.laws s.did.stood.fits s.did.stands.laws s.did.stands.fits s.did.step
 
 pub falls : (w : World) (p : ℕ) (i : Inputs) (a : Answer) (v : World) → Steps w (going_on p i) a v → left_by a (steps_left_of v p) < steps_left_of w p
-falls w p i a v s = whole.falls w.behind v.behind p i a s.did.stood.mutex s.did.stood.fits s.did.stands.mutex s.did.stands.fits s.did.step
+falls w p i a v s = whole.falls w.behind v.behind p i a s.did.stood.laws s.did.stood.fits s.did.stands.laws s.did.stands.fits s.did.step
 
 pub ends_outside : (w : World) (m : Move) (a : Answer) (v : World) → Steps w m a v → a ≢ Answer.Stepped → is_possible a ≡ true → is_outside (standing_of v m.party) ≡ true
 ends_outside w m a v s = outside_at_end standing_of (λ x p. knows) Holding w m a v s.legal.possible s.legal.ends_properly

@@ -81,7 +81,7 @@ module _ (t u : Table Guarded) (m : Move) (a : Answer) (tl : IsMutex t.machine.l
       (way known_calls Rest.Holding Moves t u m a step)
 
   stands : (x : Table Guarded) → IsMutex x.machine.lock → IsMutexTable x → Stands (view_of x)
-  stands x laws fits = record { seen = refl; mutex = laws; fits = fits }
+  stands x laws fits = record { seen = refl; laws = laws; fits = fits }
 
   pub stepped : TableSteps t m a u → Steps (view_of t) m a (view_of u)
   stepped step = let both = good step in record { legal = both.legal; at_once = both.at_once; did = record { stood = stands t tl tf; step = step; stands = stands u ul uf } }

@@ -96,7 +96,7 @@ module _ (p : ℕ) (i : Inputs) where
   steps : (x : World) (what : What) (a : Answer) (v : World) → starved x.behind.machine.lock ≡ 0 → ((w : Within) (k : Acting x.behind v.behind (record { party = p; what = what }) a w) → FreshAt k.carries.from p x.behind.machine.lock.entries)
       → Steps x (record { party = p; what = what }) a v → Onward (λ y. Fresh y.behind) (λ b y. Unrefused b y.behind) a v
   steps x what a v none fresh s =
-      let o = by_step x.behind v.behind (record { party = p; what = what }) a s.did.stood.mutex s.did.stood.fits s.did.stands.mutex s.did.stands.fits OnTo
+      let o = by_step x.behind v.behind (record { party = p; what = what }) a s.did.stood.laws s.did.stood.fits s.did.stands.laws s.did.stands.fits OnTo
       (ends_so _ x.behind (λ e. cc e) refl) (ends_so _ x.behind (λ e. cc e) refl) (λ n e. ends_so _ v.behind (λ y. cc y) refl)
       (λ w k. acted x.behind v.behind what a w k none (fresh w k)) s.did.step in
       record { going = o.going; ended = o.ended }

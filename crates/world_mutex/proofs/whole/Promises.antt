@@ -56,7 +56,7 @@ module _ (p : ℕ) (i : Inputs) where
     steps_unstarved : (x : World) (what : What) (a : Answer) (v : World) → (inputs_of what).starving ≡ false → Unstarved x.behind → ((w : Within) (k : Acting x.behind v.behind (record { party = p; what = what }) a w) → (is_counting k.carries.from ≡ false) × (is_too_many (decision k.carries.from) ≡ false)) → Steps x (record { party = p; what = what }) a v
         → Onward (λ y. Unstarving y.behind) (λ b y. Unrefused b y.behind) a v
     steps_unstarved x what a v still none not_next s = of_world Unstarving Unrefused a v
-        (by_step x.behind v.behind (record { party = p; what = what }) a s.did.stood.mutex s.did.stood.fits s.did.stands.mutex s.did.stands.fits Left
+        (by_step x.behind v.behind (record { party = p; what = what }) a s.did.stood.laws s.did.stood.fits s.did.stands.laws s.did.stands.fits Left
         (quiet Unstarving Unrefused _ x.behind (λ e. cc (e)) (none, refl)) (quiet Unstarving Unrefused _ x.behind (λ e. cc (e)) (none, refl))
         (λ n e. quiet Unstarving Unrefused _ v.behind (λ e. cc (e)) (ap (λ (g : Guarded). starved g.lock) e ∙ none, refl))
         (λ w k. let both = not_next w k in counts_none x.behind v.behind what a still none w k both.0 both.1) s.did.step)
@@ -98,7 +98,7 @@ module _ (p : ℕ) (i : Inputs) where
 
   steps_told : (x : World) (what : What) (a : Answer) (v : World) → ((w : Within) (k : Acting x.behind v.behind (record { party = p; what = what }) a w) → is_told k.carries.from ≡ true) → Steps x (record { party = p; what = what }) a v → Onward (λ y. Told y.behind) (λ b y. Handed b y.behind) a v
   steps_told x what a v told s = of_world Told Handed a v
-      (by_step x.behind v.behind (record { party = p; what = what }) a s.did.stood.mutex s.did.stood.fits s.did.stands.mutex s.did.stands.fits (On Told Handed)
+      (by_step x.behind v.behind (record { party = p; what = what }) a s.did.stood.laws s.did.stood.fits s.did.stands.laws s.did.stands.fits (On Told Handed)
       (quiet Told Handed _ x.behind (λ e. cc (e)) (λ r. absurd (cc (r)))) (quiet Told Handed _ x.behind (λ e. cc (e)) (λ r. absurd (cc (r)))) (λ n e. quiet Told Handed _ v.behind (λ e. cc (e)) (λ r. absurd (cc (r))))
       (λ w k. acted_told x.behind v.behind what a w k (told w k)) s.did.step)
 
@@ -119,7 +119,7 @@ module _ (p : ℕ) (i : Inputs) where
       let there : 0 < entries_of p t.machine.lock.entries = subst (λ x. 0 < entries_of p x.entries) s.did.stood.seen some in
       steps_told w (Begin Call.Poll i) a v (λ u k.
       (let fits : goes_with (Outside Rest.Pending) (place_of t.machine p) ≡ true = ap (λ z. goes_with z (place_of t.machine p)) (sym stage) ∙ s.did.stood.fits.stands p k.inside in
-      told_from (stage_at t.stages p) u (place_of t.machine p) k.carries.from stage k.call k.carries.starts (waits_listed (place_of t.machine p) fits (omega (arith, s.did.stood.mutex.owners p, there))))) s
+      told_from (stage_at t.stages p) u (place_of t.machine p) k.carries.from stage k.call k.carries.starts (waits_listed (place_of t.machine p) fits (omega (arith, s.did.stood.laws.owners p, there))))) s
 
 starved_behind : (w : World) → Stands w → how_many w.state.starved ≡ starved w.behind.machine.lock
 starved_behind w s = ap (λ x. how_many x.state.starved) s.seen ∙ sees.how_many_counted w.behind.machine.lock.places

@@ -133,7 +133,7 @@ module _ (p : ℕ) (i : Inputs) (patient : i.starving ≡ false) (l0 : List (Ent
       → ((w : Within) (k : Acting x.behind v.behind (record { party = p; what = what }) a w) → (is_some (decision k.carries.from) ≡ true) ⊎ ((starved x.behind.machine.lock ≡ 0) × (is_counting k.carries.from ≡ false) × (decision k.carries.from ≡ None → may_tell (place_of x.behind.machine p) ≡ false) × Kept x.behind))
       → Steps x (record { party = p; what = what }) a v → Onward (λ y. Calm y.behind) (λ b y. Done b y.behind) a v
   steps x what a v still h s =
-      let o = by_step x.behind v.behind (record { party = p; what = what }) a s.did.stood.mutex s.did.stood.fits s.did.stands.mutex s.did.stands.fits OnTo
+      let o = by_step x.behind v.behind (record { party = p; what = what }) a s.did.stood.laws s.did.stood.fits s.did.stands.laws s.did.stands.fits OnTo
       (ends_so _ x.behind (λ e. cc e) (λ e. cc e)) (ends_so _ x.behind (λ e. cc e) (λ e. cc e)) (λ n e. ends_so _ v.behind (λ y. cc y) (λ y. cc y))
       (λ w k. acted x.behind v.behind what a w k still (h w k)) s.did.step in
       record { going = o.going; ended = o.ended }

@@ -48,7 +48,7 @@ record Onward (memory starving : Bool) (t : Table Guarded) (p : ℕ) (from : Pla
   pub value : u.machine.value ≡ t.machine.value
 
 pub laws : (w : World) → Stands w → Laws w.behind
-laws w s = record { lock = s.lock; fits = s.fits }
+laws w s = record { lock = s.laws; fits = s.fits }
 
 module _ (p : ℕ) (i : Inputs) where
   -- one step of the poll, with the inputs that it began with

@@ -66,7 +66,7 @@ module _ (w v : World) (p : ℕ) (a : Answer) where
 
   -- who has the turn then
   turn_seen : (e : End) (x : Place) → Ended w p a v e → place_at v.behind.machine.lock.places p ≡ x → has_turn x ≡ 1 → (shown v).state.turn ≡ turn_as p (share_of x)
-  turn_seen e x k here has = let u = v.behind in owns.turn_at_place u.machine.lock u.stages u.opening u.machine.value k.stands.lock k.stands.fits p x here has
+  turn_seen e x k here has = let u = v.behind in owns.turn_at_place u.machine.lock u.stages u.opening u.machine.value k.stands.laws k.stands.fits p x here has
 
   takes_turn_seen : (e : End) → TookTurn p e v.behind.machine.lock → Ended w p a v e → TakesTurn (shown w) p a (shown v)
   takes_turn_seen End.Got (inl here) k =
@@ -108,7 +108,7 @@ module _ (w v : World) (p : ℕ) (a : Answer) where
       record {
         ready = ready_seen e took.0 k;
         kept = k.value;
-        reads = owns.reads_as u.machine.lock u.stages u.opening u.machine.value k.stands.lock k.stands.fits p ∙ ap is_reading took.1;
+        reads = owns.reads_as u.machine.lock u.stages u.opening u.machine.value k.stands.laws k.stands.fits p ∙ ap is_reading took.1;
       }
 
   writes_seen : (e : End) → Took p Place.Writing e v.behind.machine.lock → Ended w p a v e → TakesToWrite (shown w) p a (shown v)
@@ -203,7 +203,7 @@ module _ (known : ℕ → Account) (w : World) (p : ℕ) (i : Inputs) (k : ℕ) 
   as_seen : (P : World → World → Type 0) → standing_of w p ≡ outside Rest.Pending
       → ((e : End) → PollsAlone i.memory p e v.behind.machine.lock w.behind.machine.lock → Ended w p a v e → P (shown w) (shown v)) → P w v
   as_seen P pending gives =
-      let here = at_stage w p i stood.lock stood.fits (subst (λ x. standing_of x p ≡ outside Rest.Pending) stood.seen pending) in
+      let here = at_stage w p i stood.laws stood.fits (subst (λ x. standing_of x p ≡ outside Rest.Pending) stood.seen pending) in
       let polls = polls_alone p i known k w v a not_stepped here.0 here.1 runs in
       let last : v ≡ shown v = polls.2.stands.seen in
       subst (λ x. P x v) (sym stood.seen) (subst (P (shown w)) (sym last) (gives polls.0 polls.1 polls.2))
@@ -212,22 +212,22 @@ module _ (known : ℕ → Account) (w : World) (p : ℕ) (i : Inputs) (k : ℕ) 
   turn_seen_polled solo free below =
       let F : World → Type 0 = λ x. IsSoloForTurn x p i × (x.state.turn ≡ nobody) × (how_many_read x < x.readers_limit) in
       let so : F (shown w) = subst F stood.seen (solo, free, below) in
-      as_seen (λ x y. SoloPollForTurn x p a y) solo.pending (λ e polls ended. turn_polled w p i stood.lock stood.fits so.0.pending v a e polls ended so.0 so.1 so.2)
+      as_seen (λ x y. SoloPollForTurn x p a y) solo.pending (λ e polls ended. turn_polled w p i stood.laws stood.fits so.0.pending v a e polls ended so.0 so.1 so.2)
 
   pub told_seen_polled : IsToldOfTurn w p i → w.state.turn ≡ nobody → how_many_read w < w.readers_limit → (is_starved w p ≡ true) ⊎ (how_many w.state.starved ≡ 0) → TakesTurn w p a v
   told_seen_polled told free below why =
       let F : World → Type 0 = λ x. IsToldOfTurn x p i × (x.state.turn ≡ nobody) × (how_many_read x < x.readers_limit) × ((is_starved x p ≡ true) ⊎ (how_many x.state.starved ≡ 0)) in
       let so : F (shown w) = subst F stood.seen (told, free, below, why) in
-      as_seen (λ x y. TakesTurn x p a y) told.pending (λ e polls ended. told_polled w p i stood.lock stood.fits so.0.pending v a e polls ended so.0 so.1 so.2 so.3)
+      as_seen (λ x y. TakesTurn x p a y) told.pending (λ e polls ended. told_polled w p i stood.laws stood.fits so.0.pending v a e polls ended so.0 so.1 so.2 so.3)
 
   pub reading_seen_polled : IsToldToRead w p → is_marked w.state.turn ≡ false → how_many_read w < w.readers_limit → TakesToRead w p a v
   reading_seen_polled told free below =
       let F : World → Type 0 = λ x. IsToldToRead x p × (is_marked x.state.turn ≡ false) × (how_many_read x < x.readers_limit) in
       let so : F (shown w) = subst F stood.seen (told, free, below) in
-      as_seen (λ x y. TakesToRead x p a y) told.pending (λ e polls ended. reading_polled w p i stood.lock stood.fits so.0.pending v a e polls ended so.0 so.1 so.2)
+      as_seen (λ x y. TakesToRead x p a y) told.pending (λ e polls ended. reading_polled w p i stood.laws stood.fits so.0.pending v a e polls ended so.0 so.1 so.2)
 
   pub writing_seen_polled : IsSoloToWrite w p → how_many_read w ≡ 0 → TakesToWrite w p a v
   writing_seen_polled solo free =
       let F : World → Type 0 = λ x. IsSoloToWrite x p × (how_many_read x ≡ 0) in
       let so : F (shown w) = subst F stood.seen (solo, free) in
-      as_seen (λ x y. TakesToWrite x p a y) solo.pending (λ e polls ended. writing_polled w p i stood.lock stood.fits so.0.pending v a e polls ended so.0.looks so.1)
+      as_seen (λ x y. TakesToWrite x p a y) solo.pending (λ e polls ended. writing_polled w p i stood.laws stood.fits so.0.pending v a e polls ended so.0.looks so.1)

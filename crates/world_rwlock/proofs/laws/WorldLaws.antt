@@ -13,11 +13,11 @@ use Rattle.world_rwlock.proofs.whole.Ring.{tells_nobody_at_end}
 use Rattle.world_rwlock.proofs.bound.AloneSeen.{turn_seen_polled, told_seen_polled, reading_seen_polled, writing_seen_polled}
 
 sound_now : (w : World) → Stands w → IsSound w
-sound_now w s = subst IsSound (sym s.seen) (sound w.behind s.lock s.fits)
+sound_now w s = subst IsSound (sym s.seen) (sound w.behind s.laws s.fits)
 
 awake_now : (w : World) → Stands w → is_at_rest w ≡ true → IsAwake w
 awake_now w s = let A : World → Type 0 = λ x. is_at_rest x ≡ true → IsAwake x in
-    subst A (sym s.seen) (awake w.behind s.lock s.fits)
+    subst A (sym s.seen) (awake w.behind s.laws s.fits)
 
 pub told_at_first : (w : World) → TellsRights (accounts_of w) w
 told_at_first w p = refl
@@ -34,7 +34,7 @@ pub begins : (w : World) (p : ℕ) (c : Call) (i : Inputs) (a : Answer) (v : Wor
 begins w p c i a v s = whole.first w.behind v.behind p c i a (way_of w (beginning p c i) a v s)
 
 pub falls : (w : World) (p : ℕ) (i : Inputs) (a : Answer) (v : World) → Steps w (going_on p i) a v → left_by a (steps_left_of v p) < steps_left_of w p
-falls w p i a v s = whole.onward w.behind v.behind p i a s.did.stood.lock (way_of w (going_on p i) a v s)
+falls w p i a v s = whole.onward w.behind v.behind p i a s.did.stood.laws (way_of w (going_on p i) a v s)
 
 pub ends_outside : (w : World) (m : Move) (a : Answer) (v : World) → Steps w m a v → a ≢ Answer.Stepped → is_possible a ≡ true → is_outside (standing_of v m.party) ≡ true
 ends_outside w m a v s = outside_at_end standing_of knows_of Holding w m a v s.legal.possible s.legal.ends_properly

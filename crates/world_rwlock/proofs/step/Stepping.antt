@@ -12,7 +12,7 @@ put_call (Begin (Call.Put k) i) v e = (i, ap (λ n. Begin (Call.Put n) i) (some_
 put_call _ v e = absurd (none_some e)
 
 stands : (t : Table Guarded) → Laws t → Stands (view_of t)
-stands t k = record { seen = refl; lock = k.lock; fits = k.fits }
+stands t k = record { seen = refl; laws = k.lock; fits = k.fits }
 
 module _ (t u : Table Guarded) (m : Move) (a : Answer) (old : Laws t) (new : Laws u) where
   abbrev Good : Move → Answer → Table Guarded → Type 0

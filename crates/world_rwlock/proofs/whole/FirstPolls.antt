@@ -78,7 +78,7 @@ module _ (q : Purpose) (p n : ℕ) (i : Inputs) where
         let O : Place → Type 0 = λ z. OnTurn i.memory i.starving p (action_of z) f t.machine.lock.turn u.machine.lock.turn in
         let next : b.next ≡ go_to y = b.acts.next_is ∙ (ap (λ z. next_of z f) at ∙ enters i.memory i.starving p q f t.machine.lock.turn u.machine.lock.turn (subst O at b.acts.turn) free none) in
         let stepped : a ≡ Answer.Stepped = b.answer ∙ ap (answer_by t.machine.value) next in
-        let there : p < length t.machine.lock.places = omega (arith, b.inside, stood.fits.as_many, stood.lock.as_many) in
+        let there : p < length t.machine.lock.places = omega (arith, b.inside, stood.fits.as_many, stood.laws.as_many) in
         let places : u.machine.lock.places ≡ set t.machine.lock.places p y = b.acts.places ∙ ap (λ k. set t.machine.lock.places p (place_after k)) next in
         let stages : u.stages ≡ set t.stages p (Inside pw) = b.stages ∙ ap (λ k. set t.stages p (stage_after Holding pw k)) stepped in
         let sum = sum_by-set reads t.machine.lock.places p y Place.Out there in

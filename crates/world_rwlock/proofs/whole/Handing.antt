@@ -305,11 +305,11 @@ module _ (p : ℕ) (i : Inputs) where
     seen_pending = subst (λ x. standing_of x p ≡ outside Rest.Pending) stood.seen pending
 
     waits : is_future here ≡ true
-    waits = future w p i stood.lock stood.fits seen_pending
+    waits = future w p i stood.laws stood.fits seen_pending
 
     first : (a : Answer) (v : World) → Moved w (beginning p Call.Poll i) a v → Acting w.behind v.behind (beginning p Call.Poll i) a (within Kind.LaterPoll Rest.Pending)
     first a v s =
-        let stage = (at_stage w p i stood.lock stood.fits seen_pending).1 in
+        let stage = (at_stage w p i stood.laws stood.fits seen_pending).1 in
         acting w.behind v.behind (beginning p Call.Poll i) a (laws w s.did.stood) (laws v s.did.stands) (within Kind.LaterPoll Rest.Pending)
         (ap (λ s. call_at (knows_at here) s (Begin Call.Poll i)) stage) (ap (λ s. polls_again s (Begin Call.Poll i)) stage) refl s.did.step
 
@@ -317,22 +317,22 @@ module _ (p : ℕ) (i : Inputs) where
       by_list : (list : ListName) → 0 < entries_of p (list_of w list) → AtEnd list a v
       by_list for_no_writer some =
           let E : World → Type 0 = λ x. 0 < entries_of p x.no_writer in
-          let there : 0 < in_no_writer here = omega (arith, stood.lock.owners_no_writer p, subst E stood.seen some) in
+          let there : 0 < in_no_writer here = omega (arith, stood.laws.owners_no_writer p, subst E stood.seen some) in
           along Moved accounts_after HoldsWell p i Reading (AtEnd for_no_writer) reading_on known n w (beginning p Call.Poll i) a v
           (λ b x s. let c = first b x s in reading_acted w x (Begin Call.Poll i) b _ s.did.stands c (first_reads here waits c.from there c.starts))
           over_now runs
       by_list for_the_turn some =
           let E : World → Type 0 = λ x. 0 < entries_of p x.turn_list in
           let t = turn_at w.behind.machine.lock.turn.courses p in
-          let there : 0 < listed t = omega (arith, stood.lock.turn.owners p, subst E stood.seen some) in
+          let there : 0 < listed t = omega (arith, stood.laws.turn.owners p, subst E stood.seen some) in
           along Moved accounts_after HoldsWell p i Taking (AtEnd for_the_turn) taking_on known n w (beginning p Call.Poll i) a v
-          (λ b x s. let c = first b x s in taking_acted w x (Begin Call.Poll i) b _ s.did.stands c (first_takes t here waits c.from (stood.lock.in_turn p) there c.starts))
+          (λ b x s. let c = first b x s in taking_acted w x (Begin Call.Poll i) b _ s.did.stands c (first_takes t here waits c.from (stood.laws.in_turn p) there c.starts))
           over_now runs
       by_list for_no_readers some =
           let E : World → Type 0 = λ x. 0 < entries_of p x.no_readers in
           let l = w.behind.machine.lock in
-          let there : 0 < in_no_readers here = omega (arith, stood.lock.owners_no_readers p, subst E stood.seen some) in
-          let none : (q : ℕ) → q ≢ p → entries_of q l.no_readers ≡ 0 = λ q apart. omega (arith, stood.lock.owners_no_readers q, stood.lock.turns_apart p q (λ e. apart (sym e)), waits_with_turn here, waits_with_turn (place_at l.places q), there) in
+          let there : 0 < in_no_readers here = omega (arith, stood.laws.owners_no_readers p, subst E stood.seen some) in
+          let none : (q : ℕ) → q ≢ p → entries_of q l.no_readers ≡ 0 = λ q apart. omega (arith, stood.laws.owners_no_readers q, stood.laws.turns_apart p q (λ e. apart (sym e)), waits_with_turn here, waits_with_turn (place_at l.places q), there) in
           let N : World → Type 0 = λ x. (q : ℕ) → q ≢ p → entries_of q x.no_readers ≡ 0 in
           let alone : Alone w = record { only = subst N (sym stood.seen) none } in
           along Moved accounts_after HoldsWell p i Alone (AtEnd for_no_readers) (λ x b y g s. alone_on x (Go i) b y g s) known n w (beginning p Call.Poll i) a v (λ b x s. alone_on w (Begin Call.Poll i) b x alone s)

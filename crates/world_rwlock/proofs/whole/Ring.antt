@@ -296,8 +296,8 @@ tells_nobody_at_end known w p c i n a v stood runs ended patient none is there =
     let pending : standing_of (view_of v.behind) p ≡ outside Rest.Pending = ap (λ y. standing_of y p) (sym done.stands.seen) ∙ done.outside is in
     let x = place_at v.behind.machine.lock.places p in
     let t = turn_at v.behind.machine.lock.turn.courses p in
-    let own : entries_of p v.turn_list ≡ listed t = ap (λ y. entries_of p y.turn_list) done.stands.seen ∙ done.stands.lock.turn.owners p in
-    let waits : waits_for_turn x ≡ true = in_turn_list t x (future v p i done.stands.lock done.stands.fits pending) (done.stands.lock.in_turn p) (omega (arith, own, there)) in
+    let own : entries_of p v.turn_list ≡ listed t = ap (λ y. entries_of p y.turn_list) done.stands.seen ∙ done.stands.laws.turn.owners p in
+    let waits : waits_for_turn x ≡ true = in_turn_list t x (future v p i done.stands.laws done.stands.fits pending) (done.stands.laws.in_turn p) (omega (arith, own, there)) in
     let M : List (Entry ℕ) → Type 0 = λ l. MarksNobody p l v.turn_list in
     let N : List (Entry ℕ) → Type 0 = λ l. MarksNobody p l0 l in
     subst M (sym (ap (λ y. y.turn_list) stood.seen)) (subst N (sym (ap (λ y. y.turn_list) done.stands.seen)) (done.kept is waits))

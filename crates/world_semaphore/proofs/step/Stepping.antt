@@ -43,7 +43,7 @@ module _ (t u : Table Semaphore) (m : Move) (a : Answer) (tl : IsSemaphore t.mac
   by_step P none again act step = by_way known_calls Rest.Holding Moves t u m a P none again (λ w e f d. act w (carried w e f d)) (way known_calls Rest.Holding Moves t u m a step)
 
   stands : (x : Table Semaphore) → IsSemaphore x.machine → IsSemaphoreTable x → Stands (view_of x)
-  stands x laws fits = record { seen = refl; semaphore = laws; fits = fits }
+  stands x laws fits = record { seen = refl; laws = laws; fits = fits }
 
   call_is : call_of (view_of t) m ≡ call_at knows (stage_at t.stages m.party) m.what
   call_is = ap (λ z. call_in knows z m.what) (seen.stands_seen t m.party) ∙ call_seen knows (verdict (position_at t.machine.positions m.party)) (stage_at t.stages m.party) m.what

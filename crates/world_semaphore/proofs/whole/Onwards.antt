@@ -77,7 +77,7 @@ module _ (p : ℕ) (i : Inputs) (G : Place → Table Semaphore → Type 0) (E : 
   goes_on x b y g s =
       let t : Table Semaphore = x.behind in
       let u : Table Semaphore = y.behind in
-      seen_as b y (by_step t u (going_on p i) b s.did.stood.semaphore s.did.stood.fits s.did.stands.semaphore s.did.stands.fits (λ c z. Onward Going AtEnd c (view_of z))
+      seen_as b y (by_step t u (going_on p i) b s.did.stood.laws s.did.stood.fits s.did.stands.laws s.did.stands.fits (λ c z. Onward Going AtEnd c (view_of z))
       (λ e. absurd (by_stage_or_past t.stages p ⊥
       (λ past. (let out : Out ≡ At g.0 = sym (past_last t.machine.positions p Out (omega (arith, past, s.did.stood.fits.as_many))) ∙ g.1 in cc out))
       (λ inside. (let P : Position → Type 0 = λ z. goes_with (stage_at t.stages p) z ≡ true in goes_there (stage_at t.stages p) g.0 i (subst P g.1 (s.did.stood.fits.stands p inside)) e))))
@@ -91,7 +91,7 @@ module _ (p : ℕ) (i : Inputs) (G : Place → Table Semaphore → Type 0) (E : 
         let u : Table Semaphore = y.behind in
         let stands : standing_of (view_of t) p ≡ outside Rest.Pending = ap (λ z. standing_of z p) (sym s.did.stood.seen) ∙ pending in
         let stage : stage_at t.stages p ≡ Outside Rest.Pending = outside_stage (verdict (position_at t.machine.positions p)) (stage_at t.stages p) Rest.Pending (sym (seen.stands_seen t p) ∙ stands) in
-        seen_as b y (by_step t u (beginning p c i) b s.did.stood.semaphore s.did.stood.fits s.did.stands.semaphore s.did.stands.fits (λ a z. Onward Going AtEnd a (view_of z))
+        seen_as b y (by_step t u (beginning p c i) b s.did.stood.laws s.did.stood.fits s.did.stands.laws s.did.stands.fits (λ a z. Onward Going AtEnd a (view_of z))
         (λ e. absurd ((begins_there c i which).0 (ap (λ z. call_at knows z (Begin c i)) (sym stage) ∙ e)))
         (λ w e f. absurd ((begins_there c i which).1 (ap (λ z. polls_again z (Begin c i)) (sym stage) ∙ f)))
         (λ w k. acted t u (Begin c i) b w k refl (starts k.from k.starts)) s.did.step)

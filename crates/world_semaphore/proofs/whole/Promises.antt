@@ -84,10 +84,10 @@ hands_over known w p i n a v runs ended solo short =
     let t : Table Semaphore = w.behind in
     let es : w.entries ≡ t.machine.entries = ap (λ (z : World). z.entries) first.seen in
     let marked : is_marked_at (is_party p) t.machine.entries ≡ true = sym (ap (is_marked_at (is_party p)) es) ∙ solo.marked in
-    let available_is : available w.state ≡ t.machine.words.available = ap (λ (z : World). available z.state) first.seen ∙ seen.available_seen t first.semaphore in
+    let available_is : available w.state ≡ t.machine.words.available = ap (λ (z : World). available z.state) first.seen ∙ seen.available_seen t first.laws in
     let size_is = ap (λ (z : World). size_of z p) first.seen ∙ seen.size_seen t p in
-    let there : 0 < listed (position_at t.machine.positions p) = omega (arith, marked_listed p t.machine.entries marked, first.semaphore.owners p) in
-    let one : marked_count t.machine.entries ≡ 1 = one_marked p t.machine.entries marked first.semaphore.one_marked in
+    let there : 0 < listed (position_at t.machine.positions p) = omega (arith, marked_listed p t.machine.entries marked, first.laws.owners p) in
+    let one : marked_count t.machine.entries ≡ 1 = one_marked p t.machine.entries marked first.laws.one_marked in
     let done = handing.hands_over known w p i n a v runs ended solo.pending solo.memory marked one there (omega (arith, short, available_is, size_is)) in
     let state : v.state ≡ w.state = ap (λ (z : World). z.state) last.seen ∙ (done.same ∙ sym (ap (λ (z : World). z.state) first.seen)) in
     record {
@@ -106,7 +106,7 @@ keeps_promises known w p c i n a v runs ended = record {
   later = λ e pending few. later_takes known w p i n a v (polled e) ended pending few;
   passes_on = λ which pending some. marks_seen v (stands_last known w p c i n a v runs) (passing.passes_on known w p c i n a v runs ended which pending (omega (arith, some, ap (λ (z : World). marked_count z.entries) stood.seen)));
   hands_on = λ e pending there refused. marks_seen v (stands_last known w p c i n a v runs)
-      (passing.hands_on known w p i n a v (polled e) ended pending (omega (arith, there, ap (λ (z : World). entries_of p z.entries) stood.seen, stood.semaphore.owners p)) refused);
+      (passing.hands_on known w p i n a v (polled e) ended pending (omega (arith, there, ap (λ (z : World). entries_of p z.entries) stood.seen, stood.laws.owners p)) refused);
   hands_over = λ e solo short. hands_over known w p i n a v (polled e) ended solo short;
 } where
   stood : Stands w
