@@ -1,5 +1,5 @@
 -- What equations of options, of standings and of tests say. `cc` finds this too, but reads all that is in scope first, in each case of a long function.
-use Rattle.world_base.proofs.Prelude.{◌≡◌, ℕ, ◌==◌, if◌then◌else◌, Bool, true, false, Option, Some, None, IsSomeAnd, refl, arith, sym, subst, nat_tests, none-some, same_Some, Answer, Refusal, Rest, Within, outside, inside, refused}
+use Rattle.world_base.proofs.Prelude.{◌≡◌, ℕ, ◌==◌, if◌then◌else◌, Bool, true, false, Option, Some, None, IsSomeAnd, refl, arith, ap, sym, subst, nat_tests, none-some, same_Some, Answer, Call, Inputs, Begin, Refusal, Rest, Within, Standing, outside, inside, forgotten, call_in, is_outside, is_decided, decision, refused}
 pub use Rattle.std.proofs.lemmas.Bool.{and_parts as both}
 use Rattle.world_base.specs.declared.moves.Got.{Got}
 use Rattle.world_base.specs.declared.moves.Got.TheVariants.{Value}
@@ -15,6 +15,23 @@ some_none e = none-some _ (sym e)
 
 pub outside_inside : {r : Rest} {w : Within} {d : Option Answer} → outside r ≡ inside w d → ⊥
 outside_inside e = cc
+
+-- a call that is decided is one that its party is inside, and that is decided on an answer
+pub decided_inside : (s : Standing) → is_decided s ≡ true → (u : Within) × (b : Answer) × (s ≡ inside u (Some b))
+decided_inside (inside u (Some b)) h = (u, b, refl)
+decided_inside (inside u None) h = absurd (cc h)
+decided_inside (outside r) h = absurd (cc h)
+decided_inside forgotten h = absurd (cc h)
+
+-- a call that leaves its party outside is decided on its answer
+pub outside_says : (s : Standing) (a : Answer) → is_outside s ≡ true → decision a s ≡ Some a
+outside_says (outside r) a h = refl
+outside_says forgotten a h = refl
+outside_says (inside u d) a h = absurd (cc h)
+
+-- inside a call no other begins
+pub inside_begins : (knows : Call → Bool) (u : Within) (d : Option Answer) (s : Standing) (c : Call) (i : Inputs) → s ≡ inside u d → call_in knows s (Begin c i) ≡ None
+inside_begins knows u d s c i e = ap (λ z. call_in knows z (Begin c i)) e
 
 -- an option with a value of which something holds
 pub witness : {A : Type 0} {P : A → Type 0} (o : Option A) → IsSomeAnd o P → (x : A) × (o ≡ Some x) × P x

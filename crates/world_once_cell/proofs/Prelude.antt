@@ -42,7 +42,7 @@ pub use Rattle.world_base.proofs.of_queue.Marks.{else_marked, never_unlisted, al
 pub use Rattle.world_base.proofs.of_table.Calls.{call_seen, again_seen, stands_seen, decided_after, decision_seen, later_ends, decides_so, undecided_so}
 pub use Rattle.world_base.proofs.of_table.Mapped.{past_last, mapped_alike, mapped_at}
 pub use Rattle.world_base.proofs.of_table.Past.{by_stage_or_past, by_stage_or_past_at, by_stage}
-pub use Rattle.world_base.proofs.of_table.Views.{rest_seen, outside_at, length-standings, all_idle, standings_at}
+pub use Rattle.world_base.proofs.of_table.Views.{outside_so, rest_seen, outside_at, length-standings, all_idle, standings_at}
 pub use Rattle.world_once_cell.specs.AtOnce.{AnswersAtOnce, KeepsLists, TriesAtOnce, MakesAtOnce, WaitsAtOnce, PollsMaker, DropsMaker, AsksAtOnce, is_try, is_poll, would_make, is_first_making, waits_for, is_first_wait, first_answer, maker_answer, got_by}
 pub use Rattle.world_once_cell.specs.Laws.{IsSound, IsAwake, IsFreeAndWanted, IsDue, is_due, IsStillThere, is_at_rest, is_long_call, may_be_maker}
 pub use Rattle.world_once_cell.specs.Legal.{IsAllowed, Legal, call_of, HasItsOwn, DecidesOn, gives_something_back, IsItsList, MayTell, ChangesOneThing, KnowsTask, Carried, IsGranted, Carries, IsPendingMaker, WaitsInList, Waits, IsCause, IsRefusedForCause, LeavesClear, IsTold, TellsOthers, EndsProperly, HasByTask, IsClear, HasGranted, gives_up}

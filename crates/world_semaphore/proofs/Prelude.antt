@@ -47,7 +47,7 @@ pub use Rattle.world_base.proofs.Lists.{is_there, unlisted_unmarked, joined_unma
 pub use Rattle.world_base.proofs.of_table.Calls.{call_seen, again_seen, stands_seen, decided_after, decision_seen, later_ends, decides_so, undecided_so}
 pub use Rattle.world_base.proofs.of_table.Mapped.{past_last, set_same, mapped_alike, mapped_at, sum_mapped}
 pub use Rattle.world_base.proofs.of_table.Past.{by_stage_or_past, by_stage_or_past_at, by_stage}
-pub use Rattle.world_base.proofs.of_table.Views.{rest_seen, outside_at, all_idle, standings_at, outside_stage}
+pub use Rattle.world_base.proofs.of_table.Views.{outside_so, rest_seen, outside_at, all_idle, standings_at, outside_stage}
 pub use Rattle.world_semaphore.specs.AtOnce.{AnswersAtOnce, AddsAtOnce, GivesInTurn, TellsInTurn, is_try, is_poll, is_first_poll}
 pub use Rattle.world_semaphore.specs.Bound.{HandsOver, PassesOver, IsBounded, IsSolo, Takes, Promises}
 pub use Rattle.world_semaphore.specs.Laws.{IsSound, IsAwake, IsFreeAndWanted, is_at_rest, is_long_call}

@@ -1,5 +1,5 @@
 -- What always holds of a barrier's World, as callers see it.
-use Rattle.world_barrier.proofs.Prelude.{◌≡◌, ℕ, zero, suc, ◌+◌, ◌<◌, ◌≤◌, inl, inr, true, false, List, [], ◌∷◌, length, Option, Some, None, refl, arith, ap, sym, ◌∙◌, subst, list_all, is_marked_at, IsMarkedFirst, is_party, entries_of, Answer, Kind, Rest, Stage, Outside, Inside, Forgotten, Within, Standing, outside, inside, forgotten, is_outside, is_outside_stage, both, stage_at, stands_as, Table, by_stage_or_past, by_stage_or_past_at, rest_seen, outside_at, Course, bit, starved_there, listed_there, rests_there, course_at, LockAtRest, out_rests, waiting_rests, out_unlisted, holding_unlisted, listed_once, Aim, Ending, Place, EnterLock, WaitLock, TakeLock, Arrive, NotifyAll, Check, JoinAgain, ReleaseLock, ReleasingLock, Ask, CancelLeave, Abandon, Position, Out, Made, Locking, Waiting, At, Progress, Words, arrivals_at, IsFollower, fits_lock, in_lock, listed, follows, HasOutcome, Outcome, is_resting, counted, wait_for, wait_until, wait_at, Barrier, IsBarrier, HasArrived, IsAtRest, goes_with, is_begun, is_abandoning, runs, position_at, arrival_at, ListName, Lock, Generation, IsFinished, World, list_in, standing_of, wait_of, is_starved, verdict_in, view_of, HasItsOwn, IsSound, IsAwake, IsStillThere, is_at_rest, is_long_call, IsBarrierTable, ◌⊎◌, false≢true, marked_count, is_decided, taking, releasing, undecided, called, counting, has_lock, giving_up, is_out as is_out_there, is_holding, is_waiting, is_cancelling, is_due_there, CancelLock, CancellingLock, verdict, is_due, IsDue}
+use Rattle.world_barrier.proofs.Prelude.{◌≡◌, ℕ, zero, suc, ◌+◌, ◌<◌, ◌≤◌, inl, inr, true, false, List, [], ◌∷◌, length, Option, Some, None, refl, arith, ap, sym, ◌∙◌, subst, list_all, is_marked_at, IsMarkedFirst, is_party, entries_of, Answer, Kind, Rest, Stage, Outside, Inside, Forgotten, Within, Standing, outside, inside, forgotten, is_outside, is_outside_stage, both, stage_at, stands_as, Table, by_stage_or_past, by_stage_or_past_at, rest_seen, outside_at, outside_so, Course, bit, starved_there, listed_there, rests_there, course_at, LockAtRest, out_rests, waiting_rests, out_unlisted, holding_unlisted, listed_once, Aim, Ending, Place, EnterLock, WaitLock, TakeLock, Arrive, NotifyAll, Check, JoinAgain, ReleaseLock, ReleasingLock, Ask, CancelLeave, Abandon, Position, Out, Made, Locking, Waiting, At, Progress, Words, arrivals_at, IsFollower, fits_lock, in_lock, listed, follows, HasOutcome, Outcome, is_resting, counted, wait_for, wait_until, wait_at, Barrier, IsBarrier, HasArrived, IsAtRest, goes_with, is_begun, is_abandoning, runs, position_at, arrival_at, ListName, Lock, Generation, IsFinished, World, list_in, standing_of, wait_of, is_starved, verdict_in, view_of, HasItsOwn, IsSound, IsAwake, IsStillThere, is_at_rest, is_long_call, IsBarrierTable, ◌⊎◌, false≢true, marked_count, is_decided, taking, releasing, undecided, called, counting, has_lock, giving_up, is_out as is_out_there, is_holding, is_waiting, is_cancelling, is_due_there, CancelLock, CancellingLock, verdict, is_due, IsDue}
 use Rattle.world_base.proofs.of_table.Mapped.{past_last}
 use Rattle.world_mutex.proofs.of_machine.callers.Holders as sees
 use Rattle.world_barrier.proofs.table.Seen as seen
@@ -156,11 +156,6 @@ inside_by w p forgotten k h = absurd (k h)
 
 -- ---- who has still to notify for the inner lock, or to look
 
-outside_stage : (s : Stage) (d : Option Answer) → is_outside (stands_as d s) ≡ true → is_outside_stage s ≡ true
-outside_stage (Outside r) d h = refl
-outside_stage Forgotten d h = refl
-outside_stage (Inside w) d h = absurd (cc h)
-
 rest_waits_there : (x : Position) (c : Course) → is_resting x ≡ true → fits_lock (in_lock x) c ≡ true → 0 < listed_there c → is_waiting c ≡ true
 rest_waits_there (At y) c h link some = absurd (cc h)
 rest_waits_there (Locking a) c h link some = link
@@ -309,7 +304,7 @@ module _ (t : Table Barrier) (laws : IsBarrier t.machine) (fits : IsBarrierTable
   rests_outside : (q : ℕ) → is_outside (standing_of (view_of t) q) ≡ true → is_resting (x_of q) ≡ true
   rests_outside q out = by_stage_or_past t.stages q (is_resting (x_of q) ≡ true)
       (λ past. ap is_resting (past_last xs q Out (omega (arith, past, fits.as_many))))
-      (λ inside. resting (stage_at t.stages q) (x_of q) (fits.stands q inside) (outside_stage (stage_at t.stages q) (verdict_in t.machine q) (ap is_outside (sym (seen.standing_seen t q)) ∙ out)))
+      (λ inside. resting (stage_at t.stages q) (x_of q) (fits.stands q inside) (sym (outside_so (verdict_in t.machine q) (stage_at t.stages q)) ∙ (ap is_outside (sym (seen.standing_seen t q)) ∙ out)))
 
   due : (q : ℕ) → is_due_there (c_of q) ≡ true → IsDue (view_of t) q
   due q h =

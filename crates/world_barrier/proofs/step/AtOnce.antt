@@ -1,5 +1,5 @@
 -- What the first step of a poll decides at once.
-use Rattle.world_barrier.proofs.Prelude.{◌≡◌, ℕ, ◌+◌, ◌<◌, ◌==◌, ◌&&◌, ◌⊎◌, inl, inr, if◌then◌else◌, Bool, true, false, Option, Some, None, is_none, refl, arith, ap, sym, ◌∙◌, subst, nat_tests, is_marked_at, is_party, entries_of, Answer, Inputs, Move, Call, What, Begin, Within, how_many, Standing, outside, inputs_of, some_eq, none_some, stage_at, stands_as, Table, Course, is_waiting, listed_there, LockStep, course_at, holders, starved, out_unlisted, waiting_listed, Aim, Found, Place, EnterLock, WaitLock, Ask, Position, Out, Made, Locking, Waiting, At, Progress, place_for, action_of, next_of, after_lock, Finds, FindsAsk, OnLock, fits_lock, in_lock, listed, verdict, Barrier, position_at, arrival_at, answer_by, World, standing_of, is_free, view_of, TakesAtOnce, AnswersAtOnce, entries_in, is_first_poll, is_later_poll, ◌≢◌, notified, Go, Refusal, Stage, Outside, Inside, Forgotten, inside, refused, call_at, End as LockEnd, decision, starved_there as counted, bit, holding_holds, Ending, TakeLock, ReleaseLock, ReleasingLock, NotifyAll, CancelLock, CancellingLock, CancelLeave, Abandon, after_release, released, knows, refused_by, verdict_of, verdict_until, is_starved}
+use Rattle.world_barrier.proofs.Prelude.{◌≡◌, ℕ, ◌+◌, ◌<◌, ◌==◌, ◌&&◌, ◌⊎◌, inl, inr, if◌then◌else◌, Bool, true, false, Option, Some, None, is_none, refl, arith, ap, sym, ◌∙◌, subst, nat_tests, is_marked_at, is_party, entries_of, Answer, Inputs, Move, Call, What, Begin, Within, how_many, Standing, outside, inputs_of, some_eq, none_some, stage_at, stands_as, inside_as, Table, Course, is_waiting, listed_there, LockStep, course_at, holders, starved, out_unlisted, waiting_listed, Aim, Found, Place, EnterLock, WaitLock, Ask, Position, Out, Made, Locking, Waiting, At, Progress, place_for, action_of, next_of, after_lock, Finds, FindsAsk, OnLock, fits_lock, in_lock, listed, verdict, Barrier, position_at, arrival_at, answer_by, World, standing_of, is_free, view_of, TakesAtOnce, AnswersAtOnce, entries_in, is_first_poll, is_later_poll, ◌≢◌, notified, Go, Refusal, Stage, Inside, inside, refused, call_at, End as LockEnd, decision, starved_there as counted, bit, holding_holds, Ending, TakeLock, ReleaseLock, ReleasingLock, NotifyAll, CancelLock, CancellingLock, CancelLeave, Abandon, after_release, released, knows, refused_by, verdict_of, verdict_until, is_starved}
 use Rattle.world_base.specs.declared.standing.Rest.TheVariants.{Pending}
 use Rattle.world_mutex.proofs.of_machine.callers.Holders as sees
 use Rattle.world_barrier.proofs.step.Here.{HasEntries, enters_lock}
@@ -47,11 +47,6 @@ begins_there (outside Pending) (Begin Call.Poll i) (At y) c from h e link some =
 begins_there _ _ x c from h e link some = absurd (cc h)
 
 -- ---- a refused party
-
-inside_as : (d : Option Answer) (s : Stage) (u : Within) (b : Option Answer) → stands_as d s ≡ inside u b → (s ≡ Inside u) × (d ≡ b)
-inside_as d (Outside r) u b h = absurd (cc h)
-inside_as d (Inside v) u b h = (cc h, cc h)
-inside_as d Forgotten u b h = absurd (cc h)
 
 going_here : (w : Within) (s : Stage) (u : Within) (what : What) (x : Position) (from : Place) → call_at knows s what ≡ Some w → s ≡ Inside u → place_for what x ≡ Some from → x ≡ At from
 going_here w s u (Begin c i) x from e is starts = let C : Stage → Type 0 = λ z. call_at knows z (Begin c i) ≡ Some w in absurd (none_some (subst C is e))

@@ -1,5 +1,5 @@
 -- What is so where a move begins or goes on.
-use Rattle.world_barrier.proofs.Prelude.{◌≡◌, ℕ, ◌||◌, Bool, true, false, Option, Some, None, is_some, refl, arith, subst, Answer, Call, Inputs, What, Begin, Go, Kind, Rest, Stage, Outside, Inside, Forgotten, Within, inside, is_decided, is_drop, some_eq, both, not_one, stands_as, call_at, polls_again, Course, Aim, Place, EnterLock, WaitLock, Ask, CancelLock, CancelLeave, Abandon, Position, Out, Made, Locking, Waiting, At, place_for, listed, wait_at, place_wait, verdict, verdict_of, knows, runs, is_begun, goes_with, wait_then, is_first_poll, is_later_poll}
+use Rattle.world_barrier.proofs.Prelude.{◌≡◌, ℕ, ◌||◌, Bool, true, false, Some, is_some, refl, arith, subst, Answer, Call, Inputs, What, Begin, Go, Kind, Rest, Stage, Outside, Inside, Forgotten, Within, inside, is_decided, is_drop, some_eq, both, not_one, stands_as, call_at, polls_again, decides_so, undecided_so, Course, Aim, Place, EnterLock, WaitLock, Ask, CancelLock, CancelLeave, Abandon, Position, Out, Made, Locking, Waiting, At, place_for, listed, wait_at, place_wait, verdict, verdict_of, knows, runs, is_begun, goes_with, wait_then, is_first_poll, is_later_poll}
 use Rattle.world_barrier.proofs.of_machine.stages.Starts.{Fits}
 
 abbrev pub the : Kind → Rest → Within
@@ -59,14 +59,6 @@ pub record Turn (s : Stage) (what : What) (w : Within) (x : Position) : Type 0 w
 
 turned : (s : Stage) (what : What) (v w : Within) (x : Position) (from : Place) → place_for what x ≡ Some from → Some v ≡ Some w → Here s what v x from → Turn s what w x
 turned s what v w x from starts e h = let P : Within → Type 0 = λ u. Here s what u x from in record { from = from; starts = starts; here = subst P (some_eq e) h }
-
-decides_so : (w : Within) (o : Option Answer) → is_decided (inside w o) || false ≡ is_some o
-decides_so w None = refl
-decides_so w (Some b) = refl
-
-undecided_so : (w : Within) (o : Option Answer) (b : Answer) → is_decided (inside w o) ≡ false → o ≡ Some b → b ≡ Answer.GivenBack
-undecided_so w None b h e = absurd (cc)
-undecided_so w (Some c) b h e = absurd (cc)
 
 never_begun : (x : Place) → is_begun x ≡ true → only_drops x ≡ true → ⊥
 never_begun CancelLock b h = cc b

@@ -1,5 +1,5 @@
 -- Nobody is refused for too many starved parties who isn't about to be counted.
-use Rattle.world_barrier.proofs.Prelude.{◌≡◌, ℕ, Bool, true, false, Some, None, refl, ap, sym, ◌∙◌, subst, true≢false, Answer, Move, Refusal, Within, number_of, Standing, outside, inside, forgotten, is_possible, is_decided, refused, IsUndecided, some_eq, none_some, Table, is_counting, course_at, Barrier, DecidesOn, IsCause, World, standing_of, Steps, view_of}
+use Rattle.world_barrier.proofs.Prelude.{◌≡◌, ℕ, Bool, true, false, Some, refl, ap, sym, ◌∙◌, subst, true≢false, Answer, Move, Refusal, Within, number_of, inside, is_possible, is_decided, refused, IsUndecided, some_eq, none_some, decided_inside, Table, is_counting, course_at, Barrier, DecidesOn, IsCause, World, standing_of, Steps, view_of}
 use Rattle.world_base.specs.Standings.{decision}
 use Rattle.world_barrier.proofs.step.Acting as acting
 use Rattle.world_barrier.proofs.step.Stepping.{by_step}
@@ -39,12 +39,6 @@ module _ (x v : World) (m : Move) (a : Answer) (s : Steps x m a v) (d : DecidesO
 -- its call isn't decided on that refusal
 abbrev pub Undone : ℕ → World → Type 0
 Undone p x = (u : Within) → standing_of x p ≡ inside u (Some starved_refusal) → ⊥
-
-pub decided_inside : (s : Standing) → is_decided s ≡ true → (u : Within) × (b : Answer) × (s ≡ inside u (Some b))
-decided_inside (inside u (Some b)) h = (u, b, refl)
-decided_inside (inside u None) h = absurd (cc h)
-decided_inside (outside r) h = absurd (cc h)
-decided_inside forgotten h = absurd (cc h)
 
 module _ (x v : World) (m : Move) (a : Answer) (s : Steps x m a v) (not_next : is_counting (course_at x.behind.machine.lock.courses m.party) ≡ false) (undone : Undone m.party x) where
   -- so a step doesn't decide on it, nor did one before

@@ -1,5 +1,5 @@
 -- What a whole call of a barrier promises beside its end.
-use Rattle.world_barrier.proofs.Prelude.{◌≡◌, ◌≢◌, ℕ, true, false, Some, sym, ap, ◌∙◌, subst, Answer, Call, Inputs, What, Begin, Go, Rest, Within, Account, accounts_after, how_many, inputs_of, going_on, moves_of, answers_of, none_some, beginning, Onward, along, Table, Acted, onward, is_counting, course_at, starved, action_of, Barrier, Moves, position_at, World, is_starved, Promises, Runs, HoldsWell, Stands, Steps, Bool, Option, None, refl, Move, Standing, outside, inside, forgotten, is_outside, is_decided, is_possible, call_in, knows, standing_of}
+use Rattle.world_barrier.proofs.Prelude.{◌≡◌, ◌≢◌, ℕ, true, false, Some, sym, ap, ◌∙◌, subst, Answer, Call, Inputs, What, Begin, Go, Rest, Within, Account, accounts_after, how_many, inputs_of, going_on, moves_of, answers_of, none_some, decided_inside, outside_says, inside_begins, beginning, Onward, along, Table, Acted, onward, is_counting, course_at, starved, action_of, Barrier, Moves, position_at, World, is_starved, Promises, Runs, HoldsWell, Stands, Steps, Bool, None, refl, Move, inside, is_outside, is_decided, is_possible, knows, standing_of}
 use Rattle.world_mutex.proofs.of_machine.callers.Holders as sees
 use Rattle.world_barrier.proofs.whole.Alone.{known_calls}
 use Rattle.world_barrier.proofs.whole.Handing.{hands_on}
@@ -7,7 +7,7 @@ use Rattle.world_barrier.proofs.whole.Polls.{nobody_starved, first, notified, to
 use Rattle.world_base.specs.Standings.{decision}
 use Rattle.world_base.proofs.of_any_world.Endings.{ends_outside as outside_at_end}
 use Rattle.world_barrier.proofs.whole.Ring.{counts_none, begins_uncounted, tells_nobody_at_end}
-use Rattle.world_barrier.proofs.whole.Patient.{starved_refusal, Undone, decided_inside, midway, never, goes_on}
+use Rattle.world_barrier.proofs.whole.Patient.{starved_refusal, Undone, midway, never, goes_on}
 
 -- ---- nobody is made starved that hasn't waited for too long, while nobody is
 
@@ -42,14 +42,6 @@ module _ (p : ℕ) (i : Inputs) (patient : i.starving ≡ false) where
   first_unstarved c x none a v s = steps_unstarved x (Begin c i) a v patient none (λ w k. begins_uncounted c (position_at x.behind.machine.positions p) k.acts.from (course_at x.behind.machine.lock.courses p) k.acts.starts (s.did.stood.laws.links p)) s
 
 -- ---- and refuses nobody for too many starved parties
-
-outside_says : (s : Standing) (a : Answer) → is_outside s ≡ true → decision a s ≡ Some a
-outside_says (outside r) a h = refl
-outside_says forgotten a h = refl
-outside_says (inside u d) a h = absurd (cc h)
-
-inside_begins : (knows : Call → Bool) (u : Within) (d : Option Answer) (s : Standing) (c : Call) (i : Inputs) → s ≡ inside u d → call_in knows s (Begin c i) ≡ None
-inside_begins knows u d s c i e = ap (λ z. call_in knows z (Begin c i)) e
 
 ends_outside : (x : World) (m : Move) (a : Answer) (v : World) → Steps x m a v → a ≢ Answer.Stepped → is_possible a ≡ true → is_outside (standing_of v m.party) ≡ true
 ends_outside x m a v s = outside_at_end standing_of (λ w p. knows) Rest.Finished x m a v s.legal.possible s.legal.ends_properly

@@ -1,5 +1,5 @@
 -- How callers see the parties of a table, one by one.
-use Rattle.world_base.proofs.Prelude.{◌≡◌, ℕ, zero, suc, ◌+◌, ◌&&◌, true, List, [], ◌∷◌, length, get_or, replicate, Option, refl, arith, ap, ◌∙◌, list_all, Answer, Stage, Outside, Inside, Forgotten, Rest, Idle, outside, forgotten, is_outside, is_outside_stage, stage_at, stands_as, standings_from, standings}
+use Rattle.world_base.proofs.Prelude.{◌≡◌, ℕ, zero, suc, ◌+◌, ◌&&◌, true, List, [], ◌∷◌, length, get_or, replicate, Option, refl, arith, ap, ◌∙◌, list_all, Answer, Stage, Outside, Inside, Forgotten, Rest, Idle, Within, outside, inside, forgotten, is_outside, is_outside_stage, stage_at, stands_as, standings_from, standings}
 use Rattle.world_base.proofs.Equations.{both}
 
 from_at : (n : ℕ) (verdict : ℕ → Option Answer) (ss : List Stage) (p : ℕ) → get_or (standings_from n verdict ss) p forgotten ≡ stands_as (verdict (n + p)) (stage_at ss p)
@@ -26,8 +26,8 @@ from_idle n (suc k) verdict = ap (λ l. outside Idle ∷ l) (from_idle (n + 1) k
 pub all_idle : (k : ℕ) (verdict : ℕ → Option Answer) → standings verdict (replicate k (Outside Idle)) ≡ replicate k (outside Idle)
 all_idle k verdict = from_idle 0 k verdict
 
--- nobody is inside a call exactly where no stage is
-outside_so : (d : Option Answer) (s : Stage) → is_outside (stands_as d s) ≡ is_outside_stage s
+-- a party stands outside exactly where its stage is outside; and nobody is inside a call exactly where no stage is
+pub outside_so : (d : Option Answer) (s : Stage) → is_outside (stands_as d s) ≡ is_outside_stage s
 outside_so d (Outside r) = refl
 outside_so d (Inside w) = refl
 outside_so d Forgotten = refl
@@ -49,3 +49,9 @@ pub outside_stage : (d : Option Answer) (s : Stage) (r : Rest) → stands_as d s
 outside_stage d (Outside k) r e = cc
 outside_stage d (Inside w) r e = absurd (cc (e))
 outside_stage d Forgotten r e = absurd (cc (e))
+
+-- a party that stands inside a call is there at its stage, and decided as the call is
+pub inside_as : (d : Option Answer) (s : Stage) (u : Within) (b : Option Answer) → stands_as d s ≡ inside u b → (s ≡ Inside u) × (d ≡ b)
+inside_as d (Outside r) u b h = absurd (cc h)
+inside_as d (Inside v) u b h = (cc h, cc h)
+inside_as d Forgotten u b h = absurd (cc h)

@@ -1,5 +1,5 @@
 -- What always holds of a mutex's World, as callers see it, and that no notification is lost at rest.
-use Rattle.world_mutex.proofs.Prelude.{◌≡◌, ℕ, suc, ◌<◌, ◌⊎◌, inl, inr, Bool, true, List, [], ◌∷◌, length, Option, refl, arith, ap, sym, ◌∙◌, subst, nat_tests, list_all, Entry, entries_of, Answer, Kind, Rest, Stage, Outside, Inside, Forgotten, Within, Standing, outside, inside, forgotten, is_outside_stage, stage_at, stands_as, Table, by_stage_or_past_at, rest_seen, outside_at, Place, IsMutex, place_at, counted, listed, is_resting, is_counted, Guarded, place_of, is_within, goes_with, with_value, HasRight, IsSound, is_long_call, is_at_rest, IsAwake, World, IsMutexTable, verdict, view_of, false, None, marked_count, is_outside, past_last, by_stage_or_past, is_due_there, holder_of, is_due, IsDue, standing_of}
+use Rattle.world_mutex.proofs.Prelude.{◌≡◌, ℕ, suc, ◌<◌, ◌⊎◌, inl, inr, Bool, true, List, [], ◌∷◌, length, Option, refl, arith, ap, sym, ◌∙◌, subst, nat_tests, list_all, Entry, entries_of, Answer, Kind, Rest, Stage, Outside, Inside, Forgotten, Within, Standing, outside, inside, forgotten, is_outside_stage, stage_at, stands_as, Table, by_stage_or_past_at, rest_seen, outside_at, outside_so, Place, IsMutex, place_at, counted, listed, is_resting, is_counted, Guarded, place_of, is_within, goes_with, with_value, HasRight, IsSound, is_long_call, is_at_rest, IsAwake, World, IsMutexTable, verdict, view_of, false, None, marked_count, is_outside, past_last, by_stage_or_past, is_due_there, holder_of, is_due, IsDue, standing_of}
 use Rattle.world_base.specs.Rights.{Right, hold}
 use Rattle.world_base.specs.table.Lending.{table_with}
 use Rattle.world_base.proofs.of_table.Lending.{lent_seen}
@@ -9,7 +9,7 @@ use Rattle.world_mutex.proofs.of_machine.laws.Seen as sees
 use Rattle.world_mutex.specs.Lending.{world_with}
 use Rattle.world_mutex.proofs.step.Owns as owns
 use Rattle.world_mutex.proofs.table.Seen as seen
-use Rattle.world_mutex.proofs.step.Due.{resting, rest_waits, due_at, due_unlisted, outside_stage}
+use Rattle.world_mutex.proofs.step.Due.{resting, rest_waits, due_at, due_unlisted}
 
 excluded : (w : World) (p q : ℕ) (r s : Right) → HasRight w p r → HasRight w q s → p ≡ q
 excluded w p q hold hold a b = cc
@@ -57,7 +57,7 @@ module _ (t : Table Guarded) (laws : IsMutex t.machine.lock) (fits : IsMutexTabl
   rests_outside : (q : ℕ) → is_outside (standing_of (view_of t) q) ≡ true → is_resting (place_at xs q) ≡ true
   rests_outside q out = by_stage_or_past t.stages q (is_resting (place_at xs q) ≡ true)
       (λ past. ap is_resting (past_last xs q Place.Out (omega (arith, past, fits.as_many))))
-      (λ inside. resting (stage_at t.stages q) (place_at xs q) (fits.stands q inside) (outside_stage (stage_at t.stages q) (verdict t.machine q) (ap is_outside (sym (seen.stands_seen t q)) ∙ out)))
+      (λ inside. resting (stage_at t.stages q) (place_at xs q) (fits.stands q inside) (sym (outside_so (verdict t.machine q) (stage_at t.stages q)) ∙ (ap is_outside (sym (seen.stands_seen t q)) ∙ out)))
 
   due : (q : ℕ) → is_due_there (place_at xs q) ≡ true → IsDue (view_of t) q
   due q h = record {

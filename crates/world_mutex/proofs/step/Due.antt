@@ -1,5 +1,5 @@
 -- Who is due, and who may notify, by the place at which a party stands.
-use Rattle.world_mutex.proofs.Prelude.{◌≡◌, ℕ, ◌<◌, true, false, Option, refl, arith, sym, ◌∙◌, is_outside, is_outside_stage, Answer, Kind, Rest, Stage, Outside, Inside, Forgotten, Within, false≢true, stands_as, Place, listed, is_resting, is_counted, is_within, goes_with, is_held, is_due}
+use Rattle.world_mutex.proofs.Prelude.{◌≡◌, ℕ, ◌<◌, true, false, refl, arith, sym, ◌∙◌, is_outside_stage, Kind, Rest, Stage, Outside, Inside, Forgotten, Within, false≢true, Place, listed, is_resting, is_counted, is_within, goes_with, is_held, is_due}
 use Rattle.world_mutex.specs.machine.Courses as way
 use Rattle.world_mutex.specs.Legal.{may_tell}
 use Rattle.world_mutex.proofs.step.Here.{standing_at}
@@ -96,9 +96,3 @@ due_unlisted Place.RefuseNotifyMemory h e = refl
 due_unlisted Place.RefuseNotifyStarved h e = refl
 due_unlisted Place.ReleaseNotify h e = refl
 due_unlisted _ h e = absurd (cc h)
-
--- a party that stands outside does so at its stage
-pub outside_stage : (s : Stage) (d : Option Answer) → is_outside (stands_as d s) ≡ true → is_outside_stage s ≡ true
-outside_stage (Outside r) d h = refl
-outside_stage Forgotten d h = refl
-outside_stage (Inside w) d h = absurd (cc h)

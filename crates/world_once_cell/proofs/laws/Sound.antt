@@ -1,5 +1,5 @@
 -- What always holds of a once-cell's World, as callers see it.
-use Rattle.world_once_cell.proofs.Prelude.{◌≡◌, ◌≢◌, ℕ, zero, suc, ◌+◌, ◌<◌, ◌≤◌, ◌⊎◌, inl, inr, true, false, List, [], ◌∷◌, length, Option, Some, refl, arith, ap, sym, ◌∙◌, subst, list_all, sum_by, get_or-le-sum_by, is_marked_at, marked_count, is_party, entries_of, else_marked, Answer, Kind, Rest, Stage, Outside, Inside, Forgotten, Within, inside, is_outside, is_outside_stage, both, stage_at, stands_as, Table, past_last, by_stage_or_past, by_stage_or_past_at, rest_seen, outside_at, length-standings, ListName, Active, Passive, Closure, Given, Place, Claim, ClaimListed, AskActive, LeaveToMake, NotifyActive, NotifyPassive, TryNotifyActive, TryNotifyPassive, FailNotify, CancelNotify, LeaveFull, LookListed, AskPassive, LeavePassive, CancelLeave, Abandon, Position, Out, ToMake, WaitingToMake, Making, ToWait, Waiting, At, Content, Empty, Full, fills_with, task_at, makes_at, in_active, in_passive_at, waits, owes, value_known, is_late, will_tell, verdict, is_resting, OnceCell, IsCell, IsAtRest, goes_with, runs, is_begun, is_abandoning, is_maker, position_at, AllTold, list_in, standing_of, task_of, HasOneTeller, view_of, IsDue, is_due, IsSound, IsAwake, IsStillThere, is_at_rest, is_long_call, may_be_maker, IsCellTable}
+use Rattle.world_once_cell.proofs.Prelude.{◌≡◌, ◌≢◌, ℕ, zero, suc, ◌+◌, ◌<◌, ◌≤◌, ◌⊎◌, inl, inr, true, false, List, [], ◌∷◌, length, Option, Some, refl, arith, ap, sym, ◌∙◌, subst, list_all, sum_by, get_or-le-sum_by, is_marked_at, marked_count, is_party, entries_of, else_marked, Answer, Kind, Rest, Stage, Outside, Inside, Forgotten, Within, inside, is_outside, is_outside_stage, both, stage_at, stands_as, Table, past_last, by_stage_or_past, by_stage_or_past_at, rest_seen, outside_at, outside_so, length-standings, ListName, Active, Passive, Closure, Given, Place, Claim, ClaimListed, AskActive, LeaveToMake, NotifyActive, NotifyPassive, TryNotifyActive, TryNotifyPassive, FailNotify, CancelNotify, LeaveFull, LookListed, AskPassive, LeavePassive, CancelLeave, Abandon, Position, Out, ToMake, WaitingToMake, Making, ToWait, Waiting, At, Content, Empty, Full, fills_with, task_at, makes_at, in_active, in_passive_at, waits, owes, value_known, is_late, will_tell, verdict, is_resting, OnceCell, IsCell, IsAtRest, goes_with, runs, is_begun, is_abandoning, is_maker, position_at, AllTold, list_in, standing_of, task_of, HasOneTeller, view_of, IsDue, is_due, IsSound, IsAwake, IsStillThere, is_at_rest, is_long_call, may_be_maker, IsCellTable}
 use Rattle.world_once_cell.proofs.of_machine.laws.Contents as contents
 use Rattle.world_once_cell.proofs.of_machine.laws.Told.{in_list}
 use Rattle.world_once_cell.proofs.of_machine.laws.Taken.{some_term}
@@ -154,17 +154,6 @@ due_so Forgotten x g some h = let none = rest_owes x (resting Forgotten x g refl
 empty_full : (c : Content) (v : ℕ) → c ≡ Empty → c ≡ Full v → ⊥
 empty_full c v e full = let never : Empty ≡ Full v = sym e ∙ full in cc never
 
--- a party that stands outside does so at its stage
-outside_stage : (s : Stage) (d : Option Answer) → is_outside (stands_as d s) ≡ true → is_outside_stage s ≡ true
-outside_stage (Outside r) d h = refl
-outside_stage Forgotten d h = refl
-outside_stage (Inside w) d h = absurd (cc h)
-
-stage_outside : (s : Stage) (d : Option Answer) → is_outside_stage s ≡ true → is_outside (stands_as d s) ≡ true
-stage_outside (Outside r) d h = refl
-stage_outside Forgotten d h = refl
-stage_outside (Inside w) d h = absurd (cc h)
-
 module _ (t : Table OnceCell) (laws : IsCell t.machine) (fits : IsCellTable t) (one : HasOneTeller (view_of t)) where
   abbrev xs : List Position
   xs = t.machine.positions
@@ -184,7 +173,7 @@ module _ (t : Table OnceCell) (laws : IsCell t.machine) (fits : IsCellTable t) (
   rests_outside : (q : ℕ) → is_outside (standing_of (view_of t) q) ≡ true → is_resting (position_at xs q) ≡ true
   rests_outside q out = by_stage_or_past t.stages q (is_resting (position_at xs q) ≡ true)
       (λ past. ap is_resting (past_last xs q Out (omega (arith, past, fits.as_many))))
-      (λ inside. resting (stage_at t.stages q) (position_at xs q) (fits.stands q inside).goes (outside_stage (stage_at t.stages q) (verdict (position_at xs q)) (ap is_outside (sym (seen.standing_seen t q)) ∙ out)))
+      (λ inside. resting (stage_at t.stages q) (position_at xs q) (fits.stands q inside).goes (sym (outside_so (verdict (position_at xs q)) (stage_at t.stages q)) ∙ (ap is_outside (sym (seen.standing_seen t q)) ∙ out)))
 
   -- a party that isn't out is in the table
   in_table : (q : ℕ) → (position_at xs q ≡ Out → ⊥) → q < length (view_of t).standings
@@ -254,7 +243,7 @@ module _ (t : Table OnceCell) (laws : IsCell t.machine) (fits : IsCellTable t) (
         (λ inside. subst IsStillThere (sym (seen.standing_seen t q)) (still_there (stage_at t.stages q) (position_at xs q) (verdict (position_at xs q)) (fits.stands q inside).goes (outside_at t.stages stages_rest q) some))
 
     every_outside : (q : ℕ) → is_outside (standing_of (view_of t) q) ≡ true
-    every_outside q = ap is_outside (seen.standing_seen t q) ∙ stage_outside (stage_at t.stages q) (verdict (position_at xs q)) (outside_at t.stages stages_rest q)
+    every_outside q = ap is_outside (seen.standing_seen t q) ∙ (outside_so (verdict (position_at xs q)) (stage_at t.stages q) ∙ outside_at t.stages stages_rest q)
 
     quiet : (q n : ℕ) → task_of (view_of t) q ≢ fills_with n
     quiet q n e = rest_filled (position_at xs q) n (rests_outside q (every_outside q)) (sym (seen.task_seen t q) ∙ e)

@@ -1,11 +1,5 @@
 -- Who has still to notify in a list, or to look, by the place at which a party stands.
-use Rattle.world_rwlock.proofs.Prelude.{◌≡◌, ℕ, ◌<◌, true, false, Option, None, refl, arith, sym, ◌∙◌, false≢true, Answer, Kind, Rest, Stage, Outside, Inside, Forgotten, Within, is_outside, is_outside_stage, is_decided, stands_as, TurnCourse, out, holding, taking, releasing, undecided, called, counting, has_lock, giving_up as gives_up, is_out, is_holding, is_waiting, is_cancelling, is_releasing, is_due, counted, listed, Ending, Place, Purpose, in_no_writer, waits_no_writer, owes_no_writer, in_no_readers, waits_no_readers, owes_no_readers, fits_turn, is_resting, sought_at, goes_with, is_on_course, drops, standing_at, is_due_for_turn, is_due_to_readers, is_due_to_writer, is_drop_kind}
-
--- a party that stands outside does so at its stage
-pub outside_stage : (s : Stage) (d : Option Answer) → is_outside (stands_as d s) ≡ true → is_outside_stage s ≡ true
-outside_stage (Outside r) d h = refl
-outside_stage Forgotten d h = refl
-outside_stage (Inside w) d h = absurd (cc h)
+use Rattle.world_rwlock.proofs.Prelude.{◌≡◌, ℕ, ◌<◌, true, false, None, refl, arith, sym, ◌∙◌, false≢true, Kind, Rest, Stage, Outside, Inside, Forgotten, Within, is_outside_stage, is_decided, stands_as, TurnCourse, out, holding, taking, releasing, undecided, called, counting, has_lock, giving_up as gives_up, is_out, is_holding, is_waiting, is_cancelling, is_releasing, is_due, counted, listed, Ending, Place, Purpose, in_no_writer, waits_no_writer, owes_no_writer, in_no_readers, waits_no_readers, owes_no_readers, fits_turn, is_resting, sought_at, goes_with, is_on_course, drops, standing_at, is_due_for_turn, is_due_to_readers, is_due_to_writer, is_drop_kind}
 
 -- ---- who rests
 

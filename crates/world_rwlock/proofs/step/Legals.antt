@@ -1,5 +1,5 @@
 -- One step of a call is legal.
-use Rattle.world_rwlock.proofs.Prelude.{◌≡◌, ◌≢◌, ℕ, ◌<◌, ◌⊎◌, ◌||◌, ◌==◌, if◌then◌else◌, inl, inr, Bool, true, false, List, map, length, Option, Some, None, refl, arith, ap, sym, ◌∙◌, subst, get_or-set_same, get_or-set_other, set, nat_tests, map-set, false≢true, cases_Bool, Answer, Value, Move, Refusal, Rest, Stage, Within, sought_after, is_poll_after_ready, put_in, is_drop, is_giving_back, is_refusal, number_of, Right, read, upgradable, write, Standing, inside, IsUndecided, is_decided, is_possible, refused, Deed, nothing, does, joins, some_eq, chosen, same_test, TurnCourse, turn_at, out_free, waiting_free, Next, Place, Purpose, place_after, fits_turn, RwLock, place_at, IsRwLock, Change, gives_back, gives_up, ListName, State, World, standing_of, sought_by, is_upgrader, told_in, HasTurn, IsClear, knows_of, call_of, DecidesOn, IsPossible, ChangesOneThing, HasSought, LeavesClear, Carries, Waits, list_for, MayMeet, IsCause, IsRefusedForCause, IsValueKept, EndsProperly, KeepsUpgrades, Legal, stage_at, sought_at, Guarded, answer_by, is_upgrade, verdict, verdict_of, standing_at, seen, Table, decided_after, stands_seen, entries_after, list_of, is_counting}
+use Rattle.world_rwlock.proofs.Prelude.{◌≡◌, ◌≢◌, ℕ, ◌<◌, ◌⊎◌, ◌||◌, ◌==◌, if◌then◌else◌, inl, inr, Bool, true, false, List, map, length, Option, Some, None, refl, arith, ap, sym, ◌∙◌, subst, get_or-set_same, get_or-set_other, set, nat_tests, map-set, false≢true, cases_Bool, Answer, Value, Move, Refusal, Rest, Stage, Within, sought_after, is_poll_after_ready, put_in, is_drop, is_giving_back, is_refusal, number_of, Right, read, upgradable, write, Standing, inside, IsUndecided, is_decided, is_possible, refused, Deed, nothing, does, joins, some_eq, decided_inside, chosen, same_test, TurnCourse, turn_at, out_free, waiting_free, Next, Place, Purpose, place_after, fits_turn, RwLock, place_at, IsRwLock, Change, gives_back, gives_up, ListName, State, World, standing_of, sought_by, is_upgrader, told_in, HasTurn, IsClear, knows_of, call_of, DecidesOn, IsPossible, ChangesOneThing, HasSought, LeavesClear, Carries, Waits, list_for, MayMeet, IsCause, IsRefusedForCause, IsValueKept, EndsProperly, KeepsUpgrades, Legal, stage_at, sought_at, Guarded, answer_by, is_upgrade, verdict, verdict_of, standing_at, seen, Table, decided_after, stands_seen, entries_after, list_of, is_counting}
 use Rattle.lock_event.specs.declared.event.Mark.{Mark}
 use Rattle.world_base.specs.Standings.{decision}
 use Rattle.world_rwlock.specs.State as state
@@ -60,12 +60,6 @@ undecided_inside s w (Some b) e h = absurd (cc)
 or_split : (a b : Bool) → a || b ≡ true → (a ≡ true) ⊎ (b ≡ true)
 or_split true b h = inl refl
 or_split false b h = inr h
-
--- a party that was decided is inside
-decided_inside : (s : Standing) → is_decided s ≡ true → (u : Within) × (b : Answer) × (s ≡ inside u (Some b))
-decided_inside (inside u (Some b)) h = (u, b, refl)
-decided_inside (inside u None) h = absurd (cc)
-decided_inside _ h = absurd (cc)
 
 same_is : (p q : ℕ) → (q == p) ≡ true → q ≡ p
 same_is p q h = grind (arith, nat_tests)

@@ -1,5 +1,5 @@
 -- Whoever is to be refused, has nothing any more and stands in no list notifies one in its list as its call ends.
-use Rattle.world_rwlock.proofs.Prelude.{◌≡◌, ℕ, true, false, Option, Some, None, List, refl, arith, ap, sym, ◌∙◌, subst, notified, entries_of, Answer, Move, What, Begin, Go, Stage, Outside, Inside, Forgotten, Within, read, inside, inputs_of, refused, some_eq, none_some, stage_at, stands_as, call_at, Table, Refusal, End as TurnEnd, TurnStep as Step, Ending, Found, Place, Purpose, TurnCourse, decision, counted, listed, is_holding, Mutex, turn_at, holder_of, holding_holds, OnNoWriter, action_of, next_of, after_lock, released, OnTurn, place_at, fits_turn, in_no_writer, knows_at, Guarded, answer_by, place_for, sought_at, is_for_turn, World, standing_of, sought_by, is_starved, HasTurn, Share, passing, upgrading, waiting, writing, turn_as, turn_by, share_of, refused_by, verdict_until, verdict, view_of}
+use Rattle.world_rwlock.proofs.Prelude.{◌≡◌, ℕ, true, false, Option, Some, None, List, refl, arith, ap, sym, ◌∙◌, subst, notified, entries_of, Answer, Move, What, Begin, Go, Stage, Inside, Within, read, inside, inputs_of, refused, some_eq, none_some, stage_at, inside_as, call_at, Table, Refusal, End as TurnEnd, TurnStep as Step, Ending, Found, Place, Purpose, TurnCourse, decision, counted, listed, is_holding, Mutex, turn_at, holder_of, holding_holds, OnNoWriter, action_of, next_of, after_lock, released, OnTurn, place_at, fits_turn, in_no_writer, knows_at, Guarded, answer_by, place_for, sought_at, is_for_turn, World, standing_of, sought_by, is_starved, HasTurn, Share, passing, upgrading, waiting, writing, turn_as, turn_by, share_of, refused_by, verdict_until, verdict, view_of}
 use Rattle.world_mutex.specs.machine.Course.{bit}
 use Rattle.world_mutex.specs.machine.Deeds.{entries_after}
 use Rattle.world_mutex.proofs.of_machine.callers.Holders as sees
@@ -7,11 +7,6 @@ use Rattle.world_rwlock.proofs.step.Acting.{Acting, fit, says}
 use Rattle.world_rwlock.proofs.step.Idle.{stood, sought_is}
 
 -- ---- where such a party is
-
-inside_as : (d : Option Answer) (s : Stage) (u : Within) (b : Option Answer) → stands_as d s ≡ inside u b → (s ≡ Inside u) × (d ≡ b)
-inside_as d (Outside r) u b h = absurd (cc h)
-inside_as d (Inside v) u b h = (cc h, cc h)
-inside_as d Forgotten u b h = absurd (cc h)
 
 pub going_here : (f : _) (w : Within) (s : Stage) (u : Within) (what : What) (x from : Place) → call_at f s what ≡ Some w → s ≡ Inside u → place_for what x ≡ Some from → from ≡ x
 going_here f w s u (Begin c i) x from e is starts = let C : Stage → Type 0 = λ z. call_at f z (Begin c i) ≡ Some w in absurd (none_some (subst C is e))

@@ -1,5 +1,5 @@
 -- Nobody is refused for too many starved parties who isn't about to be counted.
-use Rattle.world_rwlock.proofs.Prelude.{◌≡◌, ℕ, Bool, true, false, Option, Some, None, refl, ap, sym, ◌∙◌, subst, true≢false, Answer, Call, Move, What, Begin, Go, Refusal, Stage, Outside, Inside, Forgotten, Within, put_in, number_of, Standing, outside, inside, forgotten, is_possible, is_decided, refused, IsUndecided, some_eq, none_some, stage_at, call_at, TurnCourse, is_counting, turn_at, Place, place_at, DecidesOn, IsCause, World, standing_of, Stands, Moved as Steps, standing_at, view_of}
+use Rattle.world_rwlock.proofs.Prelude.{◌≡◌, ℕ, Bool, true, false, Option, Some, None, refl, ap, sym, ◌∙◌, subst, true≢false, Answer, Call, Move, What, Begin, Go, Refusal, Stage, Outside, Inside, Forgotten, Within, put_in, number_of, inside, is_possible, is_decided, refused, IsUndecided, some_eq, none_some, decided_inside, stage_at, call_at, TurnCourse, is_counting, turn_at, Place, place_at, DecidesOn, IsCause, World, standing_of, Stands, Moved as Steps, standing_at, view_of}
 use Rattle.world_base.specs.Standings.{decision}
 use Rattle.world_rwlock.proofs.bound.Alone.{laws}
 use Rattle.world_rwlock.proofs.step.Acting.{Acting, Way, impossible, over, puts, acts, way}
@@ -56,12 +56,6 @@ module _ (x v : World) (m : Move) (a : Answer) (s : Steps x m a v) (d : DecidesO
 -- its call isn't decided on that refusal
 abbrev pub Undone : ℕ → World → Type 0
 Undone p x = (u : Within) → standing_of x p ≡ inside u (Some starved_refusal) → ⊥
-
-pub decided_inside : (s : Standing) → is_decided s ≡ true → (u : Within) × (b : Answer) × (s ≡ inside u (Some b))
-decided_inside (inside u (Some b)) h = (u, b, refl)
-decided_inside (inside u None) h = absurd (cc h)
-decided_inside (outside r) h = absurd (cc h)
-decided_inside forgotten h = absurd (cc h)
 
 module _ (x v : World) (m : Move) (a : Answer) (s : Steps x m a v) (not_next : is_counting (turn_at x.behind.machine.lock.turn.courses m.party) ≡ false) (undone : Undone m.party x) where
   -- so a step doesn't decide on it, nor did one before

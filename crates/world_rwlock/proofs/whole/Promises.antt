@@ -1,12 +1,12 @@
 -- Where nobody is starved for the turn, a whole call starves nobody that hasn't waited for too long.
-use Rattle.world_rwlock.proofs.Prelude.{◌≡◌, ◌≢◌, ℕ, Bool, true, false, refl, ap, sym, ◌∙◌, subst, Account, accounts_after, Answer, Call, Value, Inputs, Refusal, What, Begin, Go, Stage, Within, how_many, inputs_of, refused, going_on, moves_of, answers_of, beginning, along, Onward, TurnCourse, is_counting, starved, Mutex, turn_at, out_uncounted, holding_uncounted, waiting_uncounted, Action, Found, Turn, Place, place_at, action_of, fits_turn, OnTurn, stage_at, Runs, HoldsWell, World, is_starved, Stands, Moved, Option, Some, None, Move, Rest, Standing, outside, inside, forgotten, is_outside, is_decided, is_possible, call_in, none_some, knows_of, standing_of}
+use Rattle.world_rwlock.proofs.Prelude.{◌≡◌, ◌≢◌, ℕ, Bool, true, false, refl, ap, sym, ◌∙◌, subst, Account, accounts_after, Answer, Call, Value, Inputs, Refusal, What, Begin, Go, Stage, Within, how_many, inputs_of, refused, going_on, moves_of, answers_of, beginning, along, Onward, TurnCourse, is_counting, starved, Mutex, turn_at, out_uncounted, holding_uncounted, waiting_uncounted, Action, Found, Turn, Place, place_at, action_of, fits_turn, OnTurn, stage_at, Runs, HoldsWell, World, is_starved, Stands, Moved, Some, None, Move, Rest, inside, is_outside, is_decided, is_possible, none_some, decided_inside, outside_says, inside_begins, knows_of, standing_of}
 use Rattle.world_mutex.proofs.of_machine.callers.Holders as sees
 use Rattle.world_rwlock.proofs.step.Acting.{Acting, Way, impossible, over, puts, acts, way}
 use Rattle.world_rwlock.proofs.table.Begun.{ForMoves, turn}
 use Rattle.world_rwlock.proofs.bound.Alone.{laws}
 use Rattle.world_base.specs.Standings.{decision}
 use Rattle.world_base.proofs.of_any_world.Endings.{ends_outside as outside_at_end}
-use Rattle.world_rwlock.proofs.whole.Patient.{starved_refusal, Undone, decided_inside, midway, never, goes_on}
+use Rattle.world_rwlock.proofs.whole.Patient.{starved_refusal, Undone, midway, never, goes_on}
 
 -- ---- whoever begins a call isn't about to be counted
 
@@ -106,14 +106,6 @@ module _ (p : ℕ) (i : Inputs) (patient : i.starving ≡ false) where
   first c x none a v s = by_way x v (Begin c i) a patient s.did.stands none (λ w k. begins_quiet x v p c i a w k) (way x.behind v.behind (beginning p c i) a (laws x s.did.stood) (laws v s.did.stands) s.did.step)
 
 -- ---- and refuses nobody for too many starved parties
-
-outside_says : (s : Standing) (a : Answer) → is_outside s ≡ true → decision a s ≡ Some a
-outside_says (outside r) a h = refl
-outside_says forgotten a h = refl
-outside_says (inside u d) a h = absurd (cc h)
-
-inside_begins : (knows : Call → Bool) (u : Within) (d : Option Answer) (s : Standing) (c : Call) (i : Inputs) → s ≡ inside u d → call_in knows s (Begin c i) ≡ None
-inside_begins knows u d s c i e = ap (λ z. call_in knows z (Begin c i)) e
 
 ends_outside : (x : World) (m : Move) (a : Answer) (v : World) → Moved x m a v → a ≢ Answer.Stepped → is_possible a ≡ true → is_outside (standing_of v m.party) ≡ true
 ends_outside x m a v s = outside_at_end standing_of knows_of Rest.Holding x m a v s.legal.possible s.legal.ends_properly

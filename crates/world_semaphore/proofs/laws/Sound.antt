@@ -1,5 +1,5 @@
 -- What always holds of a semaphore's World, as callers see it.
-use Rattle.world_semaphore.proofs.Prelude.{◌≡◌, ℕ, suc, ◌<◌, ◌≤◌, ◌⊎◌, inl, inr, Bool, true, false, List, [], ◌∷◌, length, Option, refl, arith, ap, sym, ◌∙◌, subst, list_all, marked_count, entries_of, Answer, Kind, Rest, Stage, Outside, Inside, Forgotten, Within, outside, inside, is_outside, is_outside_stage, both, stage_at, stands_as, Table, past_last, by_stage_or_past, by_stage_or_past_at, rest_seen, outside_at, Place, Take, Retake, Ask, Remove, PassOn, Try, Lower, CancelRemove, CancelLoad, FitGivenBack, Abandon, Position, Out, Unlisted, Waiting, Holding, At, bit, pays, listed, waits, owes, size_at, debt_at, is_short, verdict, is_resting, Semaphore, IsSemaphore, IsAtRest, goes_with, runs, is_begun, position_at, sizes_of, available, standing_of, size_of, debt_of, view_of, IsSound, IsAwake, IsFreeAndWanted, is_at_rest, is_long_call, IsSemaphoreTable}
+use Rattle.world_semaphore.proofs.Prelude.{◌≡◌, ℕ, suc, ◌<◌, ◌≤◌, ◌⊎◌, inl, inr, Bool, true, false, List, [], ◌∷◌, length, Option, refl, arith, ap, sym, ◌∙◌, subst, list_all, marked_count, entries_of, Answer, Kind, Rest, Stage, Outside, Inside, Forgotten, Within, outside, inside, is_outside, is_outside_stage, both, stage_at, stands_as, Table, past_last, by_stage_or_past, by_stage_or_past_at, rest_seen, outside_at, outside_so, Place, Take, Retake, Ask, Remove, PassOn, Try, Lower, CancelRemove, Position, Out, Unlisted, Waiting, Holding, At, bit, pays, listed, waits, owes, size_at, debt_at, is_short, verdict, is_resting, Semaphore, IsSemaphore, IsAtRest, goes_with, runs, is_begun, position_at, sizes_of, available, standing_of, size_of, debt_of, view_of, IsSound, IsAwake, IsFreeAndWanted, is_at_rest, is_long_call, IsSemaphoreTable}
 use Rattle.world_base.proofs.Owing.{marked_or_owed}
 use Rattle.world_semaphore.proofs.of_machine.laws.Entries.{wanted_so}
 use Rattle.world_semaphore.proofs.of_machine.laws.Laws.{rests_waits, listed_known}
@@ -81,12 +81,6 @@ pays_so : (b : Bool) → 0 < bit b → b ≡ true
 pays_so true h = refl
 pays_so false h = absurd (omega arith)
 
--- a party that stands outside does so at its stage
-outside_stage : (s : Stage) (d : Option Answer) → is_outside (stands_as d s) ≡ true → is_outside_stage s ≡ true
-outside_stage (Outside r) d h = refl
-outside_stage Forgotten d h = refl
-outside_stage (Inside w) d h = absurd (cc h)
-
 module _ (t : Table Semaphore) (laws : IsSemaphore t.machine) (fits : IsSemaphoreTable t) where
   abbrev xs : List Position
   xs = t.machine.positions
@@ -94,7 +88,7 @@ module _ (t : Table Semaphore) (laws : IsSemaphore t.machine) (fits : IsSemaphor
   rests_outside : (q : ℕ) → is_outside (standing_of (view_of t) q) ≡ true → is_resting (position_at xs q) ≡ true
   rests_outside q out = by_stage_or_past t.stages q (is_resting (position_at xs q) ≡ true)
       (λ past. ap is_resting (past_last xs q Out (omega (arith, past, fits.as_many))))
-      (λ inside. resting (stage_at t.stages q) (position_at xs q) (fits.stands q inside) (outside_stage (stage_at t.stages q) (verdict (position_at xs q)) (ap is_outside (sym (seen.stands_seen t q)) ∙ out)))
+      (λ inside. resting (stage_at t.stages q) (position_at xs q) (fits.stands q inside) (sym (outside_so (verdict (position_at xs q)) (stage_at t.stages q)) ∙ (ap is_outside (sym (seen.stands_seen t q)) ∙ out)))
 
   known_of : (q : ℕ) → 0 < entries_of q t.machine.entries → q < length xs
   known_of q some = listed_known xs q (omega (arith, some, laws.owners q))
