@@ -1,13 +1,12 @@
 -- What a whole call of a barrier promises beside its end.
-use Rattle.world_barrier.proofs.Prelude.{◌≡◌, ◌≢◌, ℕ, true, false, Some, sym, ap, ◌∙◌, subst, Answer, Call, Inputs, What, Begin, Go, Rest, Within, Account, accounts_after, how_many, inputs_of, going_on, moves_of, answers_of, none_some, decided_inside, outside_says, inside_begins, beginning, Onward, along, Table, Acted, onward, is_counting, course_at, starved, action_of, Barrier, Moves, position_at, World, is_starved, Promises, Runs, HoldsWell, Stands, Steps, Bool, None, refl, Move, inside, is_outside, is_decided, is_possible, knows, standing_of}
+use Rattle.world_barrier.proofs.Prelude.{◌≡◌, ◌≢◌, ℕ, false, sym, ap, ◌∙◌, subst, true≢false, Answer, Call, Inputs, What, Begin, Go, Rest, Within, Account, accounts_after, how_many, inputs_of, going_on, moves_of, answers_of, beginning, Onward, along, Table, Acted, onward, is_counting, course_at, starved, action_of, Barrier, Moves, position_at, World, is_starved, Promises, Runs, HoldsWell, Stands, Steps, refl, knows, standing_of}
 use Rattle.world_mutex.proofs.of_machine.callers.Holders as sees
 use Rattle.world_barrier.proofs.whole.Alone.{known_calls}
 use Rattle.world_barrier.proofs.whole.Handing.{hands_on}
 use Rattle.world_barrier.proofs.whole.Polls.{nobody_starved, first, notified, told, solo}
-use Rattle.world_base.specs.Standings.{decision}
-use Rattle.world_base.proofs.of_any_world.Endings.{ends_outside as outside_at_end}
+use Rattle.world_base.proofs.of_any_world.Unsaid.{unsaid}
 use Rattle.world_barrier.proofs.whole.Ring.{counts_none, begins_uncounted, tells_nobody_at_end}
-use Rattle.world_barrier.proofs.whole.Patient.{starved_refusal, Undone, midway, never, goes_on}
+use Rattle.world_barrier.proofs.whole.Patient.{starved_refusal, midway, counting}
 
 -- ---- nobody is made starved that hasn't waited for too long, while nobody is
 
@@ -41,49 +40,6 @@ module _ (p : ℕ) (i : Inputs) (patient : i.starving ≡ false) where
   first_unstarved : (c : Call) (x : World) → Unstarved x.behind → (a : Answer) (v : World) → Steps x (beginning p c i) a v → Left a v
   first_unstarved c x none a v s = steps_unstarved x (Begin c i) a v patient none (λ w k. begins_uncounted c (position_at x.behind.machine.positions p) k.acts.from (course_at x.behind.machine.lock.courses p) k.acts.starts (s.did.stood.laws.links p)) s
 
--- ---- and refuses nobody for too many starved parties
-
-ends_outside : (x : World) (m : Move) (a : Answer) (v : World) → Steps x m a v → a ≢ Answer.Stepped → is_possible a ≡ true → is_outside (standing_of v m.party) ≡ true
-ends_outside x m a v s = outside_at_end standing_of (λ w p. knows) Rest.Finished x m a v s.legal.possible s.legal.ends_properly
-
-module _ (p : ℕ) (i : Inputs) (patient : i.starving ≡ false) where
-  abbrev Unrefused : Answer → World → Type 0
-  Unrefused b y = b ≡ starved_refusal → ⊥
-
-  abbrev Goes : World → Type 0
-  Goes y = Unstarving p i patient y.behind × Undone p y
-
-  said : (x v : World) (m : Move) (a : Answer) → m.party ≡ p → Steps x m a v → (decision a (standing_of v p) ≡ Some starved_refusal → ⊥) → a ≢ Answer.Stepped → Unrefused a v
-  said x v m a is s f ends e =
-      let out : is_outside (standing_of v p) ≡ true = subst (λ (q : ℕ). is_outside (standing_of v q) ≡ true) is (ends_outside x m a v s ends (ap is_possible e)) in
-      f (outside_says (standing_of v p) a out ∙ ap Some e)
-
-  on_patient : (x : World) (a : Answer) (v : World) → Goes x → Steps x (going_on p i) a v → Onward Goes Unrefused a v
-  on_patient x a v g s =
-      let o = goes_unstarved p i patient x a v g.0 s in
-      let n = never x v (going_on p i) a s g.0.1 g.1 in
-      record { going = λ e. (o.going e, goes_on a v p n); ended = λ ends. said x v (going_on p i) a refl s n ends }
-
-  -- nor does the first step of a call
-  first_never : (c : Call) (x : World) (a : Answer) (v : World) → Steps x (beginning p c i) a v → is_decided (standing_of x p) ≡ false → decision a (standing_of v p) ≡ Some starved_refusal → ⊥
-  first_never c x a v s fresh d =
-      let at = midway x v (beginning p c i) a s (fresh, d) in
-      let never_can : a ≡ Answer.NotPossible = s.legal.possible.exactly.1 (inside_begins knows at.0 None (standing_of x p) c i at.1) in
-      let stays : standing_of v p ≡ inside at.0 None = ap (λ z. standing_of z p) (s.legal.possible.unchanged never_can) ∙ at.1 in
-      none_some (sym (ap (decision a) stays) ∙ d)
-
-  first_patient : (c : Call) (x : World) → starved x.behind.machine.lock ≡ 0 → (a : Answer) (v : World) → Steps x (beginning p c i) a v → Onward Goes Unrefused a v
-  first_patient c x none a v s = by_decided (is_decided (standing_of x p)) refl where
-    by_decided : (b : Bool) → is_decided (standing_of x p) ≡ b → Onward Goes Unrefused a v
-    by_decided true is =
-        let at = decided_inside (standing_of x p) is in
-        let never_can : a ≡ Answer.NotPossible = s.legal.possible.exactly.1 (inside_begins knows at.0 (Some at.1) (standing_of x p) c i at.2) in
-        record { going = λ e. (let z = sym never_can ∙ e in absurd (cc z)); ended = λ ends e. (let z = sym never_can ∙ e in cc z) }
-    by_decided false is =
-        let o = first_unstarved p i patient c x none a v s in
-        let n = first_never c x a v s is in
-        record { going = λ e. (o.going e, goes_on a v p n); ended = λ ends. said x v (beginning p c i) a refl s n ends }
-
 not_counted : (w : World) (p : ℕ) → Stands w → starved w.behind.machine.lock ≡ 0 → is_starved w.lock p ≡ false
 not_counted w p s none = ap (λ x. is_starved x.lock p) s.seen ∙ sees.none_starved w.behind.machine.lock.courses p none
 
@@ -98,7 +54,8 @@ module _ (known : ℕ → Account) (w : World) (p : ℕ) (c : Call) (i : Inputs)
   unrefused : i.starving ≡ false → how_many w.lock.starved ≡ 0 → a ≢ starved_refusal
   unrefused patient none =
       let zero : starved w.behind.machine.lock ≡ 0 = nobody_starved w.behind (subst (λ x. how_many x.lock.starved ≡ 0) stood.seen none) in
-      along Steps accounts_after HoldsWell p i (Goes p i patient) (Unrefused p i patient) (on_patient p i patient) known n w (beginning p c i) a v (first_patient p i patient c w zero) ended runs
+      unsaid Steps standing_of (λ x p. knows) Rest.Finished (λ x m b y s. s.legal.possible) (λ x m b y s. s.legal.ends_properly) starved_refusal refl (λ x m b y s d. midway x y m b s d) p i (λ y. Unstarving p i patient y.behind) (λ b y. Unstarved p i patient y.behind) (goes_unstarved p i patient)
+      (λ x b y g s d. true≢false (sym (counting x y (going_on p i) b s d) ∙ g.1)) accounts_after HoldsWell known w c n a v (first_unstarved p i patient c w zero) ended runs
 
   as_poll : c ≡ Call.Poll → Runs known w (moves_of p Call.Poll i n) (answers_of n a) v
   as_poll is = let R : Call → Type 0 = λ x. Runs known w (moves_of p x i n) (answers_of n a) v in subst R is runs

@@ -1,5 +1,5 @@
 -- Nobody is refused for too many starved parties who isn't about to be counted.
-use Rattle.world_rwlock.proofs.Prelude.{◌≡◌, ℕ, Bool, true, false, Option, Some, None, refl, ap, sym, ◌∙◌, subst, true≢false, Answer, Call, Move, What, Begin, Go, Refusal, Stage, Outside, Inside, Forgotten, Within, put_in, number_of, inside, is_possible, is_decided, refused, IsUndecided, some_eq, none_some, decided_inside, stage_at, call_at, TurnCourse, is_counting, turn_at, Place, place_at, DecidesOn, IsCause, World, standing_of, Stands, Moved as Steps, standing_at, view_of}
+use Rattle.world_rwlock.proofs.Prelude.{◌≡◌, ℕ, Bool, true, Option, Some, None, ap, sym, ◌∙◌, subst, Answer, Call, Move, What, Begin, Go, Refusal, Stage, Outside, Inside, Forgotten, Within, put_in, number_of, inside, refused, IsUndecided, none_some, stage_at, call_at, TurnCourse, is_counting, turn_at, Place, place_at, DecidesOn, IsCause, World, standing_of, Stands, Moved as Steps, standing_at, view_of}
 use Rattle.world_base.specs.Standings.{decision}
 use Rattle.world_rwlock.proofs.bound.Alone.{laws}
 use Rattle.world_rwlock.proofs.step.Acting.{Acting, Way, impossible, over, puts, acts, way}
@@ -50,30 +50,5 @@ module _ (x v : World) (m : Move) (a : Answer) (s : Steps x m a v) (d : DecidesO
       let Left : World → Type 0 = λ y. D y v in
       acting.counts x.behind v.behind m a w c (subst (D (view_of x.behind)) s.did.stands.seen (subst Left s.did.stood.seen d))
 
-  counting : is_counting (turn_at x.behind.machine.lock.turn.courses m.party) ≡ true
+  pub counting : is_counting (turn_at x.behind.machine.lock.turn.courses m.party) ≡ true
   counting = by_way (way x.behind v.behind m a (laws x s.did.stood) (laws v s.did.stands) s.did.step)
-
--- its call isn't decided on that refusal
-abbrev pub Undone : ℕ → World → Type 0
-Undone p x = (u : Within) → standing_of x p ≡ inside u (Some starved_refusal) → ⊥
-
-module _ (x v : World) (m : Move) (a : Answer) (s : Steps x m a v) (not_next : is_counting (turn_at x.behind.machine.lock.turn.courses m.party) ≡ false) (undone : Undone m.party x) where
-  -- so a step doesn't decide on it, nor did one before
-  pub never : decision a (standing_of v m.party) ≡ Some starved_refusal → ⊥
-  never d = by_decided (is_decided (standing_of x m.party)) refl where
-    same : (b : Answer) (u : Within) → standing_of x m.party ≡ inside u (Some b) → b ≡ starved_refusal → ⊥
-    same b u at is = undone u (at ∙ ap (λ y. inside u (Some y)) is)
-
-    was_decided : (u : Within) (b : Answer) → standing_of x m.party ≡ inside u (Some b) → (c : Bool) → is_possible a ≡ c → ⊥
-    was_decided u b at true can = same b u at (some_eq (sym (s.legal.ends_properly.as_decided u b at can) ∙ d))
-    was_decided u b at false cannot = same b u at (some_eq (sym (ap (decision a) (ap (λ z. standing_of z m.party) (s.legal.possible.unchanged (impossible_is a cannot)) ∙ at)) ∙ d)) where
-      impossible_is : (b : Answer) → is_possible b ≡ false → b ≡ Answer.NotPossible
-      impossible_is Answer.NotPossible h = refl
-      impossible_is _ h = absurd (cc h)
-
-    by_decided : (b : Bool) → is_decided (standing_of x m.party) ≡ b → ⊥
-    by_decided true is = let at = decided_inside (standing_of x m.party) is in was_decided at.0 at.1 at.2 (is_possible a) refl
-    by_decided false is = true≢false (sym (counting x v m a s (is, d)) ∙ not_next)
-
-pub goes_on : (a : Answer) (v : World) (p : ℕ) → (decision a (standing_of v p) ≡ Some starved_refusal → ⊥) → Undone p v
-goes_on a v p f u e = f (ap (decision a) e)

@@ -1,12 +1,11 @@
 -- Where nobody is starved for the turn, a whole call starves nobody that hasn't waited for too long.
-use Rattle.world_rwlock.proofs.Prelude.{◌≡◌, ◌≢◌, ℕ, Bool, true, false, refl, ap, sym, ◌∙◌, subst, Account, accounts_after, Answer, Call, Value, Inputs, Refusal, What, Begin, Go, Stage, Within, how_many, inputs_of, refused, going_on, moves_of, answers_of, beginning, along, Onward, TurnCourse, is_counting, starved, Mutex, turn_at, out_uncounted, holding_uncounted, waiting_uncounted, Action, Found, Turn, Place, place_at, action_of, fits_turn, OnTurn, stage_at, Runs, HoldsWell, World, is_starved, Stands, Moved, Some, None, Move, Rest, inside, is_outside, is_decided, is_possible, none_some, decided_inside, outside_says, inside_begins, knows_of, standing_of}
+use Rattle.world_rwlock.proofs.Prelude.{◌≡◌, ◌≢◌, ℕ, Bool, true, false, refl, ap, sym, ◌∙◌, subst, true≢false, Account, accounts_after, Answer, Call, Value, Inputs, Refusal, What, Begin, Go, Stage, Within, how_many, inputs_of, refused, going_on, moves_of, answers_of, beginning, along, Onward, TurnCourse, is_counting, starved, Mutex, turn_at, out_uncounted, holding_uncounted, waiting_uncounted, Action, Found, Turn, Place, place_at, action_of, fits_turn, OnTurn, stage_at, Runs, HoldsWell, World, is_starved, Stands, Moved, Rest, knows_of, standing_of}
 use Rattle.world_mutex.proofs.of_machine.callers.Holders as sees
 use Rattle.world_rwlock.proofs.step.Acting.{Acting, Way, impossible, over, puts, acts, way}
 use Rattle.world_rwlock.proofs.table.Begun.{ForMoves, turn}
 use Rattle.world_rwlock.proofs.bound.Alone.{laws}
-use Rattle.world_base.specs.Standings.{decision}
-use Rattle.world_base.proofs.of_any_world.Endings.{ends_outside as outside_at_end}
-use Rattle.world_rwlock.proofs.whole.Patient.{starved_refusal, Undone, midway, never, goes_on}
+use Rattle.world_base.proofs.of_any_world.Unsaid.{unsaid}
+use Rattle.world_rwlock.proofs.whole.Patient.{starved_refusal, midway, counting}
 
 -- ---- whoever begins a call isn't about to be counted
 
@@ -105,49 +104,6 @@ module _ (p : ℕ) (i : Inputs) (patient : i.starving ≡ false) where
   first : (c : Call) (x : World) → starved x.behind.machine.lock.turn ≡ 0 → (a : Answer) (v : World) → Moved x (beginning p c i) a v → Then a v
   first c x none a v s = by_way x v (Begin c i) a patient s.did.stands none (λ w k. begins_quiet x v p c i a w k) (way x.behind v.behind (beginning p c i) a (laws x s.did.stood) (laws v s.did.stands) s.did.step)
 
--- ---- and refuses nobody for too many starved parties
-
-ends_outside : (x : World) (m : Move) (a : Answer) (v : World) → Moved x m a v → a ≢ Answer.Stepped → is_possible a ≡ true → is_outside (standing_of v m.party) ≡ true
-ends_outside x m a v s = outside_at_end standing_of knows_of Rest.Holding x m a v s.legal.possible s.legal.ends_properly
-
-module _ (p : ℕ) (i : Inputs) (patient : i.starving ≡ false) where
-  abbrev Unrefused : Answer → World → Type 0
-  Unrefused b y = b ≡ starved_refusal → ⊥
-
-  abbrev Goes : World → Type 0
-  Goes y = Unstarving p y × Undone p y
-
-  said : (x v : World) (m : Move) (a : Answer) → m.party ≡ p → Moved x m a v → (decision a (standing_of v p) ≡ Some starved_refusal → ⊥) → a ≢ Answer.Stepped → Unrefused a v
-  said x v m a is s f ends e =
-      let out : is_outside (standing_of v p) ≡ true = subst (λ (q : ℕ). is_outside (standing_of v q) ≡ true) is (ends_outside x m a v s ends (ap is_possible e)) in
-      f (outside_says (standing_of v p) a out ∙ ap Some e)
-
-  on_patient : (x : World) (a : Answer) (v : World) → Goes x → Moved x (going_on p i) a v → Onward Goes Unrefused a v
-  on_patient x a v g s =
-      let o = onward p i patient x a v g.0 s in
-      let n = never x v (going_on p i) a s g.0.not_next g.1 in
-      record { going = λ e. (o.going e, goes_on a v p n); ended = λ ends. said x v (going_on p i) a refl s n ends }
-
-  -- nor does the first step of a call
-  first_never : (c : Call) (x : World) (a : Answer) (v : World) → Moved x (beginning p c i) a v → is_decided (standing_of x p) ≡ false → decision a (standing_of v p) ≡ Some starved_refusal → ⊥
-  first_never c x a v s fresh d =
-      let at = midway x v (beginning p c i) a s (fresh, d) in
-      let never_can : a ≡ Answer.NotPossible = s.legal.possible.exactly.1 (inside_begins (knows_of x p) at.0 None (standing_of x p) c i at.1) in
-      let stays : standing_of v p ≡ inside at.0 None = ap (λ z. standing_of z p) (s.legal.possible.unchanged never_can) ∙ at.1 in
-      none_some (sym (ap (decision a) stays) ∙ d)
-
-  first_patient : (c : Call) (x : World) → starved x.behind.machine.lock.turn ≡ 0 → (a : Answer) (v : World) → Moved x (beginning p c i) a v → Onward Goes Unrefused a v
-  first_patient c x none a v s = by_decided (is_decided (standing_of x p)) refl where
-    by_decided : (b : Bool) → is_decided (standing_of x p) ≡ b → Onward Goes Unrefused a v
-    by_decided true is =
-        let at = decided_inside (standing_of x p) is in
-        let never_can : a ≡ Answer.NotPossible = s.legal.possible.exactly.1 (inside_begins (knows_of x p) at.0 (Some at.1) (standing_of x p) c i at.2) in
-        record { going = λ e. (let z = sym never_can ∙ e in absurd (cc z)); ended = λ ends e. (let z = sym never_can ∙ e in cc z) }
-    by_decided false is =
-        let o = first p i patient c x none a v s in
-        let n = first_never c x a v s is in
-        record { going = λ e. (o.going e, goes_on a v p n); ended = λ ends. said x v (beginning p c i) a refl s n ends }
-
 pub starved_behind : (w : World) → Stands w → how_many w.state.starved ≡ starved w.behind.machine.lock.turn
 starved_behind w s = ap (λ x. how_many x.state.starved) s.seen ∙ sees.how_many_counted w.behind.machine.lock.turn.courses
 
@@ -162,4 +118,5 @@ unstarved_at_end known w p c i n a v stood patient none runs ended =
 pub patient_at_end : (known : ℕ → Account) (w : World) (p : ℕ) (c : Call) (i : Inputs) (n : ℕ) (a : Answer) (v : World) → Stands w → i.starving ≡ false → how_many w.state.starved ≡ 0 → Runs known w (moves_of p c i n) (answers_of n a) v → a ≢ Answer.Stepped → a ≢ starved_refusal
 patient_at_end known w p c i n a v stood patient none runs ended =
     let zero : starved w.behind.machine.lock.turn ≡ 0 = sym (starved_behind w stood) ∙ none in
-    along Moved accounts_after HoldsWell p i (Goes p i patient) (Unrefused p i patient) (on_patient p i patient) known n w (beginning p c i) a v (first_patient p i patient c w zero) ended runs
+    unsaid Moved standing_of knows_of Rest.Holding (λ x m b y s. s.legal.possible) (λ x m b y s. s.legal.ends_properly) starved_refusal refl (λ x m b y s d. midway x y m b s d) p i (Unstarving p) (λ b y. Unstarved p y) (onward p i patient)
+    (λ x b y g s d. true≢false (sym (counting x y (going_on p i) b s d) ∙ g.not_next)) accounts_after HoldsWell known w c n a v (first p i patient c w zero) ended runs
