@@ -1,6 +1,7 @@
 -- What always holds of a barrier's World, as callers see it.
-use Rattle.world_barrier.proofs.Prelude.{◌≡◌, ℕ, zero, suc, ◌+◌, ◌<◌, ◌≤◌, inl, inr, true, false, List, [], ◌∷◌, length, Option, Some, None, refl, arith, ap, sym, ◌∙◌, subst, list_all, is_marked_at, IsMarkedFirst, is_party, entries_of, Answer, Kind, Rest, Stage, Outside, Inside, Forgotten, Within, Standing, outside, inside, forgotten, is_outside, is_outside_stage, both, stage_at, stands_as, Table, by_stage_or_past, by_stage_or_past_at, rest_seen, outside_at, outside_so, Course, bit, starved_there, listed_there, rests_there, course_at, LockAtRest, out_rests, waiting_rests, out_unlisted, holding_unlisted, listed_once, Aim, Ending, Place, EnterLock, WaitLock, TakeLock, Arrive, NotifyAll, Check, JoinAgain, ReleaseLock, ReleasingLock, Ask, CancelLeave, Abandon, Position, Out, Made, Locking, Waiting, At, Progress, Words, arrivals_at, IsFollower, fits_lock, in_lock, listed, follows, HasOutcome, Outcome, is_resting, counted, wait_for, wait_until, wait_at, Barrier, IsBarrier, HasArrived, IsAtRest, goes_with, is_begun, is_abandoning, runs, position_at, arrival_at, ListName, Lock, Generation, IsFinished, World, list_in, standing_of, wait_of, is_starved, verdict_in, view_of, HasItsOwn, IsSound, IsAwake, IsStillThere, is_at_rest, is_long_call, IsBarrierTable, ◌⊎◌, false≢true, marked_count, is_decided, taking, releasing, undecided, called, counting, has_lock, giving_up, is_out as is_out_there, is_holding, is_waiting, is_cancelling, is_due_there, CancelLock, CancellingLock, verdict, is_due, IsDue}
+use Rattle.world_barrier.proofs.Prelude.{◌≡◌, ℕ, zero, suc, ◌+◌, ◌<◌, ◌≤◌, inl, inr, true, false, List, [], ◌∷◌, length, Option, Some, None, refl, arith, ap, sym, ◌∙◌, subst, list_all, is_marked_at, IsMarkedFirst, is_party, entries_of, Answer, Kind, Rest, Stage, Outside, Inside, Forgotten, Within, Standing, outside, inside, forgotten, is_outside, is_outside_stage, both, stage_at, stands_as, Table, by_stage_or_past, by_stage_or_past_at, rest_seen, outside_at, outside_so, Course, bit, starved_there, listed_there, rests_there, out as out_of_lock, course_at, LockAtRest, out_rests, waiting_rests, out_unlisted, holding_unlisted, listed_once, Aim, Ending, Place, EnterLock, WaitLock, TakeLock, Arrive, NotifyAll, Check, JoinAgain, ReleaseLock, ReleasingLock, Ask, CancelLeave, Abandon, Position, Out, Made, Locking, Waiting, At, Progress, Words, arrivals_at, IsFollower, fits_lock, in_lock, listed, follows, HasOutcome, Outcome, is_resting, counted, wait_for, wait_until, wait_at, Barrier, IsBarrier, HasArrived, IsAtRest, goes_with, is_begun, is_abandoning, runs, position_at, arrival_at, ListName, Lock, Generation, IsFinished, World, list_in, standing_of, wait_of, is_starved, verdict_in, view_of, HasItsOwn, IsSound, IsAwake, IsStillThere, is_at_rest, is_long_call, IsBarrierTable, ◌⊎◌, false≢true, marked_count, is_decided, taking, releasing, undecided, called, counting, has_lock, giving_up, is_out as is_out_there, is_holding, is_waiting, is_cancelling, is_due_there, CancelLock, CancellingLock, verdict, is_due, IsDue}
 use Rattle.world_base.proofs.of_table.Mapped.{past_last}
+use Rattle.world_base.proofs.of_table.Resting.{all_at_rest, one_at_rest}
 use Rattle.world_mutex.proofs.of_machine.callers.Holders as sees
 use Rattle.world_barrier.proofs.table.Seen as seen
 use Rattle.world_barrier.proofs.step.Locks.{releasing_unlisted}
@@ -110,25 +111,12 @@ resting (Outside Rest.Finished) (At y) g o = absurd (cc g)
 resting (Inside w) x g o = absurd (cc o)
 resting Forgotten x g o = g
 
-all_rest : (xs : List Position) → ((q : ℕ) → q < length xs → is_resting (position_at xs q) ≡ true) → IsAtRest xs
-all_rest [] h = tt
-all_rest (x ∷ xs) h = (h 0 (omega arith), all_rest xs (λ q j. h (suc q) (omega arith)))
-
-rest_at : (xs : List Position) → IsAtRest xs → (q : ℕ) → is_resting (position_at xs q) ≡ true
-rest_at [] h q = refl
-rest_at (x ∷ xs) h zero = h.0
-rest_at (x ∷ xs) h (suc q) = rest_at xs h.1 q
-
 rests_in_lock : (x : Position) (c : Course) → is_resting x ≡ true → fits_lock (in_lock x) c ≡ true → rests_there c ≡ true
 rests_in_lock (At y) c h link = absurd (cc h)
 rests_in_lock (Locking a) c h link = waiting_rests c link
 rests_in_lock Out c h link = out_rests c link
 rests_in_lock (Made a) c h link = out_rests c link
 rests_in_lock Waiting c h link = out_rests c link
-
-lock_rests : (cs : List Course) → ((q : ℕ) → rests_there (course_at cs q) ≡ true) → LockAtRest cs
-lock_rests [] h = tt
-lock_rests (c ∷ cs) h = (h zero, lock_rests cs (λ q. h (suc q)))
 
 rest_waits : (x : Position) → is_resting x ≡ true → 0 < listed x → x ≡ Waiting
 rest_waits Waiting h some = refl
@@ -350,13 +338,13 @@ module _ (t : Table Barrier) (laws : IsBarrier t.machine) (fits : IsBarrierTable
     stages_rest = sym (rest_seen (verdict_in t.machine) t.stages) ∙ rests
 
     positions_rest : IsAtRest xs
-    positions_rest = all_rest xs (λ q j. resting (stage_at t.stages q) (x_of q) (fits.stands q (omega (arith, j, fits.as_many))) (outside_at t.stages stages_rest q))
+    positions_rest = all_at_rest is_resting Out xs (λ q j. resting (stage_at t.stages q) (x_of q) (fits.stands q (omega (arith, j, fits.as_many))) (outside_at t.stages stages_rest q))
 
     courses_rest : LockAtRest t.machine.lock.courses
-    courses_rest = lock_rests t.machine.lock.courses (λ q. rests_in_lock (x_of q) (c_of q) (rest_at xs positions_rest q) (laws.links q))
+    courses_rest = all_at_rest rests_there out_of_lock t.machine.lock.courses (λ q j. rests_in_lock (x_of q) (c_of q) (one_at_rest is_resting Out refl xs positions_rest q) (laws.links q))
 
     waits_there : (q : ℕ) → 0 < entries_of q t.machine.entries → x_of q ≡ Waiting
-    waits_there q some = let own = laws.owners q in rest_waits (x_of q) (rest_at xs positions_rest q) (omega arith)
+    waits_there q some = let own = laws.owners q in rest_waits (x_of q) (one_at_rest is_resting Out refl xs positions_rest q) (omega arith)
 
     is_counted_there : (q : ℕ) → 0 < entries_of q t.machine.entries → (a : ℕ) × (wait_of (view_of t) q ≡ counted a)
     is_counted_there q some = (arrivals_at words.size (a_of q), seen.wait_seen t q ∙ ap (λ x. wait_at x (arrivals_at words.size (a_of q))) (waits_there q some))

@@ -20,6 +20,7 @@ use Rattle.world_base.specs.declared.standing.Stage.TheVariants.{Outside, Inside
 use Rattle.world_base.specs.declared.standing.Within.{Within}
 use Rattle.world_base.specs.Standings.{inputs_of}
 use Rattle.world_base.specs.table.Ends.{answer_of}
+use Rattle.world_base.specs.table.Resting.{AreAtRest}
 use Rattle.world_mutex.specs.machine.Mutex.{Mutex, new_mutex, course_at, IsMutex, holders, steps_left as lock_steps_left}
 use Rattle.sync_program.specs.declared.barrier.Aim.TheVariants as aim
 use Rattle.sync_program.specs.declared.barrier.Found.{Found}
@@ -91,8 +92,7 @@ pub record IsKept (w : Words) (xs : List Position) (rs : List Progress) (q : Que
 
 -- every party is outside the programs
 abbrev pub IsAtRest : List Position → Type 0
-IsAtRest [] = Unit {0}
-IsAtRest (x ∷ xs) = (is_resting x ≡ true) × IsAtRest xs
+IsAtRest xs = AreAtRest is_resting xs
 
 -- What callers may rest on: the inner lock is a mutex, in which each party stands as its place says; no arrival is ahead of the barrier, no two parties have the same one, and a follower's didn't finish its generation; a wait that is over led, or follows one that finished its generation; a party's entries are told by where it stands. At rest nobody has the inner lock, and where somebody is listed there some entry is marked. Whenever nobody has the inner lock, every entry of the barrier's list is marked whose party's generation is finished.
 pub record IsBarrier (s : Barrier) : Type 0 where

@@ -1,8 +1,9 @@
 -- What always holds of a mutex's World, as callers see it, and that no notification is lost at rest.
-use Rattle.world_mutex.proofs.Prelude.{◌≡◌, ℕ, suc, ◌<◌, ◌⊎◌, inl, inr, Bool, true, List, [], ◌∷◌, length, Option, refl, arith, ap, sym, ◌∙◌, subst, nat_tests, list_all, Entry, entries_of, Answer, Kind, Rest, Stage, Outside, Inside, Forgotten, Within, Standing, outside, inside, forgotten, is_outside_stage, stage_at, stands_as, Table, by_stage_or_past_at, rest_seen, outside_at, outside_so, Place, IsMutex, place_at, counted, listed, is_resting, is_counted, Guarded, place_of, is_within, goes_with, with_value, HasRight, IsSound, is_long_call, is_at_rest, IsAwake, World, IsMutexTable, verdict, view_of, false, None, marked_count, is_outside, past_last, by_stage_or_past, is_due_there, holder_of, is_due, IsDue, standing_of}
+use Rattle.world_mutex.proofs.Prelude.{◌≡◌, ℕ, suc, ◌<◌, ◌⊎◌, inl, inr, Bool, true, List, [], ◌∷◌, length, Option, refl, arith, ap, sym, ◌∙◌, subst, nat_tests, list_all, Entry, entries_of, Answer, Kind, Rest, Stage, Outside, Inside, Forgotten, Within, Standing, outside, inside, forgotten, is_outside_stage, stage_at, stands_as, Table, by_stage_or_past_at, rest_seen, outside_at, outside_so, Place, Out, IsMutex, place_at, counted, listed, is_resting, is_counted, Guarded, place_of, is_within, goes_with, with_value, HasRight, IsSound, is_long_call, is_at_rest, IsAwake, World, IsMutexTable, verdict, view_of, false, None, marked_count, is_outside, past_last, by_stage_or_past, is_due_there, holder_of, is_due, IsDue, standing_of}
 use Rattle.world_base.specs.Rights.{Right, hold}
 use Rattle.world_base.specs.table.Lending.{table_with}
 use Rattle.world_base.proofs.of_table.Lending.{lent_seen}
+use Rattle.world_base.proofs.of_table.Resting.{all_at_rest}
 use Rattle.world_mutex.specs.machine.Acts as lock
 use Rattle.world_mutex.proofs.of_machine.laws.CanDo.{once}
 use Rattle.world_mutex.proofs.of_machine.laws.Seen as sees
@@ -31,10 +32,6 @@ long_at (Inside w) x d u e g h =
     let same : w ≡ u = cc h in
     let P : Within → Type 0 = λ v. is_long_call v.kind v.was ≡ true in
     subst P same (long_by w.kind w.was x g)
-
-all_rest : (xs : List Place) → ((q : ℕ) → q < length xs → is_resting (place_at xs q) ≡ true) → lock.IsAtRest xs
-all_rest [] h = tt
-all_rest (x ∷ xs) h = (h 0 (omega arith), all_rest xs (λ q i. h (suc q) (omega arith)))
 
 -- a listed party that is outside every call is pending, or was
 pends_so : (s : Stage) (x : Place) (d : Option Answer) → goes_with s x ≡ true → is_outside_stage s ≡ true → 0 < listed x → (stands_as d s ≡ outside Rest.Pending) ⊎ (stands_as d s ≡ forgotten)
@@ -90,7 +87,7 @@ module _ (t : Table Guarded) (laws : IsMutex t.machine.lock) (fits : IsMutexTabl
     stages_rest = sym (rest_seen (verdict t.machine) t.stages) ∙ rests
 
     places_rest : lock.IsAtRest xs
-    places_rest = all_rest xs (λ q i. resting (stage_at t.stages q) (place_at xs q) (fits.stands q (omega (arith, i, fits.as_many))) (outside_at t.stages stages_rest q))
+    places_rest = all_at_rest is_resting Out xs (λ q i. resting (stage_at t.stages q) (place_at xs q) (fits.stands q (omega (arith, i, fits.as_many))) (outside_at t.stages stages_rest q))
 
     pub awake : IsAwake (view_of t)
     awake = record {

@@ -12,6 +12,7 @@ use Rattle.world_mutex.specs.program.Program.{action_of, next_of, place_after}
 use Rattle.lock_program.specs.MutexRoles.{holds, counted, listed, is_resting}
 use Rattle.world_mutex.specs.machine.Parties.{OnParties}
 use Rattle.world_base.specs.queue.Parties.{entries_of}
+use Rattle.world_base.specs.table.Resting.{AreAtRest}
 use Rattle.world_mutex.specs.machine.Machine.{Lock, place_at}
 use Rattle.world_mutex.specs.machine.Courses.{is_waiting, is_due}
 
@@ -66,8 +67,7 @@ TakenFairly old new = (p : ℕ) → holds (place_at old.places p) ≡ 0 → hold
 
 -- every party is outside the lock's programs, or waits to be notified
 abbrev pub IsAtRest : List Place → Type 0
-IsAtRest [] = Unit {0}
-IsAtRest (x ∷ xs) = (is_resting x ≡ true) × IsAtRest xs
+IsAtRest xs = AreAtRest is_resting xs
 
 -- what always holds of a mutex
 pub record IsMutex (l : Lock) : Type 0 where

@@ -4,6 +4,7 @@ use Rattle.std.specs.List.{sum_by}
 use Rattle.lock_event.specs.declared.event.Entry.{Entry}
 use Rattle.lock_event.specs.Lists.{marked_count, IsMarkedFirst}
 use Rattle.world_base.specs.queue.Parties.{entries_of}
+use Rattle.world_base.specs.table.Resting.{AreAtRest}
 use Rattle.lock_program.specs.declared.mutex.Step.{Step}
 use Rattle.lock_program.specs.declared.mutex.Step.TheVariants as step
 use Rattle.world_mutex.specs.machine.Course.{Course, out, holds, counted, listed, is_resting}
@@ -70,8 +71,7 @@ left_after (step.End e) m p = 0
 
 -- Every party is outside all calls.
 abbrev pub IsAtRest : List Course → Type 0
-IsAtRest [] = Unit {0}
-IsAtRest (x ∷ xs) = (is_resting x ≡ true) × IsAtRest xs
+IsAtRest xs = AreAtRest is_resting xs
 
 -- Whoever holds the lock now and didn't before took it free, and nobody else was starved.
 abbrev pub TakenFairly : Mutex → Mutex → Type 0

@@ -1,5 +1,6 @@
 -- What always holds of a once-cell's World, as callers see it.
 use Rattle.world_once_cell.proofs.Prelude.{◌≡◌, ◌≢◌, ℕ, zero, suc, ◌+◌, ◌<◌, ◌≤◌, ◌⊎◌, inl, inr, true, false, List, [], ◌∷◌, length, Option, Some, refl, arith, ap, sym, ◌∙◌, subst, list_all, sum_by, get_or-le-sum_by, is_marked_at, marked_count, is_party, entries_of, else_marked, Answer, Kind, Rest, Stage, Outside, Inside, Forgotten, Within, inside, is_outside, is_outside_stage, both, stage_at, stands_as, Table, past_last, by_stage_or_past, by_stage_or_past_at, rest_seen, outside_at, outside_so, length-standings, ListName, Active, Passive, Closure, Given, Place, Claim, ClaimListed, AskActive, LeaveToMake, NotifyActive, NotifyPassive, TryNotifyActive, TryNotifyPassive, FailNotify, CancelNotify, LeaveFull, LookListed, AskPassive, LeavePassive, CancelLeave, Abandon, Position, Out, ToMake, WaitingToMake, Making, ToWait, Waiting, At, Content, Empty, Full, fills_with, task_at, makes_at, in_active, in_passive_at, waits, owes, value_known, is_late, will_tell, verdict, is_resting, OnceCell, IsCell, IsAtRest, goes_with, runs, is_begun, is_abandoning, is_maker, position_at, AllTold, list_in, standing_of, task_of, HasOneTeller, view_of, IsDue, is_due, IsSound, IsAwake, IsStillThere, is_at_rest, is_long_call, may_be_maker, IsCellTable}
+use Rattle.world_base.proofs.of_table.Resting.{all_at_rest}
 use Rattle.world_once_cell.proofs.of_machine.laws.Contents as contents
 use Rattle.world_once_cell.proofs.of_machine.laws.Told.{in_list}
 use Rattle.world_once_cell.proofs.of_machine.laws.Taken.{some_term}
@@ -71,10 +72,6 @@ resting (Outside Rest.Holding) (At y) g o = absurd (cc g)
 resting (Outside Rest.Finished) (At y) g o = absurd (cc g)
 resting (Inside w) x g o = absurd (cc o)
 resting Forgotten x g o = g
-
-all_rest : (xs : List Position) → ((q : ℕ) → q < length xs → is_resting (position_at xs q) ≡ true) → IsAtRest xs
-all_rest [] h = tt
-all_rest (x ∷ xs) h = (h 0 (omega arith), all_rest xs (λ q j. h (suc q) (omega arith)))
 
 -- who stands in a list or makes outside every call is pending, or was when it was forgotten
 still_there : (s : Stage) (x : Position) (d : Option Answer) → goes_with s x ≡ true → is_outside_stage s ≡ true → (x ≡ Out → ⊥) → IsStillThere (stands_as d s)
@@ -235,7 +232,7 @@ module _ (t : Table OnceCell) (laws : IsCell t.machine) (fits : IsCellTable t) (
     stages_rest = sym (rest_seen (λ q. verdict (position_at xs q)) t.stages) ∙ rests
 
     positions_rest : IsAtRest xs
-    positions_rest = all_rest xs (λ q j. resting (stage_at t.stages q) (position_at xs q) (fits.stands q (omega (arith, j, fits.as_many))).goes (outside_at t.stages stages_rest q))
+    positions_rest = all_at_rest is_resting Out xs (λ q j. resting (stage_at t.stages q) (position_at xs q) (fits.stands q (omega (arith, j, fits.as_many))).goes (outside_at t.stages stages_rest q))
 
     there : (q : ℕ) → (position_at xs q ≡ Out → ⊥) → IsStillThere (standing_of (view_of t) q)
     there q some = by_stage_or_past t.stages q (IsStillThere (standing_of (view_of t) q))

@@ -21,6 +21,7 @@ use Rattle.world_base.specs.declared.standing.Stage.TheVariants.{Outside, Inside
 use Rattle.world_base.specs.declared.standing.Within.{Within}
 use Rattle.world_base.specs.Standings.{inputs_of}
 use Rattle.world_base.specs.table.Ends.{answer_of}
+use Rattle.world_base.specs.table.Resting.{AreAtRest}
 use Rattle.world_once_cell.specs.declared.program.words.Content.{Content}
 use Rattle.world_once_cell.specs.declared.program.words.Content.TheVariants as content
 use Rattle.world_once_cell.specs.program.Program.{Found, got_left}
@@ -79,8 +80,7 @@ pub record IsKept (c : Content) (xs : List Position) (active passive : Queue) : 
 
 -- every party is outside the programs
 abbrev pub IsAtRest : List Position → Type 0
-IsAtRest [] = Unit {0}
-IsAtRest (x ∷ xs) = (is_resting x ≡ true) × IsAtRest xs
+IsAtRest xs = AreAtRest is_resting xs
 
 -- What callers may rest on: one party at most makes, and stands where makers do; a party's entries are told by where it stands; at rest, where the cell is empty and somebody is listed in `active`, some entry there is marked. Whenever the cell is empty and somebody waits in `active`, some entry there is marked or somebody owes it a notification or a look. Where the cell is full and nobody is about to tell a list, every entry there is marked but of parties that haven't looked yet or are about to leave. No more stand in `passive` than can be notified at once.
 pub record IsCell (s : OnceCell) : Type 0 where

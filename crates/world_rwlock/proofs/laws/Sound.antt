@@ -1,5 +1,5 @@
 -- What always holds of a read-write lock's World, and that no notification is lost at rest.
-use Rattle.world_rwlock.proofs.Prelude.{◌≡◌, ℕ, ◌<◌, ◌≤◌, ◌⊎◌, inl, inr, Bool, true, false, List, [], ◌∷◌, length, zero, suc, Option, Some, None, refl, arith, ap, sym, ◌∙◌, subst, list_all, sum_by, sum_by-cons, IsMarkedFirst, entries_of, Rest, Stage, Outside, Inside, Forgotten, outside, forgotten, is_outside_stage, outside_so, Right, read, upgradable, write, wait_to_write, excludes, TurnCourse, counted, rests_in_turn, turn_at, is_counted, holder_of, Ending, Place, bit, reads, marks, has_turn, is_resting, RwLock, place_at, IsRwLock, IsAtRest, writers, marked, stage_at, goes_with, Table, ListName, for_the_turn, for_no_readers, for_no_writer, list_of, nobody, passes, is_upgradable, waits_to_write, World, standing_of, is_marked, entries_in, HasTurn, HasItsOwn, HasRight, IsSound, is_at_rest, IsAwake, Guarded, with_value, IsRwLockTable, verdict_of, Share, passing, upgrading, waiting, writing, turn_as, share_of, turn_by, is_reading, standing_at, view_of, rest_seen, outside_at, inside_or_past, marked_count, is_outside, is_decided, listed, is_due, waits_no_writer, owes_no_writer, waits_no_readers, owes_no_readers, readers, is_due_for_turn, is_due_to_readers, is_due_to_writer, IsDueForTurn, IsDueToReaders, IsDueToWriter}
+use Rattle.world_rwlock.proofs.Prelude.{◌≡◌, ℕ, ◌<◌, ◌≤◌, ◌⊎◌, inl, inr, Bool, true, false, List, [], ◌∷◌, length, zero, suc, Option, Some, None, refl, arith, ap, sym, ◌∙◌, subst, list_all, sum_by, sum_by-cons, IsMarkedFirst, entries_of, Rest, Stage, Outside, Inside, Forgotten, outside, forgotten, is_outside_stage, outside_so, Right, read, upgradable, write, wait_to_write, excludes, TurnCourse, out as turn_out, counted, rests_in_turn, turn_at, is_counted, holder_of, Ending, Place, bit, reads, marks, has_turn, is_resting, RwLock, place_at, IsRwLock, IsAtRest, writers, marked, stage_at, goes_with, Table, ListName, for_the_turn, for_no_readers, for_no_writer, list_of, nobody, passes, is_upgradable, waits_to_write, World, standing_of, is_marked, entries_in, HasTurn, HasItsOwn, HasRight, IsSound, is_at_rest, IsAwake, Guarded, with_value, IsRwLockTable, verdict_of, Share, passing, upgrading, waiting, writing, turn_as, share_of, turn_by, is_reading, standing_at, view_of, rest_seen, outside_at, inside_or_past, marked_count, is_outside, is_decided, listed, is_due, waits_no_writer, owes_no_writer, waits_no_readers, owes_no_readers, readers, is_due_for_turn, is_due_to_readers, is_due_to_writer, IsDueForTurn, IsDueToReaders, IsDueToWriter}
 use Rattle.world_mutex.specs.machine.Mutex as lock
 use Rattle.world_mutex.proofs.of_machine.callers.Holders as sees
 use Rattle.world_rwlock.proofs.step.Owed.{owes_outside}
@@ -13,6 +13,7 @@ use Rattle.world_base.specs.table.Lending.{table_with}
 use Rattle.world_rwlock.specs.Stays.{future_rests, guard_rests}
 use Rattle.world_rwlock.proofs.table.Begun.{at_out}
 use Rattle.world_base.proofs.of_table.Lending.{lent_seen}
+use Rattle.world_base.proofs.of_table.Resting.{all_at_rest}
 use Rattle.world_rwlock.proofs.table.Views as view
 use Rattle.world_rwlock.proofs.table.Views.{Fits}
 use Rattle.world_rwlock.proofs.step.Owns as owns
@@ -332,11 +333,6 @@ all_rest l ss v fits resting p = elim (past_out l.places p) as (λ _. is_resting
   | inr e ↦ rw e refl
 ]
 
--- and in the turn
-turns_rest : (ts : List TurnCourse) → ((p : ℕ) → rests_in_turn (turn_at ts p) ≡ true) → lock.IsAtRest ts
-turns_rest [] h = tt
-turns_rest (t ∷ ts) h = (h 0, turns_rest ts (λ p. h (suc p)))
-
 module _ (t : Table Guarded) (laws : IsRwLock t.machine.lock) (fits : IsRwLockTable t) where
   abbrev seen_as : World
   seen_as = view_of t
@@ -368,7 +364,7 @@ module _ (t : Table Guarded) (laws : IsRwLock t.machine.lock) (fits : IsRwLockTa
         starved = λ p counts.
             let ts = t.machine.lock.turn.courses in
             let one : counted (turn_at ts p) ≡ 1 = true_one (is_counted (turn_at ts p)) (counted (turn_at ts p)) (sees.counted_bit (turn_at ts p)) (sym (sees.starved_at ts p) ∙ counts) in
-            let listed_once : entries_of p t.machine.lock.turn.entries ≡ 1 = laws.turn.starved_listed (turns_rest ts (λ q. rests_t (place_at t.machine.lock.places q) (turn_at ts q) (quiet q) (laws.in_turn q))) p one in
+            let listed_once : entries_of p t.machine.lock.turn.entries ≡ 1 = laws.turn.starved_listed (all_at_rest rests_in_turn turn_out ts (λ q i. rests_t (place_at t.machine.lock.places q) (turn_at ts q) (quiet q) (laws.in_turn q))) p one in
             omega (arith, listed_once);
       }
 

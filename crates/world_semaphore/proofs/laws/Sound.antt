@@ -1,6 +1,7 @@
 -- What always holds of a semaphore's World, as callers see it.
 use Rattle.world_semaphore.proofs.Prelude.{◌≡◌, ℕ, suc, ◌<◌, ◌≤◌, ◌⊎◌, inl, inr, Bool, true, false, List, [], ◌∷◌, length, Option, refl, arith, ap, sym, ◌∙◌, subst, list_all, marked_count, entries_of, Answer, Kind, Rest, Stage, Outside, Inside, Forgotten, Within, outside, inside, is_outside, is_outside_stage, both, stage_at, stands_as, Table, past_last, by_stage_or_past, by_stage_or_past_at, rest_seen, outside_at, outside_so, Place, Take, Retake, Ask, Remove, PassOn, Try, Lower, CancelRemove, Position, Out, Unlisted, Waiting, Holding, At, bit, pays, listed, waits, owes, size_at, debt_at, is_short, verdict, is_resting, Semaphore, IsSemaphore, IsAtRest, goes_with, runs, is_begun, position_at, sizes_of, available, standing_of, size_of, debt_of, view_of, IsSound, IsAwake, IsFreeAndWanted, is_at_rest, is_long_call, IsSemaphoreTable}
 use Rattle.world_base.proofs.Owing.{marked_or_owed}
+use Rattle.world_base.proofs.of_table.Resting.{all_at_rest}
 use Rattle.world_semaphore.proofs.of_machine.laws.Entries.{wanted_so}
 use Rattle.world_semaphore.proofs.of_machine.laws.Laws.{rests_waits, listed_known}
 use Rattle.world_semaphore.proofs.of_machine.laws.Locks.{one_listed}
@@ -42,10 +43,6 @@ resting (Outside Rest.Holding) (At y) g o = absurd (cc)
 resting (Outside Rest.Finished) (At y) g o = absurd (cc)
 resting (Inside w) x g o = absurd (cc)
 resting Forgotten x g o = absurd (cc)
-
-all_rest : (xs : List Position) → ((q : ℕ) → q < length xs → is_resting (position_at xs q) ≡ true) → IsAtRest xs
-all_rest [] h = tt
-all_rest (x ∷ xs) h = (h 0 (omega arith), all_rest xs (λ q i. h (suc q) (omega arith)))
 
 waits_so : (s : Stage) (x : Position) (d : Option Answer) → goes_with s x ≡ true → is_outside_stage s ≡ true → 0 < listed x → stands_as d s ≡ outside Rest.Pending
 waits_so (Outside Rest.Pending) x d g o l = refl
@@ -136,7 +133,7 @@ module _ (t : Table Semaphore) (laws : IsSemaphore t.machine) (fits : IsSemaphor
 
     pub awake : IsAwake (view_of t)
     awake = record {
-      marked = λ h. (let so = wanted_there h in laws.wakes (all_rest xs (λ q i. resting (stage_at t.stages q) (position_at xs q) (fits.stands q (omega (arith, i, fits.as_many))) (outside_at t.stages stages_rest q))) (wanted_so (sizes_of xs) t.machine.words.available so.0 t.machine.entries so.1 so.2));
+      marked = λ h. (let so = wanted_there h in laws.wakes (all_at_rest is_resting Out xs (λ q i. resting (stage_at t.stages q) (position_at xs q) (fits.stands q (omega (arith, i, fits.as_many))) (outside_at t.stages stages_rest q))) (wanted_so (sizes_of xs) t.machine.words.available so.0 t.machine.entries so.1 so.2));
       pending = λ q some. seen.stands_seen t q ∙ by_stage_or_past t.stages q (stands_as (verdict (position_at xs q)) (stage_at t.stages q) ≡ outside Rest.Pending)
           (λ past. (let out : listed (position_at xs q) ≡ 0 = ap listed (past_last xs q Out (omega (arith, past, fits.as_many))) in absurd (omega (arith, out, some, laws.owners q))))
           (λ inside. waits_so (stage_at t.stages q) (position_at xs q) (verdict (position_at xs q)) (fits.stands q inside) (outside_at t.stages stages_rest q) (omega (arith, some, laws.owners q)));

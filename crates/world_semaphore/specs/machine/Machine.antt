@@ -21,6 +21,7 @@ use Rattle.world_base.specs.declared.standing.Stage.TheVariants.{Outside, Inside
 use Rattle.world_base.specs.declared.standing.Within.{Within}
 use Rattle.world_base.specs.Standings.{inputs_of}
 use Rattle.world_base.specs.table.Ends.{answer_of}
+use Rattle.world_base.specs.table.Resting.{AreAtRest}
 use Rattle.sync_program.specs.declared.permits.Found.{Found}
 use Rattle.world_semaphore.specs.machine.Program.{Next}
 use Rattle.lock_program.specs.declared.end.Next.TheVariants as next
@@ -66,8 +67,7 @@ pub record IsKept (w : Words) (xs : List Position) (q : WeightedQueue) : Type 0 
 
 -- every party is outside the programs
 abbrev pub IsAtRest : List Position → Type 0
-IsAtRest [] = Unit {0}
-IsAtRest (x ∷ xs) = (is_resting x ≡ true) × IsAtRest xs
+IsAtRest xs = AreAtRest is_resting xs
 
 -- What callers may rest on: permits that are available, held and under way make up the limit; a party's entries are told by where it stands; whoever found too few permits wants some; at most one entry is marked; where as many permits are available as somebody waits for who has looked, some entry is marked or somebody owes the list as many; and at rest, where as many are available as some listed party wants, some entry is marked.
 pub record IsSemaphore (s : Semaphore) : Type 0 where

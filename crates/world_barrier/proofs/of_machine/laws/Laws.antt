@@ -1,7 +1,8 @@
 -- What always holds of a barrier, as callers see it.
-use Rattle.world_barrier.proofs.Prelude.{◌≡◌, ℕ, zero, suc, ◌<◌, true, false, List, [], ◌∷◌, refl, arith, sum_by, Entry, is_marked_at, IsMarkedFirst, is_party, entries_of, Queue, Course, holds, rests_there, Mutex, course_at, IsMutex, holders, LockAtRest, out_free, waiting_free, holding_holds, out_rests, waiting_rests, Arrive, NotifyAll, Position, Out, Made, Locking, Waiting, At, Progress, Words, fits_lock, in_lock, is_late, will_tell, is_resting, IsKept, IsAtRest, IsBarrier, AllTold, position_at, arrival_at}
+use Rattle.world_barrier.proofs.Prelude.{◌≡◌, ℕ, zero, suc, ◌<◌, true, false, List, [], ◌∷◌, refl, arith, sum_by, Entry, is_marked_at, IsMarkedFirst, is_party, entries_of, Queue, Course, holds, rests_there, Mutex, course_at, IsMutex, holders, out, out_free, waiting_free, holding_holds, out_rests, waiting_rests, Arrive, NotifyAll, Position, Out, Made, Locking, Waiting, At, Progress, Words, fits_lock, in_lock, is_late, will_tell, is_resting, IsKept, IsAtRest, IsBarrier, AllTold, position_at, arrival_at}
 use Rattle.std.proofs.lemmas.List.Sums.{sum_by-cons}
 use Rattle.world_base.proofs.of_queue.Marks.{else_marked}
+use Rattle.world_base.proofs.of_table.Resting.{all_at_rest, one_at_rest}
 
 -- a party without the inner lock is counted if it is listed, and is about to tell nobody
 free_late : (x : Position) (c : Course) → fits_lock (in_lock x) c ≡ true → holds c ≡ 0 → is_late x ≡ false
@@ -29,18 +30,9 @@ rest_rests Out c h link = out_rests c link
 rest_rests (Made a) c h link = out_rests c link
 rest_rests Waiting c h link = out_rests c link
 
-rest_at : (xs : List Position) → IsAtRest xs → (q : ℕ) → is_resting (position_at xs q) ≡ true
-rest_at [] h q = refl
-rest_at (x ∷ xs) h zero = h.0
-rest_at (x ∷ xs) h (suc q) = rest_at xs h.1 q
-
 none_hold : (cs : List Course) → ((q : ℕ) → holds (course_at cs q) ≡ 0) → sum_by holds cs ≡ 0
 none_hold [] h = refl
 none_hold (c ∷ cs) h = omega (arith, sum_by-cons holds c cs, h 0, none_hold cs (λ q. h (suc q)))
-
-all_rest : (cs : List Course) → ((q : ℕ) → rests_there (course_at cs q) ≡ true) → LockAtRest cs
-all_rest [] h = tt
-all_rest (c ∷ cs) h = (h zero, all_rest cs (λ q. h (suc q)))
 
 nobody_holds : (cs : List Course) → sum_by holds cs ≡ 0 → (q : ℕ) → holds (course_at cs q) ≡ 0
 nobody_holds [] e q = refl
@@ -55,7 +47,7 @@ told_while_free w xs rs l m told links free p some done = else_marked p l some (
 
 pub is_barrier : (w : Words) (xs : List Position) (rs : List Progress) (q : Queue) (m : Mutex) → IsKept w xs rs q m → IsMutex m → IsMarkedFirst q.entries → IsBarrier (record { words = w; positions = xs; arrivals = rs; entries = q.entries; lock = m })
 is_barrier w xs rs q m k mutex ordered =
-    let free : IsAtRest xs → holders m ≡ 0 = λ rest. none_hold m.courses (λ j. rest_free (position_at xs j) (course_at m.courses j) (rest_at xs rest j) (k.links j)) in
+    let free : IsAtRest xs → holders m ≡ 0 = λ rest. none_hold m.courses (λ j. rest_free (position_at xs j) (course_at m.courses j) (one_at_rest is_resting Out refl xs rest j) (k.links j)) in
     record {
       sound = k.sound;
       lock = mutex;
@@ -70,6 +62,6 @@ is_barrier w xs rs q m k mutex ordered =
       sure = k.sure;
       outcomes = k.outcomes;
       lock_free = free;
-      lock_wakes = λ rest. mutex.wakes (all_rest m.courses (λ j. rest_rests (position_at xs j) (course_at m.courses j) (rest_at xs rest j) (k.links j))) (free rest);
+      lock_wakes = λ rest. mutex.wakes (all_at_rest rests_there out m.courses (λ j i. rest_rests (position_at xs j) (course_at m.courses j) (one_at_rest is_resting Out refl xs rest j) (k.links j))) (free rest);
       told = told_while_free w xs rs q.entries m k.told k.links;
     }

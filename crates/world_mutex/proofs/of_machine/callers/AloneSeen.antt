@@ -1,5 +1,6 @@
 -- Polls in a row, each carried out alone while the lock is free, as those see them who build on a mutex.
 use Rattle.world_mutex.proofs.Prelude.{◌≡◌, ℕ, zero, suc, ◌<◌, ◌⊎◌, inl, inr, Bool, true, List, [], ◌∷◌, length, refl, sym, ap, arith, subst, ◌∙◌, sum_by, sum_by-cons, Entry, Starved, End, Pending, Refused, Next, Acts, Lock, place_at, Course, out, holding, waiting, reveal, Mutex, course_at, course_of, AreKept, seen, further}
+use Rattle.world_base.proofs.of_table.Resting.{one_at_rest}
 use Rattle.world_mutex.specs.machine.Acts as acts
 use Rattle.world_mutex.specs.machine.Solo as by
 use Rattle.world_mutex.specs.machine.Course.{listed, is_resting, is_waiting}
@@ -92,11 +93,6 @@ pending_at holding h there = absurd (omega arith)
 pending_at (waiting starved) h there = refl
 pending_at _ h there = absurd (cc)
 
-rests_at : (cs : List Course) (p : ℕ) → IsAtRest cs → is_resting (course_at cs p) ≡ true
-rests_at [] p h = refl
-rests_at (x ∷ xs) zero h = h.0
-rests_at (x ∷ xs) (suc p) h = rests_at xs p h.1
-
 module _ (m : Mutex) (laws : IsMutex m) (free : holders m ≡ 0) where
   module _ (s : IsSeen m) where
     law_there : by.SoloPolls (behind m)
@@ -147,6 +143,6 @@ solo_polls m laws free = record {
   some_called = λ rest some.
       let found = places.first_marked m.entries laws.in_order (laws.wakes rest free some) in
       let there : 0 < listed (course_at m.courses found.0) = omega (arith, laws.owners found.0, found.2) in
-      (found.0, (pending_at (course_at m.courses found.0) (rests_at m.courses found.0 rest) there, found.1));
+      (found.0, (pending_at (course_at m.courses found.0) (one_at_rest is_resting out refl m.courses rest found.0) there, found.1));
   one_takes = fewer_than_listed m laws free;
 }

@@ -1,7 +1,8 @@
 -- What always holds of a mutex, as callers see it.
 use Rattle.world_mutex.proofs.Prelude.{◌≡◌, ℕ, Bool, true, zero, suc, List, [], ◌∷◌, length, refl, ap, arith, sym, ◌∙◌, marked_count, IsMarkedFirst, Queue, Place, Out, Holding, Ask, AskStarved, Action, Found, Done, Free, Held, SomeStarved, AtLimit, NoMemory, Yes, No, Word, bit, counted, listed, waits, owes, is_resting, OnWord, OnList, Lock, IsLock, place_at, Finds, IsAtRest, IsMutex, ◌<◌, ◌⊎◌, inl, inr, is_waiting, is_due_there as is_due, Retry, PassOn, JoinStarved, LookAlone, PassOnListed, Seize, RefuseUncount, RefuseNotifyMemory, RefuseNotifyStarved, ReleaseNotify}
-use Rattle.world_base.specs.queue.Debts.{Roles, Rests, AllRest}
+use Rattle.world_base.specs.queue.Debts.{Roles, Rests}
 use Rattle.world_base.proofs.of_queue.Debts.{paid_at_rest}
+use Rattle.world_base.proofs.of_table.Resting.{one_at_rest, nothing_owed}
 use Rattle.world_base.proofs.Owing.{marked_or_owed}
 
 abbrev roles : Roles Place
@@ -15,10 +16,6 @@ rests Ask h = (refl, refl)
 rests AskStarved h = (refl, refl)
 rests _ h = absurd (cc)
 
-all_rest : (ps : List Place) → IsAtRest ps → AllRest roles ps
-all_rest [] h = tt
-all_rest (x ∷ xs) h = (rests x h.0, all_rest xs h.1)
-
 -- a starved party that rests is listed
 starved_rests : (x : Place) → is_resting x ≡ true → counted x ≡ 1 → listed x ≡ 1
 starved_rests AskStarved h c = refl
@@ -26,11 +23,6 @@ starved_rests Out h c = absurd (omega arith)
 starved_rests Holding h c = absurd (omega arith)
 starved_rests Ask h c = absurd (omega arith)
 starved_rests _ h c = absurd (cc)
-
-pub resting_at : (ps : List Place) (q : ℕ) → IsAtRest ps → is_resting (place_at ps q) ≡ true
-resting_at [] q h = refl
-resting_at (x ∷ xs) zero h = h.0
-resting_at (x ∷ xs) (suc q) h = resting_at xs q h.1
 
 -- who waits has looked since it joined, and who owes is due
 waits_so : (x : Place) → is_waiting x ≡ true → 0 < waits x
@@ -77,8 +69,8 @@ module _ (w : Word) (places : List Place) (list : Queue) where
         owners = lock.owners;
         in_order = ordered;
         told_or_due = λ free p waiting. told_or_due lock (omega (arith, free, lock.sound.held)) p waiting;
-        wakes = λ rest free some. paid_at_rest roles (bit w.held ≡ 0) places (length list.entries) (marked_count list.entries) (all_rest places rest) lock.sound.in_list lock.sound.owed (omega (arith, lock.sound.held)) some;
-        starved_listed = λ rest p counts. lock.owners p ∙ starved_rests (place_at places p) (resting_at places p rest) counts;
+        wakes = λ rest free some. paid_at_rest roles (bit w.held ≡ 0) places (length list.entries) (marked_count list.entries) (nothing_owed is_resting roles rests places rest) lock.sound.in_list lock.sound.owed (omega (arith, lock.sound.held)) some;
+        starved_listed = λ rest p counts. lock.owners p ∙ starved_rests (place_at places p) (one_at_rest is_resting Out refl places rest p) counts;
       }
 
   -- what an action found, said of the parties

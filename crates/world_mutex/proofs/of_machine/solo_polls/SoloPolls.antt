@@ -6,7 +6,7 @@ use Rattle.lock_event.proofs.Counts.{length-joined, length-without, marked_count
 use Rattle.world_base.proofs.of_queue.Rekeyed.{entries_of-joined, entries_of-mark_waiting, entries_of-without_own, entries_of-without_other}
 use Rattle.world_base.proofs.of_queue.Queues.{own_one, other_one}
 pub use Rattle.world_base.proofs.Bounds.{first_marked}
-use Rattle.world_mutex.proofs.of_machine.laws.Laws.{resting_at}
+use Rattle.world_base.proofs.of_table.Resting.{one_at_rest}
 use Rattle.world_mutex.proofs.of_machine.solo_polls.Solo.{Reached, Gives, Ends, polls_unstarved, polls_starved, polls_free}
 
 -- ---- Sums over the entries of a list, by their parties
@@ -269,6 +269,6 @@ solo_polls l mutex open_lock = record {
   some_called = λ rest some.
       let found = first_marked l.entries mutex.in_order (mutex.wakes rest open_lock some) in
       let there : 0 < listed (place_at l.places found.0) = omega (arith, mutex.owners found.0, found.2) in
-      (found.0, (pending_at (place_at l.places found.0) (resting_at l.places found.0 rest) there, found.1));
+      (found.0, (pending_at (place_at l.places found.0) (one_at_rest is_resting Out refl l.places rest found.0) there, found.1));
   one_takes = fewer_than_listed l mutex open_lock;
 }

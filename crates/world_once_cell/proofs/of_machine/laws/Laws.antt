@@ -1,7 +1,8 @@
 -- What always holds of a cell, as callers see it.
-use Rattle.world_once_cell.proofs.Prelude.{◌≡◌, ◌<◌, true, List, [], ◌∷◌, length, refl, arith, ap, marked_count, IsMarkedFirst, Queue, Position, At, Content, in_active, in_passive_at, waits, owes, is_resting, free_of, IsKept, IsAtRest, IsCell}
-use Rattle.world_base.specs.queue.Debts.{Roles, Rests, AllRest}
+use Rattle.world_once_cell.proofs.Prelude.{◌≡◌, ◌<◌, true, List, length, refl, arith, ap, marked_count, IsMarkedFirst, Queue, Position, At, Content, in_active, in_passive_at, waits, owes, is_resting, free_of, IsKept, IsCell}
+use Rattle.world_base.specs.queue.Debts.{Roles, Rests}
 use Rattle.world_base.proofs.of_queue.Debts.{paid_at_rest}
+use Rattle.world_base.proofs.of_table.Resting.{nothing_owed}
 use Rattle.world_once_cell.proofs.of_machine.laws.Locks.{fits_all, bounded_passive}
 
 abbrev roles : Roles Position
@@ -11,10 +12,6 @@ roles = record { listed = in_active; waits = waits; owes = owes }
 rests : (x : Position) → is_resting x ≡ true → Rests roles x
 rests (At place) h = absurd (cc)
 rests _ h = (refl, refl)
-
-all_rest : (xs : List Position) → IsAtRest xs → AllRest roles xs
-all_rest [] h = tt
-all_rest (x ∷ xs) h = (rests x h.0, all_rest xs h.1)
 
 is_free : (c : Content) → c ≡ Content.Empty → 0 < free_of c
 is_free c e = let one : free_of c ≡ 1 = ap free_of e in omega arith
@@ -27,7 +24,7 @@ is_cell c xs q r k ordered ordered_passive = record {
   active_in_order = ordered;
   passive_in_order = ordered_passive;
   owed = λ empty some. k.sound.owed (is_free c empty) some;
-  wakes = λ rest empty some. paid_at_rest roles (0 < free_of c) xs (length q.entries) (marked_count q.entries) (all_rest xs rest) k.sound.in_list k.sound.owed (is_free c empty) some;
+  wakes = λ rest empty some. paid_at_rest roles (0 < free_of c) xs (length q.entries) (marked_count q.entries) (nothing_owed is_resting roles rests xs rest) k.sound.in_list k.sound.owed (is_free c empty) some;
   active_told = k.active_told;
   passive_few = fits_all in_passive_at xs (length r.entries) bounded_passive k.passive_listed k.few;
   passive_told = k.passive_told;

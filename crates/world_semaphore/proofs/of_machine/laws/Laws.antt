@@ -1,5 +1,6 @@
 -- What always holds of a semaphore, as callers see it.
 use Rattle.world_semaphore.proofs.Prelude.{◌≡◌, ℕ, zero, suc, ◌<◌, ◌≤◌, true, List, [], ◌∷◌, length, get_or, refl, arith, sym, ◌∙◌, subst, sum_by, get_or-le-sum_by, sum_by-cons, marked_count, is_wanted, entries_of, WeightedQueue, past_last, same_test, Position, Out, Unlisted, Waiting, Holding, At, Words, bit, listed, waits, owes, size_at, is_short, is_resting, IsKept, IsAtRest, IsSemaphore, position_at, sizes_of}
+use Rattle.world_base.proofs.of_table.Resting.{one_at_rest}
 use Rattle.world_semaphore.proofs.of_machine.laws.Entries.{wanted_who}
 
 -- a resting party owes nothing, and waits for its size where it is listed
@@ -26,11 +27,6 @@ none_owing : (s : ℕ) (xs : List Position) → IsAtRest xs → sum_by (owes s) 
 none_owing s [] h = refl
 none_owing s (x ∷ xs) h = omega (arith, sum_by-cons (owes s) x xs, rests_owes s x h.0, none_owing s xs h.1)
 
-at_rest : (xs : List Position) (p : ℕ) → IsAtRest xs → p < length xs → is_resting (position_at xs p) ≡ true
-at_rest [] p h known = absurd (omega arith)
-at_rest (x ∷ xs) zero h known = h.0
-at_rest (x ∷ xs) (suc p) h known = at_rest xs p h.1 (omega arith)
-
 -- whoever is listed is in the table
 pub listed_known : (xs : List Position) (p : ℕ) → 0 < listed (position_at xs p) → p < length xs
 listed_known [] p some = absurd (omega arith)
@@ -44,7 +40,7 @@ module _ (w : Words) (xs : List Position) (q : WeightedQueue) (k : IsKept w xs q
       let p = who.0 in
       let there : 0 < listed (position_at xs p) = rw (← k.owners p) who.1 in
       let known : p < length xs = listed_known xs p there in
-      let resting : is_resting (position_at xs p) ≡ true = at_rest xs p rest known in
+      let resting : is_resting (position_at xs p) ≡ true = one_at_rest is_resting Out refl xs rest p in
       let s = sizes_of xs p in
       let some : 0 < s = k.some p (rests_short (position_at xs p) resting there) in
       let one : waits s (get_or xs p Out) ≡ 1 = rests_waits (position_at xs p) resting there in
