@@ -48,7 +48,7 @@ pub use Rattle.world_base.proofs.Lists.{joined_unmarked, joined_own, asked_own, 
 pub use Rattle.world_base.proofs.of_any_world.Runs.{Onward, along}
 pub use Rattle.world_base.proofs.of_table.Calls.{decides_so, undecided_so, call_seen, again_seen, stands_seen, decided_after, decision_seen}
 pub use Rattle.world_base.proofs.of_table.Past.{by_stage_or_past, by_stage_or_past_at, inside_or_past}
-pub use Rattle.world_base.proofs.of_table.Views.{outside_so, inside_as, rest_seen, outside_at, all_idle, standings_at, outside_stage}
+pub use Rattle.world_base.proofs.of_table.Views.{outside_so, none_decided, inside_as, rest_seen, outside_at, all_idle, standings_at, outside_stage}
 pub use Rattle.world_base.proofs.of_table.Ways.{way, by_way, acted, onward}
 pub use Rattle.world_mutex.specs.machine.Alone.{GaveWay, StandsBack, HasBegun, HasGoneOn, GoesOnAlone, last, further, PollsAlone, at_once, begun, Took, IsCalled, SoloPolls}
 pub use Rattle.world_mutex.specs.machine.Conduct.{IsLegal, IsReason, decided_then, IsAllowed as MayDo, HandsOn}

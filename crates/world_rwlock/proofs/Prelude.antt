@@ -55,7 +55,7 @@ pub use Rattle.world_base.proofs.of_any_world.Runs.{first_of, along, Onward}
 pub use Rattle.world_base.proofs.of_table.Calls.{call_seen, again_seen, decided_after, decision_seen, stands_seen}
 pub use Rattle.world_base.proofs.of_table.Mapped.{set_same, mapped_at, past_last, mapped_alike}
 pub use Rattle.world_base.proofs.of_table.Past.{inside_or_past, by_stage_or_past}
-pub use Rattle.world_base.proofs.of_table.Views.{outside_so, inside_as, rest_seen, outside_stage, outside_at, standings_at, length-standings, all_idle}
+pub use Rattle.world_base.proofs.of_table.Views.{outside_so, none_decided, inside_as, rest_seen, outside_stage, outside_at, standings_at, length-standings, all_idle}
 pub use Rattle.world_mutex.specs.machine.Conduct.{IsLegal, decided_then, IsReason, IsAllowed as MayDo, HandsOn}
 pub use Rattle.world_mutex.specs.machine.Course.{Course as TurnCourse, listed, out, holding, taking, releasing, undecided, called, counting, has_lock, gives_up as giving_up, is_out, is_holding, is_waiting, is_cancelling, is_releasing, is_due, counted, is_resting as rests_in_turn, holds, Takes, Tries, Releases, Cancels, is_counting, decision, waiting as waiting_there, is_taking, cancelling, may_tell, is_told}
 pub use Rattle.world_mutex.specs.machine.Deeds.{most_steps as most_turn_steps, decided_by}

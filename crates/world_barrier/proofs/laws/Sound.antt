@@ -1,5 +1,5 @@
 -- What always holds of a barrier's World, as callers see it.
-use Rattle.world_barrier.proofs.Prelude.{◌≡◌, ℕ, zero, suc, ◌+◌, ◌<◌, ◌≤◌, inl, inr, true, false, List, [], ◌∷◌, length, Option, Some, None, refl, arith, ap, sym, ◌∙◌, subst, list_all, is_marked_at, IsMarkedFirst, is_party, entries_of, Answer, Kind, Rest, Stage, Outside, Inside, Forgotten, Within, Standing, outside, inside, forgotten, is_outside, is_outside_stage, both, stage_at, stands_as, Table, by_stage_or_past, by_stage_or_past_at, rest_seen, outside_at, outside_so, Course, bit, starved_there, listed_there, rests_there, out as out_of_lock, course_at, LockAtRest, out_rests, waiting_rests, out_unlisted, holding_unlisted, listed_once, Aim, Ending, Place, EnterLock, WaitLock, TakeLock, Arrive, NotifyAll, Check, JoinAgain, ReleaseLock, ReleasingLock, Ask, CancelLeave, Abandon, Position, Out, Made, Locking, Waiting, At, Progress, Words, arrivals_at, IsFollower, fits_lock, in_lock, listed, follows, HasOutcome, Outcome, is_resting, counted, wait_for, wait_until, wait_at, Barrier, IsBarrier, HasArrived, IsAtRest, goes_with, is_begun, is_abandoning, runs, position_at, arrival_at, ListName, Lock, Generation, IsFinished, World, list_in, standing_of, wait_of, is_starved, verdict_in, view_of, HasItsOwn, IsSound, IsAwake, IsStillThere, is_at_rest, is_long_call, IsBarrierTable, ◌⊎◌, false≢true, marked_count, is_decided, taking, releasing, undecided, called, counting, has_lock, giving_up, is_out as is_out_there, is_holding, is_waiting, is_cancelling, is_due_there, CancelLock, CancellingLock, verdict, is_due, IsDue}
+use Rattle.world_barrier.proofs.Prelude.{◌≡◌, ℕ, zero, suc, ◌+◌, ◌<◌, ◌≤◌, inl, inr, true, false, List, [], ◌∷◌, length, Option, Some, None, refl, arith, ap, sym, ◌∙◌, subst, list_all, is_marked_at, IsMarkedFirst, is_party, entries_of, Answer, Kind, Rest, Stage, Outside, Inside, Forgotten, Within, Standing, outside, inside, forgotten, is_outside, is_outside_stage, both, stage_at, stands_as, Table, by_stage_or_past, by_stage_or_past_at, rest_seen, outside_at, outside_so, none_decided, Course, bit, starved_there, listed_there, rests_there, out as out_of_lock, course_at, LockAtRest, out_rests, waiting_rests, out_unlisted, holding_unlisted, listed_once, Aim, Ending, Place, EnterLock, WaitLock, TakeLock, Arrive, NotifyAll, Check, JoinAgain, ReleaseLock, ReleasingLock, Ask, CancelLeave, Abandon, Position, Out, Made, Locking, Waiting, At, Progress, Words, arrivals_at, IsFollower, fits_lock, in_lock, listed, follows, HasOutcome, Outcome, is_resting, counted, wait_for, wait_until, wait_at, Barrier, IsBarrier, HasArrived, IsAtRest, goes_with, is_begun, is_abandoning, runs, position_at, arrival_at, ListName, Lock, Generation, IsFinished, World, list_in, standing_of, wait_of, is_starved, verdict_in, view_of, HasItsOwn, IsSound, IsAwake, IsStillThere, is_at_rest, is_long_call, IsBarrierTable, ◌⊎◌, false≢true, marked_count, is_decided, taking, releasing, undecided, called, counting, has_lock, giving_up, is_out as is_out_there, is_holding, is_waiting, is_cancelling, is_due_there, CancelLock, CancellingLock, verdict, is_due, IsDue}
 use Rattle.world_base.proofs.of_table.Mapped.{past_last}
 use Rattle.world_base.proofs.of_table.Resting.{all_at_rest, one_at_rest}
 use Rattle.world_mutex.proofs.of_machine.callers.Holders as sees
@@ -213,15 +213,10 @@ due_unstarved (taking has_lock s l b) h none = absurd (cc h)
 due_unstarved releasing h none = refl
 due_unstarved _ h none = absurd (cc h)
 
-undecided_so : (s : Stage) → is_decided (stands_as None s) ≡ true → ⊥
-undecided_so (Inside w) h = cc h
-undecided_so (Outside r) h = cc h
-undecided_so Forgotten h = cc h
-
 polls_unlisted : (s : Stage) (a : Aim) (c : Course) → is_due_there c ≡ true → is_decided (stands_as (verdict (At (TakeLock a)) c) s) ≡ true → listed_there c ≡ 0
-polls_unlisted s a (taking undecided x l b) h d = absurd (undecided_so s d)
-polls_unlisted s a (taking called x l b) h d = absurd (undecided_so s d)
-polls_unlisted s a (taking counting x l b) h d = absurd (undecided_so s d)
+polls_unlisted s a (taking undecided x l b) h d = absurd (none_decided s d)
+polls_unlisted s a (taking called x l b) h d = absurd (none_decided s d)
+polls_unlisted s a (taking counting x l b) h d = absurd (none_decided s d)
 polls_unlisted s a (taking (giving_up r) x true b) h d = absurd (cc h)
 polls_unlisted s a (taking (giving_up r) x false b) h d = refl
 polls_unlisted s a (taking has_lock x l b) h d = absurd (cc h)
@@ -238,10 +233,10 @@ decided_by s _ c link h m d = absurd (cc (link, m.not_out, m.not_holding))
 
 decided_unlisted : (s : Stage) (x : Position) (c : Course) → fits_lock (in_lock x) c ≡ true → is_due_there c ≡ true → is_decided (stands_as (verdict x c) s) ≡ true → listed_there c ≡ 0
 decided_unlisted s (At y) c link h d = decided_by s y c link h (due_moves c h) d
-decided_unlisted s (Locking a) c link h d = absurd (undecided_so s d)
-decided_unlisted s Out c link h d = absurd (undecided_so s d)
-decided_unlisted s (Made a) c link h d = absurd (undecided_so s d)
-decided_unlisted s Waiting c link h d = absurd (undecided_so s d)
+decided_unlisted s (Locking a) c link h d = absurd (none_decided s d)
+decided_unlisted s Out c link h d = absurd (none_decided s d)
+decided_unlisted s (Made a) c link h d = absurd (none_decided s d)
+decided_unlisted s Waiting c link h d = absurd (none_decided s d)
 
 module _ (t : Table Barrier) (laws : IsBarrier t.machine) (fits : IsBarrierTable t) where
   abbrev xs : List Position

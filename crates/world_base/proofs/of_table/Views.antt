@@ -1,5 +1,5 @@
 -- How callers see the parties of a table, one by one.
-use Rattle.world_base.proofs.Prelude.{◌≡◌, ℕ, zero, suc, ◌+◌, ◌&&◌, true, List, [], ◌∷◌, length, get_or, replicate, Option, refl, arith, ap, ◌∙◌, list_all, Answer, Stage, Outside, Inside, Forgotten, Rest, Idle, Within, outside, inside, forgotten, is_outside, is_outside_stage, stage_at, stands_as, standings_from, standings}
+use Rattle.world_base.proofs.Prelude.{◌≡◌, ℕ, zero, suc, ◌+◌, ◌&&◌, true, List, [], ◌∷◌, length, get_or, replicate, Option, None, refl, arith, ap, ◌∙◌, list_all, Answer, Stage, Outside, Inside, Forgotten, Rest, Idle, Within, outside, inside, forgotten, is_outside, is_outside_stage, is_decided, stage_at, stands_as, standings_from, standings}
 use Rattle.world_base.proofs.Equations.{both}
 
 from_at : (n : ℕ) (verdict : ℕ → Option Answer) (ss : List Stage) (p : ℕ) → get_or (standings_from n verdict ss) p forgotten ≡ stands_as (verdict (n + p)) (stage_at ss p)
@@ -55,3 +55,9 @@ pub inside_as : (d : Option Answer) (s : Stage) (u : Within) (b : Option Answer)
 inside_as d (Outside r) u b h = absurd (cc h)
 inside_as d (Inside v) u b h = (cc h, cc h)
 inside_as d Forgotten u b h = absurd (cc h)
+
+-- no call is decided where none has its answer
+pub none_decided : (s : Stage) → is_decided (stands_as None s) ≡ true → ⊥
+none_decided (Inside w) h = cc h
+none_decided (Outside r) h = cc h
+none_decided Forgotten h = cc h
