@@ -46,7 +46,7 @@ pub use Rattle.world_base.specs.table.Tables.{Table, Keeps, Acted, new_table}
 pub use Rattle.world_base.proofs.Equations.{decided_inside, outside_says, inside_begins, both, some_eq, none_some, not_one, same_test}
 pub use Rattle.world_base.proofs.Lists.{joined_unmarked, joined_own, asked_own, asked_not, left_own, notified_own, unmarked_before}
 pub use Rattle.world_base.proofs.of_any_world.Runs.{Onward, along}
-pub use Rattle.world_base.proofs.of_table.Calls.{decides_so, undecided_so, call_seen, again_seen, stands_seen, decided_after, decision_seen}
+pub use Rattle.world_base.proofs.of_table.Calls.{within, decides_so, undecided_so, call_seen, again_seen, stands_seen, decided_after, decision_seen}
 pub use Rattle.world_base.proofs.of_table.Past.{by_stage_or_past, by_stage_or_past_at, inside_or_past}
 pub use Rattle.world_base.proofs.of_table.Views.{outside_so, none_decided, inside_as, rest_seen, outside_at, all_idle, standings_at, outside_stage}
 pub use Rattle.world_base.proofs.of_table.Ways.{way, by_way, acted, onward}

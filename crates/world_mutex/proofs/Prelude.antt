@@ -54,6 +54,7 @@ pub use Rattle.world_base.proofs.Lists.{notified_marked, joined_unmarked, counte
 pub use Rattle.world_base.proofs.of_any_world.Runs.{along, Onward, first_of, last_of, at_first}
 pub use Rattle.world_base.proofs.of_table.Mapped.{past_last, set_same, mapped_alike}
 pub use Rattle.world_base.proofs.of_table.Past.{by_stage_or_past_at, by_stage_or_past, by_stage}
+pub use Rattle.world_base.proofs.of_table.Calls.{within}
 pub use Rattle.world_base.proofs.of_table.Views.{outside_so, rest_seen, outside_stage, outside_at, length-standings, all_idle}
 pub use Rattle.world_base.proofs.of_table.Ways.{acted, way, by_way}
 pub use Rattle.world_mutex.specs.Bound.{IsSolo, GivesWay, SoloPoll, PassesOver, IsBounded, IsNotified, Promises}

@@ -39,7 +39,7 @@ pub use Rattle.world_base.specs.table.Tables.{Table, Keeps, Acted, new_table}
 pub use Rattle.world_base.proofs.Equations.{both, some_eq, none_some, finished_number, not_one, some_none}
 pub use Rattle.world_base.proofs.Lists.{counted, mark_some, CanList, joined_own, asked_own, asked_not, left_own, notified_own, notified_additionally_own, Counted, unmarked_before, notified_marked, joined_unmarked}
 pub use Rattle.world_base.proofs.of_queue.Marks.{else_marked, never_unlisted, all_marked}
-pub use Rattle.world_base.proofs.of_table.Calls.{call_seen, again_seen, stands_seen, decided_after, decision_seen, later_ends, decides_so, undecided_so}
+pub use Rattle.world_base.proofs.of_table.Calls.{within, call_seen, again_seen, stands_seen, decided_after, decision_seen, later_ends, decides_so, undecided_so}
 pub use Rattle.world_base.proofs.of_table.Mapped.{past_last, mapped_alike, mapped_at}
 pub use Rattle.world_base.proofs.of_table.Past.{by_stage_or_past, by_stage_or_past_at, by_stage}
 pub use Rattle.world_base.proofs.of_table.Views.{outside_so, rest_seen, outside_at, length-standings, all_idle, standings_at}

@@ -52,7 +52,7 @@ pub use Rattle.world_base.specs.table.Tables.{Table, Keeps, Called, new_table, I
 pub use Rattle.world_base.proofs.Equations.{decided_inside, outside_says, inside_begins, some_eq, is_some_and, none_some, chosen, same_test, other_test, both, some_none, outside_inside, is_granted, granted_eq, witness}
 pub use Rattle.world_base.proofs.Lists.{joined_unmarked, CanList, done, counted_by, own_by, others_by, notified_marked, others}
 pub use Rattle.world_base.proofs.of_any_world.Runs.{first_of, along, Onward}
-pub use Rattle.world_base.proofs.of_table.Calls.{call_seen, again_seen, decided_after, decision_seen, stands_seen}
+pub use Rattle.world_base.proofs.of_table.Calls.{within, call_seen, again_seen, decided_after, decision_seen, stands_seen}
 pub use Rattle.world_base.proofs.of_table.Mapped.{set_same, mapped_at, past_last, mapped_alike}
 pub use Rattle.world_base.proofs.of_table.Past.{inside_or_past, by_stage_or_past}
 pub use Rattle.world_base.proofs.of_table.Views.{outside_so, none_decided, inside_as, rest_seen, outside_stage, outside_at, standings_at, length-standings, all_idle}

@@ -44,7 +44,7 @@ pub use Rattle.world_base.specs.table.Tables.{Table, Keeps, Acted, new_table}
 pub use Rattle.world_base.proofs.Bounds.{marked_listed, some_listed}
 pub use Rattle.world_base.proofs.Equations.{both, same_test, some_eq, none_some, other_test, finished_number, not_one, outside_inside, chosen}
 pub use Rattle.world_base.proofs.Lists.{is_there, unlisted_unmarked, joined_unmarked}
-pub use Rattle.world_base.proofs.of_table.Calls.{call_seen, again_seen, stands_seen, decided_after, decision_seen, later_ends, decides_so, undecided_so}
+pub use Rattle.world_base.proofs.of_table.Calls.{within, call_seen, again_seen, stands_seen, decided_after, decision_seen, later_ends, decides_so, undecided_so}
 pub use Rattle.world_base.proofs.of_table.Mapped.{past_last, set_same, mapped_alike, mapped_at, sum_mapped}
 pub use Rattle.world_base.proofs.of_table.Past.{by_stage_or_past, by_stage_or_past_at, by_stage}
 pub use Rattle.world_base.proofs.of_table.Views.{outside_so, rest_seen, outside_at, all_idle, standings_at, outside_stage}

@@ -1,9 +1,6 @@
 -- What is so where a move begins or goes on.
-use Rattle.world_barrier.proofs.Prelude.{◌≡◌, ℕ, ◌||◌, Bool, true, false, Some, is_some, refl, arith, subst, Answer, Call, Inputs, What, Begin, Go, Kind, Rest, Stage, Outside, Inside, Forgotten, Within, inside, is_decided, is_drop, some_eq, both, not_one, stands_as, call_at, polls_again, decides_so, undecided_so, Course, Aim, Place, EnterLock, WaitLock, Ask, CancelLock, CancelLeave, Abandon, Position, Out, Made, Locking, Waiting, At, place_for, listed, wait_at, place_wait, verdict, verdict_of, knows, runs, is_begun, goes_with, wait_then, is_first_poll, is_later_poll}
+use Rattle.world_barrier.proofs.Prelude.{◌≡◌, ℕ, ◌||◌, Bool, true, false, Some, is_some, refl, arith, subst, Answer, Call, Inputs, What, Begin, Go, Kind, Rest, Stage, Outside, Inside, Forgotten, Within, within, inside, is_decided, is_drop, some_eq, both, not_one, stands_as, call_at, polls_again, decides_so, undecided_so, Course, Aim, Place, EnterLock, WaitLock, Ask, CancelLock, CancelLeave, Abandon, Position, Out, Made, Locking, Waiting, At, place_for, listed, wait_at, place_wait, verdict, verdict_of, knows, runs, is_begun, goes_with, wait_then, is_first_poll, is_later_poll}
 use Rattle.world_barrier.proofs.of_machine.stages.Starts.{Fits}
-
-abbrev pub the : Kind → Rest → Within
-the k r = record { kind = k; was = r }
 
 -- a place at which a call may begin, and one at which a party's wait isn't what it was before
 abbrev pub may_begin_at : Place → Bool
@@ -66,7 +63,7 @@ never_begun CancelLeave b h = cc b
 never_begun Abandon b h = cc b
 never_begun _ b h = cc h
 
-begins_wait : (r : Rest) (i : Inputs) → runs Kind.FirstPoll r (EnterLock Aim.Arrive) ≡ true → Here (Outside r) (Begin Call.Wait i) (the Kind.FirstPoll r) Out (EnterLock Aim.Arrive)
+begins_wait : (r : Rest) (i : Inputs) → runs Kind.FirstPoll r (EnterLock Aim.Arrive) ≡ true → Here (Outside r) (Begin Call.Wait i) (within Kind.FirstPoll r) Out (EnterLock Aim.Arrive)
 begins_wait r i g = record {
   fits = record { stands = refl; lock = refl; counted = λ h. h; sure = λ a v h. tt; outcome = λ a v h. tt; late = refl; tells = refl; runs = g };
   wait = λ n. refl;
@@ -80,7 +77,7 @@ begins_wait r i g = record {
   later = λ c h l. absurd (cc);
 }
 
-polls_made : (m : Aim) (i : Inputs) → Here (Outside Rest.Pending) (Begin Call.Poll i) (the Kind.LaterPoll Rest.Pending) (Made m) (EnterLock m)
+polls_made : (m : Aim) (i : Inputs) → Here (Outside Rest.Pending) (Begin Call.Poll i) (within Kind.LaterPoll Rest.Pending) (Made m) (EnterLock m)
 polls_made m i = record {
   fits = record { stands = refl; lock = refl; counted = λ h. h; sure = λ a v h. tt; outcome = λ a v h. tt; late = refl; tells = refl; runs = refl };
   wait = λ n. refl;
@@ -94,7 +91,7 @@ polls_made m i = record {
   later = λ c h l. absurd (omega arith);
 }
 
-polls_locking : (m : Aim) (i : Inputs) → Here (Outside Rest.Pending) (Begin Call.Poll i) (the Kind.LaterPoll Rest.Pending) (Locking m) (WaitLock m)
+polls_locking : (m : Aim) (i : Inputs) → Here (Outside Rest.Pending) (Begin Call.Poll i) (within Kind.LaterPoll Rest.Pending) (Locking m) (WaitLock m)
 polls_locking m i = record {
   fits = record { stands = refl; lock = refl; counted = λ h. h; sure = λ a v h. tt; outcome = λ a v h. tt; late = refl; tells = refl; runs = refl };
   wait = λ n. refl;
@@ -108,7 +105,7 @@ polls_locking m i = record {
   later = λ c h l. absurd (omega arith);
 }
 
-polls_waiting : (i : Inputs) → Here (Outside Rest.Pending) (Begin Call.Poll i) (the Kind.LaterPoll Rest.Pending) Waiting Ask
+polls_waiting : (i : Inputs) → Here (Outside Rest.Pending) (Begin Call.Poll i) (within Kind.LaterPoll Rest.Pending) Waiting Ask
 polls_waiting i = record {
   fits = record { stands = refl; lock = refl; counted = λ h. h; sure = λ a v h. tt; outcome = λ a v h. tt; late = refl; tells = refl; runs = refl };
   wait = λ n. refl;
@@ -122,7 +119,7 @@ polls_waiting i = record {
   later = λ c h l. refl;
 }
 
-drops_made : (m : Aim) (i : Inputs) → Here (Outside Rest.Pending) (Begin Call.Drop i) (the Kind.Drop Rest.Pending) (Made m) Abandon
+drops_made : (m : Aim) (i : Inputs) → Here (Outside Rest.Pending) (Begin Call.Drop i) (within Kind.Drop Rest.Pending) (Made m) Abandon
 drops_made m i = record {
   fits = record { stands = refl; lock = refl; counted = λ h. absurd (cc h); sure = λ a v h. tt; outcome = λ a v h. tt; late = refl; tells = refl; runs = refl };
   wait = λ n. refl;
@@ -136,7 +133,7 @@ drops_made m i = record {
   later = λ c h l. absurd (cc);
 }
 
-drops_locking : (m : Aim) (i : Inputs) → Here (Outside Rest.Pending) (Begin Call.Drop i) (the Kind.Drop Rest.Pending) (Locking m) CancelLock
+drops_locking : (m : Aim) (i : Inputs) → Here (Outside Rest.Pending) (Begin Call.Drop i) (within Kind.Drop Rest.Pending) (Locking m) CancelLock
 drops_locking m i = record {
   fits = record { stands = refl; lock = refl; counted = λ h. absurd (cc h); sure = λ a v h. tt; outcome = λ a v h. tt; late = refl; tells = refl; runs = refl };
   wait = λ n. refl;
@@ -150,7 +147,7 @@ drops_locking m i = record {
   later = λ c h l. absurd (cc);
 }
 
-drops_waiting : (i : Inputs) → Here (Outside Rest.Pending) (Begin Call.Drop i) (the Kind.Drop Rest.Pending) Waiting CancelLeave
+drops_waiting : (i : Inputs) → Here (Outside Rest.Pending) (Begin Call.Drop i) (within Kind.Drop Rest.Pending) Waiting CancelLeave
 drops_waiting i = record {
   fits = record { stands = refl; lock = refl; counted = λ h. h; sure = λ a v h. tt; outcome = λ a v h. tt; late = refl; tells = refl; runs = refl };
   wait = λ n. refl;
@@ -164,7 +161,7 @@ drops_waiting i = record {
   later = λ c h l. absurd (cc);
 }
 
-drops_finished : (i : Inputs) → Here (Outside Rest.Finished) (Begin Call.Drop i) (the Kind.Drop Rest.Finished) Out Abandon
+drops_finished : (i : Inputs) → Here (Outside Rest.Finished) (Begin Call.Drop i) (within Kind.Drop Rest.Finished) Out Abandon
 drops_finished i = record {
   fits = record { stands = refl; lock = refl; counted = λ h. h; sure = λ a v h. tt; outcome = λ a v h. tt; late = refl; tells = refl; runs = refl };
   wait = λ n. refl;

@@ -3,6 +3,10 @@ use Rattle.world_base.proofs.Prelude.{◌≡◌, ◌||◌, Bool, true, false, Op
 use Rattle.world_base.specs.declared.moves.Call.TheVariants.{Poll}
 use Rattle.world_base.specs.declared.standing.Kind.{Kind}
 
+-- a call of this kind, begun where its party stood so
+abbrev pub within : Kind → Rest → Within
+within k r = record { kind = k; was = r }
+
 -- the call that a move belongs to
 pub call_seen : (knows : Call → Bool) (d : Option Answer) (s : Stage) (what : What) → call_in knows (stands_as d s) what ≡ call_at knows s what
 call_seen knows d (Outside r) (Begin c i) = refl

@@ -1,7 +1,6 @@
 -- A whole poll of a pending party is one that the machine carries out alone.
-use Rattle.world_mutex.proofs.Prelude.{◌≡◌, ◌≢◌, ℕ, zero, suc, ◌<◌, Bool, true, false, [], ◌∷◌, ◌++◌, length, replicate, Option, Some, None, refl, sym, ap, ◌∙◌, subst, get_or-set_same, set-set, set, Answer, Call, Inputs, Move, What, Begin, Go, Kind, Rest, Stage, Outside, Inside, Forgotten, Within, Account, accounts_after, put_in, inputs_of, going_on, moves_of, answers_of, some_eq, is_some_and, beginning, stage_at, call_at, polls_again, stage_after, Table, Acted, acted, Action, End, LockCall, Next, Place, Acts, start_of, GoesOnAlone, last, step, PollsAlone, at_once, begun, BeginsPoll, Guarded, knows, place_of, answer_by, Carries, Moves, MovesBy, Runs, World, Steps, TableSteps}
+use Rattle.world_mutex.proofs.Prelude.{◌≡◌, ◌≢◌, ℕ, zero, suc, ◌<◌, Bool, true, false, [], ◌∷◌, ◌++◌, length, replicate, Option, Some, None, refl, sym, ap, ◌∙◌, subst, get_or-set_same, set-set, set, Answer, Call, Inputs, Move, What, Begin, Go, Kind, Rest, Stage, Outside, Inside, Forgotten, Within, within, Account, accounts_after, put_in, inputs_of, going_on, moves_of, answers_of, some_eq, is_some_and, beginning, stage_at, call_at, polls_again, stage_after, Table, Acted, acted, Action, End, LockCall, Next, Place, Acts, start_of, GoesOnAlone, last, step, PollsAlone, at_once, begun, BeginsPoll, Guarded, knows, place_of, answer_by, Carries, Moves, MovesBy, Runs, World, Steps, TableSteps}
 use Rattle.world_mutex.proofs.step.Stepping.{known_calls}
-use Rattle.world_mutex.proofs.table.Turns.{within}
 
 -- a later poll
 abbrev pub later : Within

@@ -1,5 +1,5 @@
 -- What a poll that is carried out alone does to a free lock, as callers see it.
-use Rattle.world_mutex.proofs.Prelude.{◌≡◌, ◌≢◌, ℕ, ◌<◌, ◌⊎◌, inl, inr, true, false, None, refl, sym, ap, ◌∙◌, subst, arith, set, list_all, entries_of, Answer, Call, Value, Inputs, Refusal, Rest, Outside, Account, how_many, is_outside_stage, moves_of, answers_of, marked_listed, stage_at, stage_after, Table, by_stage_or_past_at, rest_seen, outside_stage, End, Next, Place, IsMutex, IsStarved, starved, is_waiting, bit, holds, listed, IsCalled, Took, StandsBack, GaveWay, PollsAlone, is_counted, IsSolo, GivesWay, SoloPoll, Guarded, place_of, goes_with, answer_by, is_at_rest, Runs, World, is_starved, Stands, IsMutexTable, verdict, view_of, Kind}
+use Rattle.world_mutex.proofs.Prelude.{◌≡◌, ◌≢◌, ℕ, ◌<◌, ◌⊎◌, inl, inr, true, false, None, refl, sym, ap, ◌∙◌, subst, arith, set, list_all, entries_of, Answer, Call, Value, Inputs, Refusal, Rest, Outside, Account, how_many, is_outside_stage, moves_of, answers_of, marked_listed, stage_at, stage_after, Table, by_stage_or_past_at, rest_seen, outside_stage, End, Next, Place, IsMutex, IsStarved, starved, is_waiting, bit, holds, listed, IsCalled, Took, StandsBack, GaveWay, PollsAlone, is_counted, IsSolo, GivesWay, SoloPoll, Guarded, place_of, goes_with, answer_by, is_at_rest, Runs, World, is_starved, Stands, IsMutexTable, verdict, view_of, Kind, within}
 use Rattle.world_base.proofs.Rests.{still_outside}
 use Rattle.world_mutex.proofs.of_machine.solo_polls.Parts.{gave_way}
 use Rattle.world_mutex.proofs.of_machine.laws.Seen as sees
@@ -7,7 +7,6 @@ use Rattle.world_mutex.proofs.of_machine.solo_polls.SoloPolls.{solo_polls}
 use Rattle.world_mutex.specs.Bound.{Takes}
 use Rattle.world_mutex.proofs.bound.Alone.{Ended, polls_alone}
 use Rattle.world_mutex.proofs.table.Seen as seen
-use Rattle.world_mutex.proofs.table.Turns.{within}
 
 -- a pending party with an entry waits
 pub waits_listed : (x : Place) → goes_with (Outside Rest.Pending) x ≡ true → 0 < listed x → is_waiting x ≡ true

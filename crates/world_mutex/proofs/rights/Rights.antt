@@ -1,5 +1,5 @@
 -- After each step what is known tells the rights.
-use Rattle.world_mutex.proofs.Prelude.{◌≡◌, ◌≢◌, ℕ, ◌↔◌, true, false, Option, Some, None, is_some, refl, ap, sym, ◌∙◌, subst, ℕ_discrete, Answer, Call, Value, Inputs, Move, What, Begin, Go, Refusal, Kind, Rest, Stage, Outside, Inside, Within, Account, account_after, accounts_after, HasByAnswers, put_in, Standing, outside, inside, forgotten, is_outside, some_eq, none_some, same_test, other_test, StepsWell, stage_at, stands_as, call_at, polls_again, stage_after, Table, Acted, way, by_way, End, Found, LockCall, Next, Place, Out, Enter, Try, Ask, AskStarved, IsMutex, Takes, Tries, Cancels, GoesOn, next_of, Guarded, knows, Moves, MovesBy, is_within, is_try_kind, answer_by, place_of, goes_with, HasRight, IsSound, IsAwake, is_at_rest, HasItsOwn, Legal, accounts_of, right_by, TellsRights, HoldsWell, World, standing_of, IsMutexTable, TableSteps, verdict, view_of}
+use Rattle.world_mutex.proofs.Prelude.{◌≡◌, ◌≢◌, ℕ, ◌↔◌, true, false, Option, Some, None, is_some, refl, ap, sym, ◌∙◌, subst, ℕ_discrete, Answer, Call, Value, Inputs, Move, What, Begin, Go, Refusal, Kind, Rest, Stage, Outside, Inside, Within, within, Account, account_after, accounts_after, HasByAnswers, put_in, Standing, outside, inside, forgotten, is_outside, some_eq, none_some, same_test, other_test, StepsWell, stage_at, stands_as, call_at, polls_again, stage_after, Table, Acted, way, by_way, End, Found, LockCall, Next, Place, Out, Enter, Try, Ask, AskStarved, IsMutex, Takes, Tries, Cancels, GoesOn, next_of, Guarded, knows, Moves, MovesBy, is_within, is_try_kind, answer_by, place_of, goes_with, HasRight, IsSound, IsAwake, is_at_rest, HasItsOwn, Legal, accounts_of, right_by, TellsRights, HoldsWell, World, standing_of, IsMutexTable, TableSteps, verdict, view_of}
 use Rattle.world_base.specs.Rights.{Right, hold}
 use Rattle.world_base.specs.table.Rights.{account_by, sought_by}
 use Rattle.world_base.proofs.of_table.Acting.{stands}
@@ -8,7 +8,7 @@ use Rattle.world_mutex.proofs.of_machine.legal.Courses.{begins, goes}
 use Rattle.world_mutex.proofs.step.Acting as acting
 use Rattle.world_mutex.proofs.table.Seen as seen
 use Rattle.world_mutex.proofs.step.Stepping.{known_calls, carried}
-use Rattle.world_mutex.proofs.table.Turns.{within, Turn, turn, Puts, puts}
+use Rattle.world_mutex.proofs.table.Turns.{Turn, turn, Puts, puts}
 
 abbrev account_at : Standing → Option Right → Account
 account_at s r = account_by s (sought_by hold s) r

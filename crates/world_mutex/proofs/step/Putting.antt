@@ -1,11 +1,10 @@
 -- A put of the holder is a legal step: it leaves its value, and nothing else changes.
-use Rattle.world_mutex.proofs.Prelude.{◌≡◌, ◌≢◌, ℕ, ◌||◌, inl, inr, Bool, true, false, Some, refl, ap, sym, ◌∙◌, false≢true, true≢false, entries_of, Answer, Call, Value, Inputs, Move, Begin, Refusal, Kind, Rest, Outside, is_drop, is_poll_after_ready, outside, call_in, is_possible, is_decided, decided_on, refused, changes, some_eq, none_some, outside_inside, is_granted, granted_eq, stage_at, stands_as, Table, length-standings, IsMutex, bit, holds, is_holder, Guarded, knows, place_of, with_value, puts, is_first_poll, is_later_poll, call_of, HasItsOwn, World, standing_of, IsMutexTable, verdict, view_of}
+use Rattle.world_mutex.proofs.Prelude.{◌≡◌, ◌≢◌, ℕ, ◌||◌, inl, inr, Bool, true, false, Some, refl, ap, sym, ◌∙◌, false≢true, true≢false, entries_of, Answer, Call, Value, Inputs, Move, Begin, Refusal, Kind, Rest, Outside, is_drop, is_poll_after_ready, outside, call_in, is_possible, is_decided, decided_on, refused, changes, some_eq, none_some, outside_inside, is_granted, granted_eq, stage_at, stands_as, Table, length-standings, IsMutex, bit, holds, is_holder, Guarded, knows, place_of, with_value, puts, is_first_poll, is_later_poll, call_of, HasItsOwn, World, standing_of, IsMutexTable, verdict, view_of, within}
 use Rattle.world_base.proofs.of_table.Acting as acting
 use Rattle.world_mutex.proofs.of_machine.laws.Seen as sees
 use Rattle.world_mutex.proofs.step.Idle.{IsGood}
 use Rattle.world_mutex.proofs.step.Owns as owns
 use Rattle.world_mutex.proofs.table.Seen as seen
-use Rattle.world_mutex.proofs.table.Turns.{within}
 
 no_bit : (b : Bool) → (bit b ≡ 1 → ⊥) → bit b ≡ 0
 no_bit true h = absurd (h refl)

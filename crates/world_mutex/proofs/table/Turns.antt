@@ -1,9 +1,6 @@
 -- Where a call begins or goes on, and at which stage its party is after its action.
-use Rattle.world_mutex.proofs.Prelude.{◌≡◌, ℕ, true, false, Some, None, refl, ap, sym, ◌∙◌, subst, false≢true, Call, Inputs, What, Begin, Go, Refusal, Kind, Rest, Stage, Outside, Inside, Forgotten, Within, put_in, is_stepped, may_end, some_eq, none_some, call_at, polls_again, stage_after, End, Found, LockCall, Next, Place, Out, Holding, Enter, Try, Clear, CancelUncount, CancelLeave, Ask, AskStarved, is_waiting, Takes, Tries, Releases, Cancels, GoesOn, next_of, place_after, knows, goes_with, is_within, is_try_kind, place_for, answer_by}
+use Rattle.world_mutex.proofs.Prelude.{◌≡◌, ℕ, true, false, Some, None, refl, ap, sym, ◌∙◌, subst, false≢true, Call, Inputs, What, Begin, Go, Refusal, Kind, Rest, Stage, Outside, Inside, Forgotten, Within, within, put_in, is_stepped, may_end, some_eq, none_some, call_at, polls_again, stage_after, End, Found, LockCall, Next, Place, Out, Holding, Enter, Try, Clear, CancelUncount, CancelLeave, Ask, AskStarved, is_waiting, Takes, Tries, Releases, Cancels, GoesOn, next_of, place_after, knows, goes_with, is_within, is_try_kind, place_for, answer_by}
 use Rattle.world_mutex.proofs.of_machine.legal.Courses.{begins, goes}
-
-abbrev pub within : Kind → Rest → Within
-within k r = record { kind = k; was = r }
 
 -- The moves of a mutex's parties but puts: each call from where it may begin, and going on.
 pub record Moves (P : Stage → What → Within → Place → Place → Type 0) : Type 0 where

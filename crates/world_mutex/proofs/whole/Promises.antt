@@ -1,5 +1,5 @@
 -- What a whole call promises beside its end, and beside what a solo poll does: by what each of its steps does to the machine.
-use Rattle.world_mutex.proofs.Prelude.{◌≡◌, ◌≢◌, ℕ, ◌<◌, inl, inr, Bool, true, false, List, length, Some, refl, arith, ap, sym, ◌∙◌, subst, true≢false, Entry, marked_count, entries_of, Answer, Call, Value, Inputs, Move, What, Begin, Go, Kind, Rest, Stage, Outside, Within, Account, accounts_after, is_refusal, Refusal, how_many, outside, inputs_of, refused, going_on, moves_of, answers_of, some_eq, none_some, chosen, beginning, along, at_first, Onward, stage_at, call_at, Table, outside_stage, End, Next, Place, starved, is_waiting, is_counting, is_told, HeedsClock, decision, Promises, Guarded, knows, place_of, place_for, goes_with, answer_by, is_try_kind, is_first_poll, Runs, HoldsWell, World, standing_of, is_starved, is_free, Stands, Steps, verdict, view_of, MarksNobody}
+use Rattle.world_mutex.proofs.Prelude.{◌≡◌, ◌≢◌, ℕ, ◌<◌, inl, inr, Bool, true, false, List, length, Some, refl, arith, ap, sym, ◌∙◌, subst, true≢false, Entry, marked_count, entries_of, Answer, Call, Value, Inputs, Move, What, Begin, Go, Kind, Rest, Stage, Outside, Within, within, Account, accounts_after, is_refusal, Refusal, how_many, outside, inputs_of, refused, going_on, moves_of, answers_of, some_eq, none_some, chosen, beginning, along, at_first, Onward, stage_at, call_at, Table, outside_stage, End, Next, Place, starved, is_waiting, is_counting, is_told, HeedsClock, decision, Promises, Guarded, knows, place_of, place_for, goes_with, answer_by, is_try_kind, is_first_poll, Runs, HoldsWell, World, standing_of, is_starved, is_free, Stands, Steps, verdict, view_of, MarksNobody}
 use Rattle.world_mutex.proofs.of_machine.legal.Promised.{begins_uncounted, none_counted, HandsOn, told_on, begins_told}
 use Rattle.world_mutex.proofs.of_machine.laws.Seen as sees
 use Rattle.world_mutex.proofs.whole.Ring as ring
@@ -10,7 +10,6 @@ use Rattle.world_mutex.proofs.bound.AloneSeen.{waits_listed, poll_seen}
 use Rattle.world_mutex.proofs.bound.Sure.{notified_takes}
 use Rattle.world_mutex.proofs.step.Here.{BeginsOrGoes, same_roles}
 use Rattle.world_mutex.proofs.table.Seen as seen
-use Rattle.world_mutex.proofs.table.Turns.{within}
 use Rattle.world_mutex.proofs.whole.Patient.{is_too_many, refuses_many, calm, begins_calm}
 use Rattle.world_mutex.proofs.whole.Whole.{from_turn, by_step}
 

@@ -1,7 +1,6 @@
 -- A whole poll of a pending party is one that the machine carries out alone.
-use Rattle.world_rwlock.proofs.Prelude.{◌≡◌, ◌≢◌, ℕ, zero, suc, ◌<◌, Bool, true, [], ◌∷◌, ◌++◌, length, replicate, refl, sym, ap, ◌∙◌, subst, arith, get_or-set_same, length-set, set-set, set, End, Action, Place, Next, Answer, Call, Inputs, Move, What, Begin, Go, Kind, Rest, Stage, Outside, Inside, Forgotten, Within, Account, accounts_after, inputs_of, going_on, moves_of, answers_of, some_eq, is_some_and, stage_at, stage_after, call_at, polls_again, Table, start_of, place_at, Acts, GoesOnAlone, last, step, PollsAlone, at_once, begun, BeginsPoll, knows_at, Guarded, answer_by, Course, upgrades, course_of, is_on_course, World, Stands, Moved, Runs}
+use Rattle.world_rwlock.proofs.Prelude.{◌≡◌, ◌≢◌, ℕ, zero, suc, ◌<◌, Bool, true, [], ◌∷◌, ◌++◌, length, replicate, refl, sym, ap, ◌∙◌, subst, arith, get_or-set_same, length-set, set-set, set, End, Action, Place, Next, Answer, Call, Inputs, Move, What, Begin, Go, Kind, Rest, Stage, Outside, Inside, Forgotten, Within, within, Account, accounts_after, inputs_of, going_on, moves_of, answers_of, some_eq, is_some_and, stage_at, stage_after, call_at, polls_again, Table, start_of, place_at, Acts, GoesOnAlone, last, step, PollsAlone, at_once, begun, BeginsPoll, knows_at, Guarded, answer_by, Course, upgrades, course_of, is_on_course, World, Stands, Moved, Runs}
 use Rattle.world_rwlock.proofs.step.Acting.{Acting, acting, fit}
-use Rattle.world_rwlock.proofs.table.Begun.{within}
 use Rattle.world_rwlock.proofs.step.Idle.{Laws}
 use Rattle.world_rwlock.proofs.table.Kept.{walks}
 use Rattle.world_rwlock.proofs.step.Paths.{Keeps}

@@ -1,5 +1,5 @@
 -- What the answer to a party's own move tells of its right is how it stands then.
-use Rattle.world_rwlock.proofs.Prelude.{◌≡◌, ◌&&◌, ◌⊎◌, if◌then◌else◌, inl, inr, Bool, true, false, Option, Some, None, is_some, refl, ap, sym, ◌∙◌, subst, Refusal, Answer, Call, Inputs, What, Begin, Go, Kind, Rest, Within, Account, sought_after, takes_away, has_after, is_poll_after_ready, put_in, Right, Standing, outside, kind_of, may_begin, call_in, may_end, refused, leaves_as_it_was, StandsAfter, knows, is_long_call}
+use Rattle.world_rwlock.proofs.Prelude.{◌≡◌, ◌&&◌, ◌⊎◌, if◌then◌else◌, inl, inr, Bool, true, false, Option, Some, None, is_some, refl, ap, sym, ◌∙◌, subst, Refusal, Answer, Call, Inputs, What, Begin, Go, Kind, Rest, Within, within, Account, sought_after, takes_away, has_after, is_poll_after_ready, put_in, Right, Standing, outside, kind_of, may_begin, call_in, may_end, refused, leaves_as_it_was, StandsAfter, knows, is_long_call}
 use Rattle.world_base.specs.declared.moves.Got.{Got}
 
 -- a party that stands so has a right by its answers, unless it is forgotten
@@ -9,9 +9,6 @@ has_standing s = false
 
 abbrev pub account : Option Right → Bool → Account
 account s h = record { seeks = s; has = h }
-
-abbrev pub within : Kind → Rest → Within
-within k r = record { kind = k; was = r }
 
 if_same : (b : Bool) → (if b then false else false) ≡ false
 if_same true = refl

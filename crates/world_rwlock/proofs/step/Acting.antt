@@ -1,8 +1,8 @@
 -- An action of a party is a legal step, as callers see it.
-use Rattle.world_rwlock.proofs.Prelude.{◌≡◌, ℕ, ◌<◌, inl, inr, Bool, true, false, List, length, Option, Some, None, refl, ap, sym, ◌∙◌, subst, set, false≢true, cases_Bool, Answer, Call, Value, Move, What, Begin, Go, Refusal, Kind, Rest, Stage, Forgotten, Within, put_in, is_poll_after_ready, inputs_of, refused, some_eq, none_some, stage_at, call_at, polls_again, stage_after, Table, call_seen, again_seen, TurnCourse, turn_at, Next, Place, action_of, next_of, place_after, fits_turn, OnTurn, RwLock, place_at, Acts, knows, call_of, Legal, knows_at, Guarded, with_value, knows_there, answer_by, place_for, Does, MovesThere, sought_at, standing_of, TableSteps, verdict, view_of, set_same, inside_or_past, is_counting, DecidesOn, seen}
+use Rattle.world_rwlock.proofs.Prelude.{◌≡◌, ℕ, ◌<◌, inl, inr, Bool, true, false, List, length, Option, Some, None, refl, ap, sym, ◌∙◌, subst, set, false≢true, cases_Bool, Answer, Call, Value, Move, What, Begin, Go, Refusal, Kind, Rest, Stage, Forgotten, Within, within, put_in, is_poll_after_ready, inputs_of, refused, some_eq, none_some, stage_at, call_at, polls_again, stage_after, Table, call_seen, again_seen, TurnCourse, turn_at, Next, Place, action_of, next_of, place_after, fits_turn, OnTurn, RwLock, place_at, Acts, knows, call_of, Legal, knows_at, Guarded, with_value, knows_there, answer_by, place_for, Does, MovesThere, sought_at, standing_of, TableSteps, verdict, view_of, set_same, inside_or_past, is_counting, DecidesOn, seen}
 use Rattle.world_base.proofs.of_table.Ways as ways
 use Rattle.world_rwlock.proofs.of_machine.stages.Leads.{led, steps_in_turn}
-use Rattle.world_rwlock.proofs.table.Begun.{within, known_at}
+use Rattle.world_rwlock.proofs.table.Begun.{known_at}
 use Rattle.world_rwlock.proofs.table.Calls.{Moves, moving}
 use Rattle.world_rwlock.proofs.step.Facts as word
 use Rattle.world_rwlock.proofs.step.Facts.{Facts}

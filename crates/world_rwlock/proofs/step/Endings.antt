@@ -1,6 +1,5 @@
 -- What an action's answer says of its party's standing.
-use Rattle.world_rwlock.proofs.Prelude.{◌≡◌, ℕ, ◌⊎◌, Bool, true, false, Option, Some, None, refl, ◌∙◌, Answer, Kind, Rest, Within, is_refusal, outside, inside, End, Got, Granted, Pending, NotFree, GivenBack, Refused, TurnCourse, Next, Place, LookUnlisted, place_after, answer_by, Course, polls, tries, drops, downgrades, upgrades, tries_upgrade, course_of, is_on_course, is_upgrade, verdict, standing_at}
-use Rattle.world_rwlock.proofs.table.Begun.{within}
+use Rattle.world_rwlock.proofs.Prelude.{◌≡◌, ℕ, ◌⊎◌, Bool, true, false, Option, Some, None, refl, ◌∙◌, Answer, Kind, Rest, Within, within, is_refusal, outside, inside, End, Got, Granted, Pending, NotFree, GivenBack, Refused, TurnCourse, Next, Place, LookUnlisted, place_after, answer_by, Course, polls, tries, drops, downgrades, upgrades, tries_upgrade, course_of, is_on_course, is_upgrade, verdict, standing_at}
 use Rattle.world_rwlock.proofs.step.Paths.{ends_in, Keeps}
 use Rattle.world_rwlock.proofs.step.Rows.{verdict_then, KeepsUpgrade, RefusedAt, is_made}
 use Rattle.world_rwlock.proofs.table.Stages.{on_course, stage_then}

@@ -1,11 +1,10 @@
 -- A move that does nothing is a legal step: one that its party may not make, and a poll of a future that has been ready. And so is a put.
-use Rattle.world_rwlock.proofs.Prelude.{◌≡◌, ◌≢◌, ℕ, zero, suc, ◌<◌, ◌||◌, inl, inr, true, false, List, [], ◌∷◌, length, Option, Some, None, refl, arith, ap, sym, ◌∙◌, subst, get_or, set, false≢true, true≢false, Answer, Call, Value, Inputs, Move, What, Begin, Refusal, Kind, Rest, Stage, Outside, Inside, Forgotten, Within, sought_after, is_drop, is_poll_after_ready, is_refusal, put_in, Right, write, Standing, outside, inside, call_in, is_possible, refused, StandsAfter, is_decided, nothing, changes, some_eq, none_some, some_none, outside_inside, is_granted, granted_eq, stage_at, polls_again, Table, length-standings, TurnCourse, turn_at, Place, reads, has_turn, place_at, IsRwLock, puts, knows, knows_of, call_of, IsCause, HasItsOwn, HasSought, HasJust, Legal, Guarded, with_value, sought_at, goes_with, World, standing_of, sought_by, IsRwLockTable, verdict_of, verdict, standing_at, view_of}
+use Rattle.world_rwlock.proofs.Prelude.{◌≡◌, ◌≢◌, ℕ, zero, suc, ◌<◌, ◌||◌, inl, inr, true, false, List, [], ◌∷◌, length, Option, Some, None, refl, arith, ap, sym, ◌∙◌, subst, get_or, set, false≢true, true≢false, Answer, Call, Value, Inputs, Move, What, Begin, Refusal, Kind, Rest, Stage, Outside, Inside, Forgotten, Within, within, sought_after, is_drop, is_poll_after_ready, is_refusal, put_in, Right, write, Standing, outside, inside, call_in, is_possible, refused, StandsAfter, is_decided, nothing, changes, some_eq, none_some, some_none, outside_inside, is_granted, granted_eq, stage_at, polls_again, Table, length-standings, TurnCourse, turn_at, Place, reads, has_turn, place_at, IsRwLock, puts, knows, knows_of, call_of, IsCause, HasItsOwn, HasSought, HasJust, Legal, Guarded, with_value, sought_at, goes_with, World, standing_of, sought_by, IsRwLockTable, verdict_of, verdict, standing_at, view_of}
 use Rattle.world_base.specs.declared.moves.Got.{Got}
 use Rattle.world_base.specs.Standings.{decision}
 use Rattle.world_base.proofs.of_table.Idle as frame
 use Rattle.world_base.proofs.of_table.Idle.{Idle, same_decides}
 use Rattle.world_rwlock.specs.machine.Roles as roles
-use Rattle.world_rwlock.proofs.table.Begun.{within}
 use Rattle.world_rwlock.proofs.step.Owns as owns
 use Rattle.world_rwlock.proofs.table.Views as view
 use Rattle.world_rwlock.proofs.step.Decided.{decided}

@@ -1,10 +1,7 @@
 -- Which action each move carries out: one case for each call and each place at which a party may begin it, and one for a party that goes on.
-use Rattle.world_rwlock.proofs.Prelude.{◌≡◌, ◌&&◌, if◌then◌else◌, Bool, true, false, Some, None, refl, ap, subst, false≢true, and_parts, Call, Inputs, What, Begin, Go, Kind, Rest, Idle, Holding, Finished, Stage, Outside, Inside, Forgotten, Within, put_in, kind_of, may_begin, some_eq, none_some, some_none, call_at, polls_again, Wanted, Purpose, Ending, Place, first_poll, knows_at, may_upgrade, may_downgrade, may_put, place_for, sought_at, is_future, is_guard, is_inside, is_on_course, course_of, goes_with, knows}
+use Rattle.world_rwlock.proofs.Prelude.{◌≡◌, ◌&&◌, if◌then◌else◌, Bool, true, false, Some, None, refl, ap, subst, false≢true, and_parts, Call, Inputs, What, Begin, Go, Kind, Rest, Idle, Holding, Finished, Stage, Outside, Inside, Forgotten, Within, within, put_in, kind_of, may_begin, some_eq, none_some, some_none, call_at, polls_again, Wanted, Purpose, Ending, Place, first_poll, knows_at, may_upgrade, may_downgrade, may_put, place_for, sought_at, is_future, is_guard, is_inside, is_on_course, course_of, goes_with, knows}
 use Rattle.world_base.specs.declared.standing.Rest.TheVariants.{Pending}
 use Rattle.world_rwlock.specs.Stages.{is_out}
-
-abbrev pub within : Kind → Rest → Within
-within k r = record { kind = k; was = r }
 
 -- ---- the places of parties that are outside every call
 

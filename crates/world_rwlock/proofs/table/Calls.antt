@@ -1,7 +1,7 @@
 -- What each move does, as its party stands: where it acts, in which call, and what it seeks then.
-use Rattle.world_rwlock.proofs.Prelude.{◌≡◌, ℕ, true, false, Option, Some, None, refl, sym, ap, ◌∙◌, Answer, Call, Inputs, What, Begin, Go, Refusal, Kind, Rest, Stage, Outside, Within, aim, sought_after, is_drop, is_giving_back, put_in, Right, inside, is_decided, some_eq, NotFree, call_at, polls_again, TurnCourse, Wanted, Purpose, Ending, Next, Place, place_after, first_poll, SameRoles, knows_at, answer_by, sought_at, Course, tries_upgrade, course_of, is_on_course, is_inside, goes_with, share_of, is_upgrade, verdict, standing_at}
+use Rattle.world_rwlock.proofs.Prelude.{◌≡◌, ℕ, true, false, Option, Some, None, refl, sym, ap, ◌∙◌, Answer, Call, Inputs, What, Begin, Go, Refusal, Kind, Rest, Stage, Outside, Within, within, aim, sought_after, is_drop, is_giving_back, put_in, Right, inside, is_decided, some_eq, NotFree, call_at, polls_again, TurnCourse, Wanted, Purpose, Ending, Next, Place, place_after, first_poll, SameRoles, knows_at, answer_by, sought_at, Course, tries_upgrade, course_of, is_on_course, is_inside, goes_with, share_of, is_upgrade, verdict, standing_at}
 use Rattle.world_rwlock.proofs.of_machine.stages.Starts.{start_same}
-use Rattle.world_rwlock.proofs.table.Begun.{within, Turn, turn}
+use Rattle.world_rwlock.proofs.table.Begun.{Turn, turn}
 use Rattle.world_rwlock.proofs.step.Paths.{InVain, Seeks}
 use Rattle.world_rwlock.proofs.step.Rows.{lacks_memory}
 

@@ -1,9 +1,8 @@
 -- Each party may stand where it does after each action of one.
-use Rattle.world_rwlock.proofs.Prelude.{◌≡◌, ℕ, ◌<◌, ◌&&◌, if◌then◌else◌, Bool, true, false, length, Option, Some, None, IsSomeAnd, refl, sym, ap, subst, ◌∙◌, get_or-set_same, get_or-set_other, length-set, Answer, Call, Value, Inputs, What, Begin, Kind, Rest, Stage, Outside, Inside, Forgotten, Within, put_in, inputs_of, some_eq, none_some, witness, call_at, stage_after, Keeps as KeepsStanding, Called, turn_at, Next, Place, place_after, fits_turn, RwLock, place_at, Acts, IsRwLock, knows_at, may_put, Guarded, parties, place_of, knows_there as knows, answer_by, place_for, Acted, Does, MovesThere, course_of, is_on_course}
+use Rattle.world_rwlock.proofs.Prelude.{◌≡◌, ℕ, ◌<◌, ◌&&◌, if◌then◌else◌, Bool, true, false, length, Option, Some, None, IsSomeAnd, refl, sym, ap, subst, ◌∙◌, get_or-set_same, get_or-set_other, length-set, Answer, Call, Value, Inputs, What, Begin, Kind, Rest, Stage, Outside, Inside, Forgotten, Within, within, put_in, inputs_of, some_eq, none_some, witness, call_at, stage_after, Keeps as KeepsStanding, Called, turn_at, Next, Place, place_after, fits_turn, RwLock, place_at, Acts, IsRwLock, knows_at, may_put, Guarded, parties, place_of, knows_there as knows, answer_by, place_for, Acted, Does, MovesThere, course_of, is_on_course}
 use Rattle.world_base.specs.declared.moves.Answer.TheVariants.{Granted}
 use Rattle.world_rwlock.proofs.of_machine.stages.Leads.{led}
 use Rattle.world_rwlock.specs.Guarded.{Stands}
-use Rattle.world_rwlock.proofs.table.Begun.{within}
 use Rattle.world_rwlock.proofs.step.Paths.{Path, Keeps, Seeks, path}
 use Rattle.world_rwlock.proofs.table.Stages.{strays_not, stage_fits}
 use Rattle.world_rwlock.proofs.table.Calls.{Moves, moving}

@@ -1,6 +1,5 @@
 -- A party's stage, and what it seeks, go with its place after each action.
-use Rattle.world_rwlock.proofs.Prelude.{◌≡◌, ℕ, true, false, refl, and_parts, Refusal, Kind, Rest, Stage, Within, may_end, is_stepped, is_possible, End, Got, Granted, Pending, NotFree, GivenBack, Refused, stage_after, Next, Place, place_after, answer_by, Course, polls, tries, drops, downgrades, upgrades, tries_upgrade, strays, course_of, is_on_course, is_future, goes_with}
-use Rattle.world_rwlock.proofs.table.Begun.{within}
+use Rattle.world_rwlock.proofs.Prelude.{◌≡◌, ℕ, true, false, refl, and_parts, Refusal, Kind, Rest, Stage, Within, within, may_end, is_stepped, is_possible, End, Got, Granted, Pending, NotFree, GivenBack, Refused, stage_after, Next, Place, place_after, answer_by, Course, polls, tries, drops, downgrades, upgrades, tries_upgrade, strays, course_of, is_on_course, is_future, goes_with}
 use Rattle.world_rwlock.proofs.step.Paths.{ends_in, Keeps}
 
 -- ---- the calls of each course

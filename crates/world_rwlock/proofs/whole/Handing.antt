@@ -1,8 +1,8 @@
 -- A refused poll of a party that stood in a list leaves some entry of that list marked, unless the list is empty.
-use Rattle.world_rwlock.proofs.Prelude.{◌≡◌, ◌≢◌, ℕ, ◌<◌, ◌≤◌, Bool, true, false, List, [], ◌∷◌, length, Some, refl, arith, ap, sym, ◌∙◌, subst, get_or-set_same, ℕ_discrete, false≢true, nat_tests, Entry, marked_count, entries_of, Account, accounts_after, Answer, Call, Inputs, What, Begin, Go, Kind, Rest, Within, is_refusal, outside, inputs_of, Deed, nothing, changes, does, going_on, moves_of, answers_of, some_eq, beginning, along, Onward, Got, Granted, Pending, NotFree, GivenBack, Refused, call_at, polls_again, others, notified_marked, TurnCourse, is_waiting, is_told, listed, TurnStep, End, HandsOn, Mutex, turn_at, out_unlisted, holding_unlisted, Action, Found, Done, Writer, NoneLeft, Yes, Turn, Ending, Next, Place, Purpose, start_of, action_of, next_of, place_after, after_lock, in_no_writer, in_no_readers, has_turn, fits_turn, OnNoWriter, OnTurn, place_at, Change, entries_after, knows_at, answer_by, Runs, HoldsWell, is_future, ListName, for_the_turn, for_no_readers, for_no_writer, World, list_of, standing_of, Stands, Moved, view_of}
+use Rattle.world_rwlock.proofs.Prelude.{◌≡◌, ◌≢◌, ℕ, ◌<◌, ◌≤◌, Bool, true, false, List, [], ◌∷◌, length, Some, refl, arith, ap, sym, ◌∙◌, subst, get_or-set_same, ℕ_discrete, false≢true, nat_tests, Entry, marked_count, entries_of, Account, accounts_after, Answer, Call, Inputs, What, Begin, Go, Kind, Rest, Within, within, is_refusal, outside, inputs_of, Deed, nothing, changes, does, going_on, moves_of, answers_of, some_eq, beginning, along, Onward, Got, Granted, Pending, NotFree, GivenBack, Refused, call_at, polls_again, others, notified_marked, TurnCourse, is_waiting, is_told, listed, TurnStep, End, HandsOn, Mutex, turn_at, out_unlisted, holding_unlisted, Action, Found, Done, Writer, NoneLeft, Yes, Turn, Ending, Next, Place, Purpose, start_of, action_of, next_of, place_after, after_lock, in_no_writer, in_no_readers, has_turn, fits_turn, OnNoWriter, OnTurn, place_at, Change, entries_after, knows_at, answer_by, Runs, HoldsWell, is_future, ListName, for_the_turn, for_no_readers, for_no_writer, World, list_of, standing_of, Stands, Moved, view_of}
 use Rattle.world_mutex.proofs.of_machine.callers.Released.{released_marks}
 use Rattle.world_rwlock.proofs.step.Acting.{Acting, Way, impossible, over, puts, acts, way, acting, fit}
-use Rattle.world_rwlock.proofs.table.Begun.{within, at_future}
+use Rattle.world_rwlock.proofs.table.Begun.{at_future}
 use Rattle.world_rwlock.proofs.bound.Alone.{laws}
 use Rattle.world_rwlock.proofs.bound.AloneSeen.{at_stage, future}
 

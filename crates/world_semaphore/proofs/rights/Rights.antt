@@ -1,5 +1,5 @@
 -- After each step what is known tells the rights and the limit.
-use Rattle.world_semaphore.proofs.Prelude.{◌≡◌, ◌≢◌, ℕ, ◌+◌, ◌-◌, ◌<◌, ◌≤◌, ◌↔◌, ◌⊎◌, ◌==◌, if◌then◌else◌, inl, inr, Bool, true, false, get_or, length, Option, Some, None, is_some, refl, arith, ap, sym, ◌∙◌, subst, ℕ_discrete, sum_by, get_or-le-sum_by, Answer, Call, Inputs, Move, What, Begin, Go, Refusal, Kind, Rest, Stage, Outside, Inside, Forgotten, Within, Standing, outside, inside, forgotten, is_outside, refused, inputs_of, some_eq, same_test, other_test, StepsWell, stage_at, stands_as, call_at, polls_again, stage_after, Table, past_last, by_stage_or_past, Action, Found, Done, Left, Available, Yes, No, Place, Take, Retake, Join, Ask, Remove, Load, HandOn, PassOn, RefuseFit, Try, Lower, GiveBack, Raise, GiveAdded, FitAdded, CancelRemove, CancelLoad, FitGivenBack, Abandon, Position, Out, Unlisted, Waiting, Holding, At, Words, Next, action_of, next_of, position_after, Seat, Share, guard_of, seat_of, permits_of, permits_at, share_of, size_at, verdict, Deed, nothing, changes, does, takes, gives_back, forgets, raises, gives, deed_of, words_after, Finds, Semaphore, IsSemaphore, answer_by, position_at, knows, goes_with, runs, is_begun, is_polling, World, share_at, has_permits, standing_of, size_of, size_after, view_of, HasItsOwn, IsSound, IsAwake, is_at_rest, IsSemaphoreTable, TableSteps, Known, Tells, HoldsWell, accounts_of, learn, sizes_after, added_by, forgotten_by}
+use Rattle.world_semaphore.proofs.Prelude.{◌≡◌, ◌≢◌, ℕ, ◌+◌, ◌-◌, ◌<◌, ◌≤◌, ◌↔◌, ◌⊎◌, ◌==◌, if◌then◌else◌, inl, inr, Bool, true, false, get_or, length, Option, Some, None, is_some, refl, arith, ap, sym, ◌∙◌, subst, ℕ_discrete, sum_by, get_or-le-sum_by, Answer, Call, Inputs, Move, What, Begin, Go, Refusal, Kind, Rest, Stage, Outside, Inside, Forgotten, Within, within, Standing, outside, inside, forgotten, is_outside, refused, inputs_of, some_eq, same_test, other_test, StepsWell, stage_at, stands_as, call_at, polls_again, stage_after, Table, past_last, by_stage_or_past, Action, Found, Done, Left, Available, Yes, No, Place, Take, Retake, Join, Ask, Remove, Load, HandOn, PassOn, RefuseFit, Try, Lower, GiveBack, Raise, GiveAdded, FitAdded, CancelRemove, CancelLoad, FitGivenBack, Abandon, Position, Out, Unlisted, Waiting, Holding, At, Words, Next, action_of, next_of, position_after, Seat, Share, guard_of, seat_of, permits_of, permits_at, share_of, size_at, verdict, Deed, nothing, changes, does, takes, gives_back, forgets, raises, gives, deed_of, words_after, Finds, Semaphore, IsSemaphore, answer_by, position_at, knows, goes_with, runs, is_begun, is_polling, World, share_at, has_permits, standing_of, size_of, size_after, view_of, HasItsOwn, IsSound, IsAwake, is_at_rest, IsSemaphoreTable, TableSteps, Known, Tells, HoldsWell, accounts_of, learn, sizes_after, added_by, forgotten_by}
 use Rattle.world_base.specs.Accounts.{Account, account_after, HasByAnswers}
 use Rattle.world_base.specs.Rights.{Right, permit}
 use Rattle.world_base.specs.table.Rights.{account_by, sought_by, TellsAccounts}
@@ -33,12 +33,9 @@ pub record Accounted (s : Stage) (what : What) (w : Within) (x : Position) (from
   pub account : (f : Found) → Kept_at s what w x from f
   pub limit : (f : Found) → Counts_at what x from f
 
-abbrev the : Kind → Rest → Within
-the k r = record { kind = k; was = r }
-
-first_polls : (i : Inputs) (x : Place) (f : Found) → is_polling x ≡ true → Kept_at (Inside (the Kind.FirstPoll Rest.Idle)) (Go i) (the Kind.FirstPoll Rest.Idle) (At x) x f
+first_polls : (i : Inputs) (x : Place) (f : Found) → is_polling x ≡ true → Kept_at (Inside (within Kind.FirstPoll Rest.Idle)) (Go i) (within Kind.FirstPoll Rest.Idle) (At x) x f
 first_polls i (Take k true told) (Left a) h = refl
-first_polls i (Take k false true) (Left a) h = taken (Kept_by (Inside (the Kind.FirstPoll Rest.Idle)) (Go i) (the Kind.FirstPoll Rest.Idle) (At (Take k false true))) k a refl (λ none. refl)
+first_polls i (Take k false true) (Left a) h = taken (Kept_by (Inside (within Kind.FirstPoll Rest.Idle)) (Go i) (within Kind.FirstPoll Rest.Idle) (At (Take k false true))) k a refl (λ none. refl)
 first_polls i (Take k false false) (Left a) h = refl
 first_polls i (Take k true told) _ h = refl
 first_polls i (Take k false told) _ h = refl
@@ -59,9 +56,9 @@ first_polls i (PassOn k a) _ h = refl
 first_polls i (RefuseFit k a) _ h = refl
 first_polls i _ f h = absurd (cc h)
 
-later_polls : (i : Inputs) (x : Place) (f : Found) → is_polling x ≡ true → Kept_at (Inside (the Kind.LaterPoll Rest.Pending)) (Go i) (the Kind.LaterPoll Rest.Pending) (At x) x f
+later_polls : (i : Inputs) (x : Place) (f : Found) → is_polling x ≡ true → Kept_at (Inside (within Kind.LaterPoll Rest.Pending)) (Go i) (within Kind.LaterPoll Rest.Pending) (At x) x f
 later_polls i (Take k true told) (Left a) h = refl
-later_polls i (Take k false true) (Left a) h = taken (Kept_by (Inside (the Kind.LaterPoll Rest.Pending)) (Go i) (the Kind.LaterPoll Rest.Pending) (At (Take k false true))) k a refl (λ none. refl)
+later_polls i (Take k false true) (Left a) h = taken (Kept_by (Inside (within Kind.LaterPoll Rest.Pending)) (Go i) (within Kind.LaterPoll Rest.Pending) (At (Take k false true))) k a refl (λ none. refl)
 later_polls i (Take k false false) (Left a) h = refl
 later_polls i (Take k true told) _ h = refl
 later_polls i (Take k false told) _ h = refl
@@ -82,7 +79,7 @@ later_polls i (PassOn k a) _ h = refl
 later_polls i (RefuseFit k a) _ h = refl
 later_polls i _ f h = absurd (cc h)
 
-goes : (k : Kind) (r : Rest) (i : Inputs) (x : Place) (f : Found) → is_begun x ≡ true → runs k r x ≡ true → Kept_at (Inside (the k r)) (Go i) (the k r) (At x) x f
+goes : (k : Kind) (r : Rest) (i : Inputs) (x : Place) (f : Found) → is_begun x ≡ true → runs k r x ≡ true → Kept_at (Inside (within k r)) (Go i) (within k r) (At x) x f
 goes Kind.FirstPoll Rest.Idle i x f b h = first_polls i x f h
 goes Kind.LaterPoll Rest.Pending i x f b h = later_polls i x f h
 goes Kind.Add Rest.Idle i (Raise n) f b h = absurd (cc b)
@@ -130,27 +127,27 @@ goes_limit i (FitAdded a) Done b l h = refl
 goes_limit i (FitAdded a) _ b l h = refl
 goes_limit i _ f b l h = absurd (cc b)
 
-take_account : (i : Inputs) (k : ℕ) (f : Found) → Kept_at (Outside Rest.Idle) (Begin (Call.Acquire k) i) (the Kind.FirstPoll Rest.Idle) Out (Take k false false) f
+take_account : (i : Inputs) (k : ℕ) (f : Found) → Kept_at (Outside Rest.Idle) (Begin (Call.Acquire k) i) (within Kind.FirstPoll Rest.Idle) Out (Take k false false) f
 take_account i k (Left a) = refl
 take_account i k _ = refl
 
-poll_account : (i : Inputs) (k : ℕ) (f : Found) → Kept_at (Outside Rest.Pending) (Begin Call.Poll i) (the Kind.LaterPoll Rest.Pending) (Unlisted k) (Take k false false) f
+poll_account : (i : Inputs) (k : ℕ) (f : Found) → Kept_at (Outside Rest.Pending) (Begin Call.Poll i) (within Kind.LaterPoll Rest.Pending) (Unlisted k) (Take k false false) f
 poll_account i k (Left a) = refl
 poll_account i k _ = refl
 
-retake_account : (i : Inputs) (k : ℕ) (f : Found) → Kept_at (Outside Rest.Pending) (Begin Call.Poll i) (the Kind.LaterPoll Rest.Pending) (Waiting k) (Retake k) f
+retake_account : (i : Inputs) (k : ℕ) (f : Found) → Kept_at (Outside Rest.Pending) (Begin Call.Poll i) (within Kind.LaterPoll Rest.Pending) (Waiting k) (Retake k) f
 retake_account i k (Left a) = refl
 retake_account i k _ = refl
 
-try_account : (i : Inputs) (k : ℕ) (f : Found) → Kept_at (Outside Rest.Idle) (Begin (Call.TryAcquire k) i) (the Kind.Try Rest.Idle) Out (Try k) f
+try_account : (i : Inputs) (k : ℕ) (f : Found) → Kept_at (Outside Rest.Idle) (Begin (Call.TryAcquire k) i) (within Kind.Try Rest.Idle) Out (Try k) f
 try_account i k (Left a) = refl
 try_account i k _ = refl
 
-add_account : (n : ℕ) (i : Inputs) (f : Found) → Kept_at (Outside Rest.Idle) (Begin (Call.AddPermits n) i) (the Kind.Add Rest.Idle) Out (Raise n) f
+add_account : (n : ℕ) (i : Inputs) (f : Found) → Kept_at (Outside Rest.Idle) (Begin (Call.AddPermits n) i) (within Kind.Add Rest.Idle) Out (Raise n) f
 add_account n i Done = refl
 add_account n i _ = refl
 
-cancel_account : (i : Inputs) (k : ℕ) (f : Found) → Kept_at (Outside Rest.Pending) (Begin Call.Drop i) (the Kind.Drop Rest.Pending) (Waiting k) CancelRemove f
+cancel_account : (i : Inputs) (k : ℕ) (f : Found) → Kept_at (Outside Rest.Pending) (Begin Call.Drop i) (within Kind.Drop Rest.Pending) (Waiting k) CancelRemove f
 cancel_account i k Yes = refl
 cancel_account i k _ = refl
 

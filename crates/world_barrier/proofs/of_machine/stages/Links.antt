@@ -1,5 +1,5 @@
 -- Where a step in the inner lock leads its party: its place goes with its course there, and the stage of its call with its place.
-use Rattle.world_barrier.proofs.Prelude.{◌≡◌, ◌≢◌, ℕ, Bool, true, false, length, refl, ap, Inputs, Refusal, Kind, Rest, Inside, Within, stage_after, Course, Takes, Releases, Cancels, is_out, LockStep, End, Mutex, course_at, Action, Aim, Ending, Found, Place, EnterLock, WaitLock, TakeLock, Look, Join, Arrive, Complete, NotifyAll, Check, JoinAgain, ReleaseLock, ReleasingLock, Ask, CancelLock, CancellingLock, CancelLeave, Abandon, At, action_of, next_of, position_after, after_lock, after_cancel, after_release, released, OnLock, fits_lock, in_lock, runs, is_polling, is_begun, goes_with, answer_by}
+use Rattle.world_barrier.proofs.Prelude.{◌≡◌, ◌≢◌, ℕ, Bool, true, false, length, refl, ap, Inputs, Refusal, Kind, Rest, Inside, Within, within, stage_after, Course, Takes, Releases, Cancels, is_out, LockStep, End, Mutex, course_at, Action, Aim, Ending, Found, Place, EnterLock, WaitLock, TakeLock, Look, Join, Arrive, Complete, NotifyAll, Check, JoinAgain, ReleaseLock, ReleasingLock, Ask, CancelLock, CancellingLock, CancelLeave, Abandon, At, action_of, next_of, position_after, after_lock, after_cancel, after_release, released, OnLock, fits_lock, in_lock, runs, is_polling, is_begun, goes_with, answer_by}
 
 -- the action of this place is a step in the inner lock
 abbrev pub steps_in_lock : Place → Bool
@@ -153,9 +153,6 @@ links Abandon _ t to h same e = rw (same refl) e
 abbrev pub Lands : Within → Place → Found → Type 0
 Lands w x f = goes_with (stage_after Rest.Finished w (answer_by (next_of x f))) (position_after (next_of x f)) ≡ true
 
-abbrev pub the : Kind → Rest → Within
-the k r = record { kind = k; was = r }
-
 module _ (w : Within) (inside : (x : Place) → is_begun x ≡ true → is_polling x ≡ true → goes_with (Inside w) (At x) ≡ true) where
   takes_land : (a : Aim) (n : LockStep) (to : Course) → Takes n to → goes_with (stage_after Rest.Finished w (answer_by (after_lock a (Found.Lock n)))) (position_after (after_lock a (Found.Lock n))) ≡ true
   takes_land a LockStep.More to h = inside (TakeLock a) refl refl
@@ -204,11 +201,11 @@ module _ (w : Within) (inside : (x : Place) → is_begun x ≡ true → is_polli
   polls Ask _ to h k = refl
   polls _ f to h k = absurd (cc)
 
-cancel_lands : (n : LockStep) → goes_with (stage_after Rest.Finished (the Kind.Drop Rest.Pending) (answer_by (after_cancel (Found.Lock n)))) (position_after (after_cancel (Found.Lock n))) ≡ true
+cancel_lands : (n : LockStep) → goes_with (stage_after Rest.Finished (within Kind.Drop Rest.Pending) (answer_by (after_cancel (Found.Lock n)))) (position_after (after_cancel (Found.Lock n))) ≡ true
 cancel_lands LockStep.More = refl
 cancel_lands (LockStep.End e) = refl
 
-cancels : (x : Place) (f : Found) (to : Course) → Led x f to → runs Kind.Drop Rest.Pending x ≡ true → Lands (the Kind.Drop Rest.Pending) x f
+cancels : (x : Place) (f : Found) (to : Course) → Led x f to → runs Kind.Drop Rest.Pending x ≡ true → Lands (within Kind.Drop Rest.Pending) x f
 cancels CancelLock (Found.Lock n) to h k = cancel_lands n
 cancels CancelLock _ to h k = absurd h
 cancels CancellingLock (Found.Lock n) to h k = cancel_lands n
@@ -217,14 +214,14 @@ cancels CancelLeave f to h k = refl
 cancels Abandon f to h k = refl
 cancels _ f to h k = absurd (cc)
 
-abandons : (x : Place) (f : Found) → runs Kind.Drop Rest.Finished x ≡ true → Lands (the Kind.Drop Rest.Finished) x f
+abandons : (x : Place) (f : Found) → runs Kind.Drop Rest.Finished x ≡ true → Lands (within Kind.Drop Rest.Finished) x f
 abandons Abandon f k = refl
 abandons _ f k = absurd (cc)
 
-by_kind : (k : Kind) (r : Rest) (x : Place) (f : Found) (to : Course) → Led x f to → runs k r x ≡ true → Lands (the k r) x f
-by_kind Kind.FirstPoll Rest.Idle x f to h k = polls (the Kind.FirstPoll Rest.Idle) (λ y b p. rw b p) x f to h k
-by_kind Kind.FirstPoll Rest.Finished x f to h k = polls (the Kind.FirstPoll Rest.Finished) (λ y b p. rw b p) x f to h k
-by_kind Kind.LaterPoll Rest.Pending x f to h k = polls (the Kind.LaterPoll Rest.Pending) (λ y b p. rw b p) x f to h k
+by_kind : (k : Kind) (r : Rest) (x : Place) (f : Found) (to : Course) → Led x f to → runs k r x ≡ true → Lands (within k r) x f
+by_kind Kind.FirstPoll Rest.Idle x f to h k = polls (within Kind.FirstPoll Rest.Idle) (λ y b p. rw b p) x f to h k
+by_kind Kind.FirstPoll Rest.Finished x f to h k = polls (within Kind.FirstPoll Rest.Finished) (λ y b p. rw b p) x f to h k
+by_kind Kind.LaterPoll Rest.Pending x f to h k = polls (within Kind.LaterPoll Rest.Pending) (λ y b p. rw b p) x f to h k
 by_kind Kind.Drop Rest.Pending x f to h k = cancels x f to h k
 by_kind Kind.Drop Rest.Finished x f to h k = abandons x f k
 by_kind _ _ x f to h k = absurd (cc)

@@ -1,29 +1,26 @@
 -- Where a call begins or goes on, and at which stage its party is after its action.
-use Rattle.world_once_cell.proofs.Prelude.{◌≡◌, ◌&&◌, true, false, Some, refl, sym, subst, Call, Inputs, What, Begin, Go, Kind, Rest, Stage, Outside, Inside, Forgotten, Within, some_eq, none_some, both, call_at, polls_again, stage_after, Found, ListName, Active, Passive, Maker, Closure, Given, Place, Claim, ClaimListed, JoinActive, AskActive, LeaveToMake, Make, Fill, NotifyActive, NotifyPassive, Fail, FailNotify, LeaveFull, RefuseActive, Look, JoinPassive, LookListed, AskPassive, LeavePassive, RefusePassive, Try, TryFill, TryNotifyActive, TryNotifyPassive, CancelMake, CancelNotify, CancelLeave, Abandon, Position, Out, ToMake, WaitingToMake, Making, ToWait, Waiting, At, place_for, next_of, seat_of, seated, value_known, is_late, will_tell, knows, runs, is_polling, is_trying, is_cancelling, is_begun, goes_with, answer_by}
+use Rattle.world_once_cell.proofs.Prelude.{◌≡◌, ◌&&◌, true, false, Some, refl, sym, subst, Call, Inputs, What, Begin, Go, Kind, Rest, Stage, Outside, Inside, Forgotten, Within, within, some_eq, none_some, both, call_at, polls_again, stage_after, Found, ListName, Active, Passive, Maker, Closure, Given, Place, Claim, ClaimListed, JoinActive, AskActive, LeaveToMake, Make, Fill, NotifyActive, NotifyPassive, Fail, FailNotify, LeaveFull, RefuseActive, Look, JoinPassive, LookListed, AskPassive, LeavePassive, RefusePassive, Try, TryFill, TryNotifyActive, TryNotifyPassive, CancelMake, CancelNotify, CancelLeave, Abandon, Position, Out, ToMake, WaitingToMake, Making, ToWait, Waiting, At, place_for, next_of, seat_of, seated, value_known, is_late, will_tell, knows, runs, is_polling, is_trying, is_cancelling, is_begun, goes_with, answer_by}
 use Rattle.std.proofs.lemmas.Bool.{false≢true}
 use Rattle.sync_program.specs.declared.once_cell.Found.TheVariants as found
 use Rattle.world_once_cell.proofs.of_machine.laws.Kept.{after}
 
-abbrev pub the : Kind → Rest → Within
-the k r = record { kind = k; was = r }
-
 -- The moves of a cell's parties: each call from where it may begin, and going on.
 pub record Moves (P : Stage → What → Within → Position → Place → Type 0) : Type 0 where
-  pub initialize : (r : Rest) (i : Inputs) → goes_with (Outside r) Out ≡ true → runs Kind.FirstPoll r (Claim Closure false) ≡ true → P (Outside r) (Begin Call.Initialize i) (the Kind.FirstPoll r) Out (Claim Closure false)
-  pub set : (v : _) (r : Rest) (i : Inputs) → goes_with (Outside r) Out ≡ true → runs Kind.FirstPoll r (Claim (Given v) false) ≡ true → P (Outside r) (Begin (Call.Set v) i) (the Kind.FirstPoll r) Out (Claim (Given v) false)
-  pub wait : (r : Rest) (i : Inputs) → goes_with (Outside r) Out ≡ true → runs Kind.FirstPoll r (Look false) ≡ true → P (Outside r) (Begin Call.Wait i) (the Kind.FirstPoll r) Out (Look false)
-  pub try : (v : _) (r : Rest) (i : Inputs) → goes_with (Outside r) Out ≡ true → runs Kind.Try r (Try v) ≡ true → P (Outside r) (Begin (Call.TrySet v) i) (the Kind.Try r) Out (Try v)
-  pub poll : (k : Maker) (i : Inputs) → P (Outside Rest.Pending) (Begin Call.Poll i) (the Kind.LaterPoll Rest.Pending) (ToMake k) (Claim k false)
-  pub poll_listed : (k : Maker) (i : Inputs) → P (Outside Rest.Pending) (Begin Call.Poll i) (the Kind.LaterPoll Rest.Pending) (WaitingToMake k) (AskActive k)
-  pub poll_maker : (k : Maker) (i : Inputs) → P (Outside Rest.Pending) (Begin Call.Poll i) (the Kind.LaterPoll Rest.Pending) (Making k) (Make k)
-  pub poll_wait : (i : Inputs) → P (Outside Rest.Pending) (Begin Call.Poll i) (the Kind.LaterPoll Rest.Pending) ToWait (Look false)
-  pub poll_waiting : (i : Inputs) → P (Outside Rest.Pending) (Begin Call.Poll i) (the Kind.LaterPoll Rest.Pending) Waiting AskPassive
-  pub cancel : (k : Maker) (i : Inputs) → P (Outside Rest.Pending) (Begin Call.Drop i) (the Kind.Drop Rest.Pending) (WaitingToMake k) (CancelLeave Active)
-  pub cancel_maker : (k : Maker) (i : Inputs) → P (Outside Rest.Pending) (Begin Call.Drop i) (the Kind.Drop Rest.Pending) (Making k) CancelMake
-  pub cancel_wait : (i : Inputs) → P (Outside Rest.Pending) (Begin Call.Drop i) (the Kind.Drop Rest.Pending) Waiting (CancelLeave Passive)
-  pub abandon : (k : Maker) (i : Inputs) → P (Outside Rest.Pending) (Begin Call.Drop i) (the Kind.Drop Rest.Pending) (ToMake k) Abandon
-  pub abandon_wait : (i : Inputs) → P (Outside Rest.Pending) (Begin Call.Drop i) (the Kind.Drop Rest.Pending) ToWait Abandon
-  pub drop_finished : (i : Inputs) → P (Outside Rest.Finished) (Begin Call.Drop i) (the Kind.Drop Rest.Finished) Out Abandon
+  pub initialize : (r : Rest) (i : Inputs) → goes_with (Outside r) Out ≡ true → runs Kind.FirstPoll r (Claim Closure false) ≡ true → P (Outside r) (Begin Call.Initialize i) (within Kind.FirstPoll r) Out (Claim Closure false)
+  pub set : (v : _) (r : Rest) (i : Inputs) → goes_with (Outside r) Out ≡ true → runs Kind.FirstPoll r (Claim (Given v) false) ≡ true → P (Outside r) (Begin (Call.Set v) i) (within Kind.FirstPoll r) Out (Claim (Given v) false)
+  pub wait : (r : Rest) (i : Inputs) → goes_with (Outside r) Out ≡ true → runs Kind.FirstPoll r (Look false) ≡ true → P (Outside r) (Begin Call.Wait i) (within Kind.FirstPoll r) Out (Look false)
+  pub try : (v : _) (r : Rest) (i : Inputs) → goes_with (Outside r) Out ≡ true → runs Kind.Try r (Try v) ≡ true → P (Outside r) (Begin (Call.TrySet v) i) (within Kind.Try r) Out (Try v)
+  pub poll : (k : Maker) (i : Inputs) → P (Outside Rest.Pending) (Begin Call.Poll i) (within Kind.LaterPoll Rest.Pending) (ToMake k) (Claim k false)
+  pub poll_listed : (k : Maker) (i : Inputs) → P (Outside Rest.Pending) (Begin Call.Poll i) (within Kind.LaterPoll Rest.Pending) (WaitingToMake k) (AskActive k)
+  pub poll_maker : (k : Maker) (i : Inputs) → P (Outside Rest.Pending) (Begin Call.Poll i) (within Kind.LaterPoll Rest.Pending) (Making k) (Make k)
+  pub poll_wait : (i : Inputs) → P (Outside Rest.Pending) (Begin Call.Poll i) (within Kind.LaterPoll Rest.Pending) ToWait (Look false)
+  pub poll_waiting : (i : Inputs) → P (Outside Rest.Pending) (Begin Call.Poll i) (within Kind.LaterPoll Rest.Pending) Waiting AskPassive
+  pub cancel : (k : Maker) (i : Inputs) → P (Outside Rest.Pending) (Begin Call.Drop i) (within Kind.Drop Rest.Pending) (WaitingToMake k) (CancelLeave Active)
+  pub cancel_maker : (k : Maker) (i : Inputs) → P (Outside Rest.Pending) (Begin Call.Drop i) (within Kind.Drop Rest.Pending) (Making k) CancelMake
+  pub cancel_wait : (i : Inputs) → P (Outside Rest.Pending) (Begin Call.Drop i) (within Kind.Drop Rest.Pending) Waiting (CancelLeave Passive)
+  pub abandon : (k : Maker) (i : Inputs) → P (Outside Rest.Pending) (Begin Call.Drop i) (within Kind.Drop Rest.Pending) (ToMake k) Abandon
+  pub abandon_wait : (i : Inputs) → P (Outside Rest.Pending) (Begin Call.Drop i) (within Kind.Drop Rest.Pending) ToWait Abandon
+  pub drop_finished : (i : Inputs) → P (Outside Rest.Finished) (Begin Call.Drop i) (within Kind.Drop Rest.Finished) Out Abandon
   pub go : (w : Within) (x : Place) (i : Inputs) → is_begun x ≡ true → runs w.kind w.was x ≡ true → P (Inside w) (Go i) w (At x) x
 
 -- where a move begins, and what is so there
@@ -164,7 +161,7 @@ module _ (w : Within) (inside : (x : Place) → is_begun x && is_polling x ≡ t
   polls RefusePassive f h = refl
   polls _ f h = absurd (false≢true h)
 
-tries : (r : Rest) → goes_with (Outside r) Out ≡ true → ((x : Place) → is_begun x && is_trying x ≡ true → goes_with (Inside (the Kind.Try r)) (At x) ≡ true) → (x : Place) (f : Found) → is_trying x ≡ true → Lands (the Kind.Try r) x f
+tries : (r : Rest) → goes_with (Outside r) Out ≡ true → ((x : Place) → is_begun x && is_trying x ≡ true → goes_with (Inside (within Kind.Try r)) (At x) ≡ true) → (x : Place) (f : Found) → is_trying x ≡ true → Lands (within Kind.Try r) x f
 tries r g inside (Try v) found.Empty h = inside (TryFill v) refl
 tries r g inside (Try v) _ h = g
 tries r g inside (TryFill v) f h = inside (TryNotifyActive v) refl
@@ -172,21 +169,21 @@ tries r g inside (TryNotifyActive v) f h = inside (TryNotifyPassive v) refl
 tries r g inside (TryNotifyPassive v) f h = g
 tries r g inside _ f h = absurd (false≢true h)
 
-cancels : (x : Place) (f : Found) → is_cancelling x ≡ true → Lands (the Kind.Drop Rest.Pending) x f
+cancels : (x : Place) (f : Found) → is_cancelling x ≡ true → Lands (within Kind.Drop Rest.Pending) x f
 cancels CancelMake f h = refl
 cancels CancelNotify f h = refl
 cancels (CancelLeave list) f h = refl
 cancels Abandon f h = refl
 cancels _ f h = absurd (false≢true h)
 
-abandons : (x : Place) (f : Found) → runs Kind.Drop Rest.Finished x ≡ true → Lands (the Kind.Drop Rest.Finished) x f
+abandons : (x : Place) (f : Found) → runs Kind.Drop Rest.Finished x ≡ true → Lands (within Kind.Drop Rest.Finished) x f
 abandons Abandon f h = refl
 abandons _ f h = absurd (false≢true h)
 
-by_kind : (k : Kind) (r : Rest) (x : Place) (f : Found) → runs k r x ≡ true → Lands (the k r) x f
-by_kind Kind.FirstPoll Rest.Idle x f h = polls (the Kind.FirstPoll Rest.Idle) (λ y p. p) x f h
-by_kind Kind.FirstPoll Rest.Finished x f h = polls (the Kind.FirstPoll Rest.Finished) (λ y p. p) x f h
-by_kind Kind.LaterPoll Rest.Pending x f h = polls (the Kind.LaterPoll Rest.Pending) (λ y p. p) x f h
+by_kind : (k : Kind) (r : Rest) (x : Place) (f : Found) → runs k r x ≡ true → Lands (within k r) x f
+by_kind Kind.FirstPoll Rest.Idle x f h = polls (within Kind.FirstPoll Rest.Idle) (λ y p. p) x f h
+by_kind Kind.FirstPoll Rest.Finished x f h = polls (within Kind.FirstPoll Rest.Finished) (λ y p. p) x f h
+by_kind Kind.LaterPoll Rest.Pending x f h = polls (within Kind.LaterPoll Rest.Pending) (λ y p. p) x f h
 by_kind Kind.Try Rest.Idle x f h = tries Rest.Idle refl (λ y p. p) x f h
 by_kind Kind.Try Rest.Finished x f h = tries Rest.Finished refl (λ y p. p) x f h
 by_kind Kind.Drop Rest.Pending x f h = cancels x f h
