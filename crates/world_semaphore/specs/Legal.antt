@@ -11,7 +11,7 @@ use Rattle.world_base.specs.declared.moves.Got.{Got}
 use Rattle.world_base.specs.declared.moves.Got.TheVariants.{Plain}
 use Rattle.world_base.specs.declared.moves.Move.{Move}
 use Rattle.world_base.specs.declared.moves.What.{What}
-use Rattle.world_base.specs.declared.moves.What.TheVariants.{Begin, Go}
+use Rattle.world_base.specs.declared.moves.What.TheVariants.{Begin}
 use Rattle.lock_program.specs.declared.refusal.Refusal.{Refusal}
 use Rattle.lock_program.specs.declared.refusal.Refusal.TheVariants as refusal
 use Rattle.world_base.specs.declared.standing.Kind.{Kind}
@@ -24,7 +24,7 @@ use Rattle.world_base.specs.Frame.{is_drop, is_giving_back, is_refusal}
 use Rattle.world_semaphore.specs.machine.Seats.{nothing_had, guard_of, nothing_owed, a_look, a_fit}
 use Rattle.world_semaphore.specs.machine.Deeds.{Deed, ListFunction, nothing, changes, does, joins, asks, removes, fits, takes, gives_back, forgets, raises, gives, limit_after, share_after, entries_after}
 use Rattle.world_semaphore.specs.machine.Machine.{knows}
-use Rattle.world_semaphore.specs.State.{State, World, share_at, has_permits, available, standing_of, size_of, debt_of, mark_of}
+use Rattle.world_semaphore.specs.State.{State, World, share_at, available, standing_of, size_of, debt_of, mark_of}
 
 -- The call that a move belongs to, where its party may make it.
 abbrev pub call_of : World → Move → Option Within

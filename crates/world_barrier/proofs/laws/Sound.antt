@@ -1,5 +1,5 @@
 -- What always holds of a barrier's World, as callers see it.
-use Rattle.world_barrier.proofs.Prelude.{◌≡◌, ℕ, zero, suc, ◌+◌, ◌<◌, ◌≤◌, inl, inr, true, false, List, [], ◌∷◌, length, Option, Some, None, refl, arith, ap, sym, ◌∙◌, subst, list_all, is_marked_at, IsMarkedFirst, is_party, entries_of, Answer, Kind, Rest, Stage, Outside, Inside, Forgotten, Within, Standing, outside, inside, forgotten, is_outside, is_outside_stage, both, stage_at, stands_as, Table, by_stage_or_past, by_stage_or_past_at, rest_seen, outside_at, outside_so, none_decided, Course, bit, starved_there, listed_there, rests_there, out as out_of_lock, course_at, LockAtRest, out_rests, waiting_rests, out_unlisted, holding_unlisted, listed_once, Aim, Ending, Place, EnterLock, WaitLock, TakeLock, Arrive, NotifyAll, Check, JoinAgain, ReleaseLock, ReleasingLock, Ask, CancelLeave, Abandon, Position, Out, Made, Locking, Waiting, At, Progress, Words, arrivals_at, IsFollower, fits_lock, in_lock, listed, follows, HasOutcome, Outcome, is_resting, counted, wait_for, wait_until, wait_at, Barrier, IsBarrier, HasArrived, IsAtRest, goes_with, is_begun, is_abandoning, runs, position_at, arrival_at, ListName, Lock, Generation, IsFinished, World, list_in, standing_of, wait_of, is_starved, verdict_in, view_of, HasItsOwn, IsSound, IsAwake, IsStillThere, is_at_rest, is_long_call, IsBarrierTable, ◌⊎◌, false≢true, marked_count, is_decided, taking, releasing, undecided, called, counting, has_lock, giving_up, is_out as is_out_there, is_holding, is_waiting, is_cancelling, is_due_there, CancelLock, CancellingLock, verdict, is_due, IsDue}
+use Rattle.world_barrier.proofs.Prelude.{◌≡◌, ℕ, zero, suc, ◌+◌, ◌<◌, ◌≤◌, inl, inr, true, false, List, Option, Some, None, refl, arith, ap, sym, ◌∙◌, subst, list_all, is_marked_at, IsMarkedFirst, is_party, entries_of, Answer, Kind, Rest, Stage, Outside, Inside, Forgotten, Within, Standing, outside, inside, forgotten, is_outside, is_outside_stage, both, stage_at, stands_as, Table, by_stage_or_past, by_stage_or_past_at, rest_seen, outside_at, outside_so, none_decided, Course, bit, starved_there, listed_there, rests_there, out as out_of_lock, course_at, LockAtRest, out_rests, waiting_rests, out_unlisted, holding_unlisted, listed_once, Aim, Ending, Place, EnterLock, WaitLock, TakeLock, Arrive, NotifyAll, Check, JoinAgain, ReleaseLock, ReleasingLock, Ask, CancelLeave, Abandon, Position, Out, Made, Locking, Waiting, At, Progress, Words, arrivals_at, IsFollower, fits_lock, in_lock, listed, follows, HasOutcome, Outcome, is_resting, counted, wait_for, wait_until, wait_at, Barrier, IsBarrier, HasArrived, IsAtRest, goes_with, is_begun, is_abandoning, runs, position_at, arrival_at, ListName, Lock, Generation, IsFinished, World, list_in, standing_of, wait_of, is_starved, verdict_in, view_of, HasItsOwn, IsSound, IsAwake, IsStillThere, is_at_rest, is_long_call, IsBarrierTable, ◌⊎◌, false≢true, marked_count, is_decided, taking, releasing, undecided, called, counting, has_lock, giving_up, is_out as is_out_there, is_holding, is_waiting, is_cancelling, is_due_there, CancelLock, CancellingLock, verdict, is_due, IsDue}
 use Rattle.world_base.proofs.of_table.Mapped.{past_last}
 use Rattle.world_base.proofs.of_table.Resting.{all_at_rest, one_at_rest}
 use Rattle.world_mutex.proofs.of_machine.callers.Holders as sees

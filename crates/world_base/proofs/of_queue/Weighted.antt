@@ -1,5 +1,5 @@
 -- A list of weighted entries, as its parties see it.
-use Rattle.world_base.proofs.Prelude.{◌≡◌, ◌≢◌, ℕ, ◌+◌, ◌<◌, ◌≤◌, Bool, true, false, List, [], ◌∷◌, length, ◌==◌, Option, Some, None, IsTrue, refl, arith, sym, ap, ◌∙◌, subst, get_or-set_same, get_or-set_other, length-set, set, nat_tests, Entry, is_marked, joined, without, key_at, is_listed, is_marked_at, marked_count, with_key, has_id, slot_of, rekeyed, by_party, party_of, is_party, entries_of, IsWaiting, Joins, Departs, IsSeated, seat_of, seat_at, taken, unladen, unweighed, weight_in, IsWeighed, IsWeightedWaiting, IsWeightedQueue, IsListedSeat, JoinsWeighted, DepartsWeighted, AskedWeighted, weighted_queue, weighted_seat}
+use Rattle.world_base.proofs.Prelude.{◌≡◌, ◌≢◌, ℕ, ◌+◌, ◌<◌, ◌≤◌, Bool, true, false, List, [], ◌∷◌, length, ◌==◌, Option, Some, None, IsTrue, refl, arith, sym, ap, ◌∙◌, get_or-set_same, get_or-set_other, length-set, set, nat_tests, Entry, is_marked, joined, without, key_at, is_listed, is_marked_at, marked_count, with_key, has_id, slot_of, by_party, party_of, is_party, entries_of, IsWaiting, Joins, Departs, IsSeated, seat_of, seat_at, taken, unladen, unweighed, weight_in, IsWeighed, IsWeightedWaiting, IsWeightedQueue, IsListedSeat, JoinsWeighted, DepartsWeighted, AskedWeighted, weighted_queue, weighted_seat}
 use Rattle.lock_event.specs.declared.event.Slot.{Slot}
 use Rattle.lock_event.specs.declared.event.EntryId.{EntryId}
 use Rattle.lock_event.specs.declared.weighted.Load.{Load}

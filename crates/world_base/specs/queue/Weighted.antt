@@ -7,7 +7,7 @@ use Rattle.lock_event.specs.declared.weighted.Load.{Load}
 use Rattle.lock_event.specs.Lists.{joined, without, is_listed, is_marked_at, marked_count}
 use Rattle.lock_event.specs.Loads.{laden, weight_of, waker_in}
 use Rattle.lock_event.specs.Slots.{has_id, slot_of}
-use Rattle.world_base.specs.queue.Parties.{rekeyed, by_party, party_of, entries_of}
+use Rattle.world_base.specs.queue.Parties.{rekeyed, party_of, entries_of}
 use Rattle.world_base.specs.queue.Queues.{IsWaiting}
 
 -- A slot without its weight, and a list without weights.

@@ -1,5 +1,5 @@
 -- What always holds of a mutex's World, as callers see it, and that no notification is lost at rest.
-use Rattle.world_mutex.proofs.Prelude.{◌≡◌, ℕ, suc, ◌<◌, ◌⊎◌, inl, inr, Bool, true, List, [], ◌∷◌, length, Option, refl, arith, ap, sym, ◌∙◌, subst, nat_tests, list_all, Entry, entries_of, Answer, Kind, Rest, Stage, Outside, Inside, Forgotten, Within, Standing, outside, inside, forgotten, is_outside_stage, stage_at, stands_as, Table, by_stage_or_past_at, rest_seen, outside_at, outside_so, Place, Out, IsMutex, place_at, counted, listed, is_resting, is_counted, Guarded, place_of, is_within, goes_with, with_value, HasRight, IsSound, is_long_call, is_at_rest, IsAwake, World, IsMutexTable, verdict, view_of, false, None, marked_count, is_outside, past_last, by_stage_or_past, is_due_there, holder_of, is_due, IsDue, standing_of}
+use Rattle.world_mutex.proofs.Prelude.{◌≡◌, ℕ, ◌<◌, ◌⊎◌, inl, inr, Bool, true, List, Option, refl, arith, ap, sym, ◌∙◌, subst, nat_tests, list_all, Entry, entries_of, Answer, Kind, Rest, Stage, Outside, Inside, Forgotten, Within, Standing, outside, inside, forgotten, is_outside_stage, stage_at, stands_as, Table, by_stage_or_past_at, rest_seen, outside_at, outside_so, Place, Out, IsMutex, place_at, counted, listed, is_resting, is_counted, Guarded, place_of, is_within, goes_with, with_value, HasRight, IsSound, is_long_call, is_at_rest, IsAwake, World, IsMutexTable, verdict, view_of, false, None, marked_count, is_outside, past_last, by_stage_or_past, is_due_there, holder_of, is_due, IsDue, standing_of}
 use Rattle.world_base.specs.Rights.{Right, hold}
 use Rattle.world_base.specs.table.Lending.{table_with}
 use Rattle.world_base.proofs.of_table.Lending.{lent_seen}

@@ -1,5 +1,5 @@
 -- What one step of a party may do to a mutex.
-use Rattle.std.specs.Prelude.{◌≡◌, ◌≢◌, ℕ, ◌<◌, ◌≤◌, ◌⊎◌, Bool, true, false, List, [], ◌∷◌, length, slice_set}
+use Rattle.std.specs.Prelude.{◌≡◌, ◌≢◌, ℕ, ◌<◌, ◌≤◌, ◌⊎◌, Bool, true, false, List, length, slice_set}
 use Rattle.std.specs.List.{sum_by}
 use Rattle.lock_event.specs.Lists.{marked_count, IsMarkedFirst}
 use Rattle.lock_program.specs.declared.mutex.Place.{Place}

@@ -1,5 +1,5 @@
 -- A mutex as those see it who build on one: where each party's call is, who waits in its list, and how many steps each call still takes.
-use Rattle.std.specs.Prelude.{◌≡◌, ℕ, ◌<◌, ◌≤◌, ◌==◌, ◌⊎◌, Bool, true, List, [], ◌∷◌, map, length, replicate, slice_index_or, Option}
+use Rattle.std.specs.Prelude.{◌≡◌, ℕ, ◌<◌, ◌≤◌, ◌==◌, ◌⊎◌, Bool, true, List, [], map, length, replicate, slice_index_or, Option}
 use Rattle.std.specs.List.{sum_by}
 use Rattle.lock_event.specs.declared.event.Entry.{Entry}
 use Rattle.lock_event.specs.Lists.{marked_count, IsMarkedFirst}

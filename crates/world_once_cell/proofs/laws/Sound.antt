@@ -1,5 +1,5 @@
 -- What always holds of a once-cell's World, as callers see it.
-use Rattle.world_once_cell.proofs.Prelude.{◌≡◌, ◌≢◌, ℕ, zero, suc, ◌+◌, ◌<◌, ◌≤◌, ◌⊎◌, inl, inr, true, false, List, [], ◌∷◌, length, Option, Some, refl, arith, ap, sym, ◌∙◌, subst, list_all, sum_by, get_or-le-sum_by, is_marked_at, marked_count, is_party, entries_of, else_marked, Answer, Kind, Rest, Stage, Outside, Inside, Forgotten, Within, inside, is_outside, is_outside_stage, both, stage_at, stands_as, Table, past_last, by_stage_or_past, by_stage_or_past_at, rest_seen, outside_at, outside_so, length-standings, ListName, Active, Passive, Closure, Given, Place, Claim, ClaimListed, AskActive, LeaveToMake, NotifyActive, NotifyPassive, TryNotifyActive, TryNotifyPassive, FailNotify, CancelNotify, LeaveFull, LookListed, AskPassive, LeavePassive, CancelLeave, Abandon, Position, Out, ToMake, WaitingToMake, Making, ToWait, Waiting, At, Content, Empty, Full, fills_with, task_at, makes_at, in_active, in_passive_at, waits, owes, value_known, is_late, will_tell, verdict, is_resting, OnceCell, IsCell, IsAtRest, goes_with, runs, is_begun, is_abandoning, is_maker, position_at, AllTold, list_in, standing_of, task_of, HasOneTeller, view_of, IsDue, is_due, IsSound, IsAwake, IsStillThere, is_at_rest, is_long_call, may_be_maker, IsCellTable}
+use Rattle.world_once_cell.proofs.Prelude.{◌≡◌, ◌≢◌, ℕ, zero, suc, ◌+◌, ◌<◌, ◌≤◌, ◌⊎◌, inl, inr, true, false, List, length, Option, Some, refl, arith, ap, sym, ◌∙◌, subst, list_all, sum_by, get_or-le-sum_by, is_marked_at, marked_count, is_party, entries_of, else_marked, Answer, Kind, Rest, Stage, Outside, Inside, Forgotten, Within, inside, is_outside, is_outside_stage, both, stage_at, stands_as, Table, past_last, by_stage_or_past, by_stage_or_past_at, rest_seen, outside_at, outside_so, length-standings, ListName, Active, Passive, Closure, Given, Place, Claim, ClaimListed, AskActive, LeaveToMake, NotifyActive, NotifyPassive, TryNotifyActive, TryNotifyPassive, FailNotify, CancelNotify, LeaveFull, LookListed, AskPassive, LeavePassive, CancelLeave, Abandon, Position, Out, ToMake, WaitingToMake, Making, ToWait, Waiting, At, Content, Empty, Full, fills_with, task_at, makes_at, in_active, in_passive_at, waits, owes, value_known, is_late, will_tell, verdict, is_resting, OnceCell, IsCell, IsAtRest, goes_with, runs, is_begun, is_abandoning, is_maker, position_at, AllTold, list_in, standing_of, task_of, HasOneTeller, view_of, IsDue, is_due, IsSound, IsAwake, IsStillThere, is_at_rest, is_long_call, may_be_maker, IsCellTable}
 use Rattle.world_base.proofs.of_table.Resting.{all_at_rest}
 use Rattle.world_once_cell.proofs.of_machine.laws.Contents as contents
 use Rattle.world_once_cell.proofs.of_machine.laws.Told.{in_list}

@@ -1,5 +1,5 @@
 -- What always holds of a read-write lock's World, and that no notification is lost at rest.
-use Rattle.world_rwlock.proofs.Prelude.{◌≡◌, ℕ, ◌<◌, ◌≤◌, ◌⊎◌, inl, inr, Bool, true, false, List, [], ◌∷◌, length, zero, suc, Option, Some, None, refl, arith, ap, sym, ◌∙◌, subst, list_all, sum_by, sum_by-cons, IsMarkedFirst, entries_of, Rest, Stage, Outside, Inside, Forgotten, outside, forgotten, is_outside_stage, outside_so, Right, read, upgradable, write, wait_to_write, excludes, TurnCourse, out as turn_out, counted, rests_in_turn, turn_at, is_counted, holder_of, Ending, Place, bit, reads, marks, has_turn, is_resting, RwLock, place_at, IsRwLock, IsAtRest, writers, marked, stage_at, goes_with, Table, ListName, for_the_turn, for_no_readers, for_no_writer, list_of, nobody, passes, is_upgradable, waits_to_write, World, standing_of, is_marked, entries_in, HasTurn, HasItsOwn, HasRight, IsSound, is_at_rest, IsAwake, Guarded, with_value, IsRwLockTable, verdict_of, Share, passing, upgrading, waiting, writing, turn_as, share_of, turn_by, is_reading, standing_at, view_of, rest_seen, outside_at, inside_or_past, marked_count, is_outside, is_decided, listed, is_due, waits_no_writer, owes_no_writer, waits_no_readers, owes_no_readers, readers, is_due_for_turn, is_due_to_readers, is_due_to_writer, IsDueForTurn, IsDueToReaders, IsDueToWriter}
+use Rattle.world_rwlock.proofs.Prelude.{◌≡◌, ℕ, ◌<◌, ◌≤◌, ◌⊎◌, inl, inr, Bool, true, false, List, [], ◌∷◌, length, zero, suc, Option, Some, None, refl, arith, ap, sym, ◌∙◌, subst, list_all, sum_by, sum_by-cons, IsMarkedFirst, entries_of, Rest, Stage, Outside, Inside, Forgotten, outside, forgotten, is_outside_stage, outside_so, Right, read, upgradable, write, wait_to_write, excludes, out as turn_out, counted, rests_in_turn, turn_at, is_counted, holder_of, Ending, Place, bit, reads, marks, has_turn, is_resting, RwLock, place_at, IsRwLock, IsAtRest, writers, marked, stage_at, goes_with, Table, ListName, for_the_turn, for_no_readers, for_no_writer, list_of, nobody, passes, is_upgradable, waits_to_write, World, standing_of, is_marked, entries_in, HasTurn, HasItsOwn, HasRight, IsSound, is_at_rest, IsAwake, Guarded, with_value, IsRwLockTable, verdict_of, Share, passing, upgrading, waiting, writing, turn_as, share_of, turn_by, is_reading, standing_at, view_of, rest_seen, outside_at, inside_or_past, marked_count, is_outside, is_decided, listed, is_due, waits_no_writer, owes_no_writer, waits_no_readers, owes_no_readers, readers, is_due_for_turn, is_due_to_readers, is_due_to_writer, IsDueForTurn, IsDueToReaders, IsDueToWriter}
 use Rattle.world_mutex.specs.machine.Mutex as lock
 use Rattle.world_mutex.proofs.of_machine.callers.Holders as sees
 use Rattle.world_rwlock.proofs.step.Owed.{owes_outside}

@@ -1,5 +1,5 @@
 -- What each party has, by how it stands.
-use Rattle.world_rwlock.proofs.Prelude.{◌≡◌, ◌≢◌, ℕ, ◌≤◌, ◌⊎◌, inl, inr, Bool, true, false, List, Option, Some, None, refl, arith, ap, sym, subst, ◌∙◌, and_parts, Answer, Refusal, Kind, Rest, Stage, Outside, Inside, Forgotten, Within, Right, read, upgradable, write, inside, End as TurnEnd, TurnCourse, decision, is_out, is_holding, holds, listed, turn_at, is_holder, is_counted, holder_of, out_unlisted, holding_unlisted, out_free, out_unstarved, holding_unstarved, waiting_free, Ending, Place, has_turn, in_no_writer, in_no_readers, fits_turn, RwLock, place_at, IsRwLock, nobody, passes, is_upgradable, waits_to_write, World, standing_of, sought_by, is_upgrader, HasTurn, IsClear, entries_in, HasSought, HasNothing, HasItsOwn, stage_at, Course, drops, downgrades, course_of, course_until, is_on_course, sought_at, is_inside, goes_with, verdict_of, Share, passing, upgrading, waiting, writing, turn_as, share_of, turn_by, is_reading, is_upgrade, verdict, verdict_until, refused_by, standing_at, seen, standings_at, inside_or_past}
+use Rattle.world_rwlock.proofs.Prelude.{◌≡◌, ◌≢◌, ℕ, ◌≤◌, ◌⊎◌, inl, inr, Bool, true, false, List, Option, Some, None, refl, arith, ap, sym, subst, ◌∙◌, and_parts, Answer, Refusal, Kind, Rest, Stage, Outside, Inside, Forgotten, Within, Right, read, upgradable, write, inside, End as TurnEnd, TurnCourse, decision, is_out, is_holding, holds, listed, turn_at, is_holder, is_counted, holder_of, out_unlisted, holding_unlisted, out_free, out_unstarved, holding_unstarved, waiting_free, Ending, Place, has_turn, in_no_writer, in_no_readers, fits_turn, RwLock, place_at, IsRwLock, is_upgradable, waits_to_write, World, standing_of, sought_by, is_upgrader, HasTurn, IsClear, HasSought, HasNothing, HasItsOwn, stage_at, Course, drops, downgrades, course_of, course_until, is_on_course, sought_at, is_inside, goes_with, verdict_of, Share, passing, upgrading, waiting, writing, turn_as, share_of, turn_by, is_reading, is_upgrade, verdict, verdict_until, refused_by, standing_at, seen, standings_at, inside_or_past}
 use Rattle.world_mutex.proofs.of_machine.callers.Holders as sees
 use Rattle.world_rwlock.specs.State as state
 use Rattle.world_rwlock.specs.State.{Turn, writes}

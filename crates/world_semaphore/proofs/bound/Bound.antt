@@ -1,6 +1,6 @@
 -- Permits that are available are taken by the first or the second solo poll.
-use Rattle.world_semaphore.proofs.Prelude.{◌≡◌, ℕ, zero, suc, ◌+◌, ◌<◌, ◌≤◌, ◌⊎◌, inl, inr, ◌==◌, Bool, true, false, List, [], ◌∷◌, length, is_some, refl, arith, ap, sym, ◌∙◌, nat_tests, Entry, is_marked, is_marked_at, marked_count, is_party, entries_of, Answer, Call, Inputs, marked_listed, some_listed, Share, World, available, has_permits, size_of, IsSound, IsAwake, IsFreeAndWanted, known_of, HandsOver, PassesOver, IsBounded}
-use Rattle.world_base.specs.Bounds.{PassedOver, OneTakes}
+use Rattle.world_semaphore.proofs.Prelude.{◌≡◌, ℕ, zero, suc, ◌<◌, ◌≤◌, ◌⊎◌, inl, inr, Bool, true, false, List, [], ◌∷◌, length, is_some, refl, arith, ap, sym, ◌∙◌, nat_tests, Entry, is_marked, is_marked_at, marked_count, is_party, entries_of, Answer, Call, Inputs, marked_listed, some_listed, Share, World, available, has_permits, size_of, IsSound, IsAwake, IsFreeAndWanted, known_of, HandsOver, PassesOver, IsBounded}
+use Rattle.world_base.specs.Bounds.{PassedOver}
 use Rattle.world_semaphore.proofs.whole.Promises.{keeps_promises}
 
 -- where some entry is marked, and no party has two, it is some party's

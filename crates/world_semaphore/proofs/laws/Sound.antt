@@ -1,5 +1,5 @@
 -- What always holds of a semaphore's World, as callers see it.
-use Rattle.world_semaphore.proofs.Prelude.{◌≡◌, ℕ, suc, ◌<◌, ◌≤◌, ◌⊎◌, inl, inr, Bool, true, false, List, [], ◌∷◌, length, Option, refl, arith, ap, sym, ◌∙◌, subst, list_all, marked_count, entries_of, Answer, Kind, Rest, Stage, Outside, Inside, Forgotten, Within, outside, inside, is_outside, is_outside_stage, both, stage_at, stands_as, Table, past_last, by_stage_or_past, by_stage_or_past_at, rest_seen, outside_at, outside_so, Place, Take, Retake, Ask, Remove, PassOn, Try, Lower, CancelRemove, Position, Out, Unlisted, Waiting, Holding, At, bit, pays, listed, waits, owes, size_at, debt_at, is_short, verdict, is_resting, Semaphore, IsSemaphore, IsAtRest, goes_with, runs, is_begun, position_at, sizes_of, available, standing_of, size_of, debt_of, view_of, IsSound, IsAwake, IsFreeAndWanted, is_at_rest, is_long_call, IsSemaphoreTable}
+use Rattle.world_semaphore.proofs.Prelude.{◌≡◌, ℕ, ◌<◌, ◌≤◌, ◌⊎◌, inl, inr, Bool, true, false, List, length, Option, refl, arith, ap, sym, ◌∙◌, subst, list_all, marked_count, entries_of, Answer, Kind, Rest, Stage, Outside, Inside, Forgotten, Within, outside, inside, is_outside, is_outside_stage, both, stage_at, stands_as, Table, past_last, by_stage_or_past, by_stage_or_past_at, rest_seen, outside_at, outside_so, Place, Take, Retake, Ask, Remove, PassOn, Try, Lower, CancelRemove, Position, Out, Unlisted, Waiting, Holding, At, bit, pays, listed, waits, owes, size_at, debt_at, is_short, verdict, is_resting, Semaphore, IsSemaphore, goes_with, runs, is_begun, position_at, sizes_of, available, standing_of, size_of, debt_of, view_of, IsSound, IsAwake, IsFreeAndWanted, is_at_rest, is_long_call, IsSemaphoreTable}
 use Rattle.world_base.proofs.Owing.{marked_or_owed}
 use Rattle.world_base.proofs.of_table.Resting.{all_at_rest}
 use Rattle.world_semaphore.proofs.of_machine.laws.Entries.{wanted_so}

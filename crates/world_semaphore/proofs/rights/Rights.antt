@@ -1,5 +1,5 @@
 -- After each step what is known tells the rights and the limit.
-use Rattle.world_semaphore.proofs.Prelude.{◌≡◌, ◌≢◌, ℕ, ◌+◌, ◌-◌, ◌<◌, ◌≤◌, ◌↔◌, ◌⊎◌, ◌==◌, if◌then◌else◌, inl, inr, Bool, true, false, get_or, length, Option, Some, None, is_some, refl, arith, ap, sym, ◌∙◌, subst, ℕ_discrete, sum_by, get_or-le-sum_by, Answer, Call, Inputs, Move, What, Begin, Go, Refusal, Kind, Rest, Stage, Outside, Inside, Forgotten, Within, within, Standing, outside, inside, forgotten, is_outside, refused, inputs_of, some_eq, same_test, other_test, StepsWell, stage_at, stands_as, call_at, polls_again, stage_after, Table, past_last, by_stage_or_past, Action, Found, Done, Left, Available, Yes, No, Place, Take, Retake, Join, Ask, Remove, Load, HandOn, PassOn, RefuseFit, Try, Lower, GiveBack, Raise, GiveAdded, FitAdded, CancelRemove, CancelLoad, FitGivenBack, Abandon, Position, Out, Unlisted, Waiting, Holding, At, Words, Next, action_of, next_of, position_after, Seat, Share, guard_of, seat_of, permits_of, permits_at, share_of, size_at, verdict, Deed, nothing, changes, does, takes, gives_back, forgets, raises, gives, deed_of, words_after, Finds, Semaphore, IsSemaphore, answer_by, position_at, knows, goes_with, runs, is_begun, is_polling, World, share_at, has_permits, standing_of, size_of, size_after, view_of, HasItsOwn, IsSound, IsAwake, is_at_rest, IsSemaphoreTable, TableSteps, Known, Tells, HoldsWell, accounts_of, learn, sizes_after, added_by, forgotten_by}
+use Rattle.world_semaphore.proofs.Prelude.{◌≡◌, ◌≢◌, ℕ, ◌+◌, ◌<◌, ◌≤◌, ◌↔◌, true, false, get_or, length, Option, Some, None, is_some, refl, arith, ap, sym, ◌∙◌, subst, ℕ_discrete, sum_by, get_or-le-sum_by, Answer, Call, Inputs, Move, What, Begin, Go, Refusal, Kind, Rest, Stage, Outside, Inside, Forgotten, Within, within, Standing, outside, inside, forgotten, is_outside, refused, inputs_of, some_eq, same_test, other_test, StepsWell, stage_at, stands_as, call_at, polls_again, stage_after, Table, past_last, by_stage_or_past, Action, Found, Done, Left, Available, Yes, No, Place, Take, Retake, Join, Ask, Remove, Load, HandOn, PassOn, RefuseFit, Try, Lower, GiveBack, Raise, GiveAdded, FitAdded, CancelRemove, CancelLoad, FitGivenBack, Abandon, Position, Out, Unlisted, Waiting, Holding, At, Words, Next, action_of, next_of, position_after, Seat, Share, guard_of, seat_of, permits_of, permits_at, share_of, size_at, verdict, Deed, nothing, changes, does, takes, gives_back, forgets, raises, gives, deed_of, words_after, Finds, Semaphore, IsSemaphore, answer_by, position_at, knows, goes_with, runs, is_begun, is_polling, World, share_at, has_permits, standing_of, size_of, size_after, view_of, HasItsOwn, IsSound, IsAwake, is_at_rest, IsSemaphoreTable, TableSteps, Known, Tells, HoldsWell, accounts_of, learn, added_by, forgotten_by}
 use Rattle.world_base.specs.Accounts.{Account, account_after, HasByAnswers}
 use Rattle.world_base.specs.Rights.{Right, permit}
 use Rattle.world_base.specs.table.Rights.{account_by, sought_by, TellsAccounts}

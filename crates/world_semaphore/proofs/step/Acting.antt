@@ -1,5 +1,5 @@
 -- An action of a party is a legal step, as callers see it.
-use Rattle.world_semaphore.proofs.Prelude.{◌≡◌, ◌≢◌, ℕ, ◌<◌, ◌||◌, ◌⊎◌, inl, inr, Bool, true, false, List, map, length, Option, Some, None, is_some, refl, arith, ap, sym, ◌∙◌, subst, get_or-set_same, get_or-set_other, set, map-set, Entry, mark_at, is_marked_at, is_party, entries_of, Answer, Call, Plain, Move, What, Begin, Refusal, Kind, Rest, Stage, Outside, Inside, Forgotten, Within, inputs_of, call_in, is_possible, is_stepped, is_decided, may_end, decision, refused, IsUndecided, is_giving_back, is_poll_after_ready, is_refusal, some_eq, none_some, finished_number, stage_at, stands_as, call_at, polls_again, stage_after, Table, set_same, call_seen, again_seen, stands_seen, decided_after, decision_seen, later_ends, Action, Found, Available, Done, Left, PastLimit, Yes, No, Next, Place, Take, Retake, Join, Ask, Remove, Load, HandOn, PassOn, RefuseFit, Try, Lower, GiveBack, Raise, GiveAdded, FitAdded, CancelRemove, CancelLoad, FitGivenBack, Abandon, Position, Out, At, Words, place_for, action_of, next_of, position_after, Seat, Share, Debt, guard_of, a_fit, seat_of, share_of, size_at, debt_at, listed, verdict, verdict_of, Deed, nothing, changes, does, joins, asks, removes, fits, takes, gives_back, forgets, raises, gives, share_after, deed_of, Finds, words_after, entries_after, Semaphore, IsSemaphore, Acts, knows, runs, is_begun, position_at, sizes_of, answer_by, is_polling, State, World, share_at, available, standing_of, size_of, debt_of, view_of, call_of, DecidesOn, state_after, gives_something_back, added_in, wanted, wanted_in, IsAllowed, ChangesOneThing, KnowsSizes, KnowsDebts, Carries, Waits, IsCause, IsRefusedForCause, size_after, LeavesClear, EndsProperly, Legal, IsSemaphoreTable}
+use Rattle.world_semaphore.proofs.Prelude.{◌≡◌, ◌≢◌, ℕ, ◌<◌, ◌||◌, ◌⊎◌, inl, inr, Bool, true, false, List, map, length, Option, Some, None, is_some, refl, arith, ap, sym, ◌∙◌, subst, get_or-set_same, get_or-set_other, set, map-set, Entry, mark_at, is_marked_at, is_party, entries_of, Answer, Call, Plain, Move, What, Begin, Refusal, Kind, Rest, Stage, Outside, Inside, Forgotten, Within, inputs_of, call_in, is_possible, is_stepped, is_decided, may_end, decision, refused, IsUndecided, is_giving_back, is_poll_after_ready, is_refusal, some_eq, none_some, finished_number, stage_at, stands_as, call_at, polls_again, stage_after, Table, set_same, call_seen, again_seen, stands_seen, decided_after, decision_seen, later_ends, Action, Found, Available, Done, Left, PastLimit, Yes, No, Next, Place, Take, Retake, Join, Ask, Remove, Load, HandOn, PassOn, RefuseFit, Try, Lower, GiveBack, Raise, GiveAdded, FitAdded, CancelRemove, CancelLoad, FitGivenBack, Abandon, Position, Out, Words, place_for, action_of, next_of, position_after, Seat, Share, guard_of, a_fit, seat_of, share_of, size_at, debt_at, listed, verdict, verdict_of, Deed, nothing, changes, does, joins, asks, removes, fits, takes, gives_back, forgets, raises, gives, share_after, deed_of, Finds, words_after, entries_after, Semaphore, IsSemaphore, Acts, knows, runs, position_at, sizes_of, answer_by, is_polling, State, World, share_at, available, standing_of, size_of, debt_of, view_of, call_of, DecidesOn, state_after, gives_something_back, added_in, wanted, wanted_in, IsAllowed, ChangesOneThing, KnowsSizes, KnowsDebts, Carries, Waits, IsCause, IsRefusedForCause, size_after, LeavesClear, EndsProperly, Legal, IsSemaphoreTable}
 use Rattle.std.proofs.Math.Seq.{map-set_same}
 use Rattle.lock_event.specs.declared.event.Mark.TheVariants.{Waiting}
 use Rattle.world_base.proofs.of_queue.Told.{waits_at}

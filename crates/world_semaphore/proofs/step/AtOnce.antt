@@ -1,5 +1,5 @@
 -- What the first step of a call decides at once.
-use Rattle.world_semaphore.proofs.Prelude.{◌≡◌, ℕ, ◌+◌, ◌<◌, ◌≤◌, ◌⊎◌, ◌||◌, inl, inr, Bool, true, false, Option, Some, is_some, nat_le, if◌then◌else◌, refl, arith, ap, sym, ◌∙◌, subst, false≢true, le-leb, lt-leb, fitted, entries_of, Answer, Plain, Move, What, Kind, Rest, Stage, Within, Refusal, Standing, outside, inside, inputs_of, decision, refused, is_drop, some_eq, not_one, outside_inside, stage_at, stands_as, call_at, polls_again, Table, Action, Found, Done, Left, Short, Available, PastLimit, Place, Take, Retake, PassOn, RefuseFit, Try, Lower, GiveBack, Raise, GiveAdded, FitAdded, CancelRemove, CancelLoad, FitGivenBack, Abandon, Position, available_in, action_of, next_of, Share, a_look, a_fit, seat_of, share_of, size_at, debt_at, listed, verdict, verdict_of, Deed, nothing, changes, does, fits, takes, gives_back, forgets, gives, entries_after, words_after, deed_of, Finds, FindsPermits, FindsSo, FindsRoom, Semaphore, knows, goes_with, runs, is_begun, is_adding, position_at, answer_by, World, share_at, has_permits, available, standing_of, size_of, debt_of, view_of, state_after, added_in, is_forget, wanted, wanted_in, AnswersAtOnce, AddsAtOnce, GivesInTurn, TellsInTurn, is_try, is_poll, is_first_poll}
+use Rattle.world_semaphore.proofs.Prelude.{◌≡◌, ℕ, ◌+◌, ◌⊎◌, ◌||◌, inl, inr, Bool, true, false, Option, Some, is_some, nat_le, if◌then◌else◌, refl, arith, ap, sym, ◌∙◌, subst, false≢true, le-leb, lt-leb, fitted, entries_of, Answer, Plain, Move, What, Kind, Rest, Stage, Within, Refusal, Standing, outside, inside, inputs_of, decision, refused, is_drop, some_eq, not_one, outside_inside, stage_at, stands_as, call_at, polls_again, Table, Action, Found, Done, Left, Short, Available, PastLimit, Place, Take, Retake, PassOn, RefuseFit, Try, Lower, GiveBack, Raise, GiveAdded, FitAdded, CancelRemove, CancelLoad, FitGivenBack, Abandon, Position, available_in, action_of, next_of, Share, a_fit, seat_of, share_of, size_at, debt_at, listed, verdict, verdict_of, Deed, nothing, changes, does, fits, takes, gives_back, forgets, gives, entries_after, words_after, deed_of, Finds, FindsPermits, FindsSo, FindsRoom, Semaphore, knows, goes_with, runs, is_begun, is_adding, position_at, answer_by, World, share_at, has_permits, available, standing_of, size_of, debt_of, view_of, state_after, added_in, is_forget, wanted, wanted_in, AnswersAtOnce, AddsAtOnce, GivesInTurn, TellsInTurn, is_try, is_poll, is_first_poll}
 use Rattle.world_semaphore.proofs.of_machine.laws.Kept.{after}
 use Rattle.world_semaphore.proofs.table.Seen as seen
 use Rattle.world_semaphore.proofs.step.Rows.{said}

@@ -1,5 +1,5 @@
 -- What an action does to what its party owes.
-use Rattle.world_semaphore.proofs.Prelude.{◌≡◌, ℕ, ◌+◌, ◌<◌, ◌≤◌, ◌⊎◌, inl, inr, Bool, true, false, List, [], ◌∷◌, Option, Some, None, refl, arith, ap, sym, nat_tests, Entry, is_marked_at, marked_count, fitted, is_party, entries_of, unlisted_unmarked, Found, Done, Left, Short, Available, PastLimit, NoMemory, Yes, No, Place, Take, Retake, Join, Ask, Remove, Load, HandOn, PassOn, RefuseFit, Try, Lower, GiveBack, Raise, GiveAdded, FitAdded, CancelRemove, CancelLoad, FitGivenBack, Abandon, Position, told_more, Words, action_of, next_of, position_after, seat_of, debt_at, nothing_owed, a_look, a_fit, fit_if, deed_of, Finds, words_after, entries_after}
+use Rattle.world_semaphore.proofs.Prelude.{◌≡◌, ℕ, ◌<◌, ◌⊎◌, inl, inr, Bool, true, false, List, [], ◌∷◌, Option, Some, None, refl, arith, ap, nat_tests, Entry, is_marked_at, marked_count, fitted, is_party, entries_of, unlisted_unmarked, Found, Done, Left, Short, Available, PastLimit, NoMemory, Yes, No, Place, Take, Retake, Join, Ask, Remove, Load, HandOn, PassOn, RefuseFit, Try, Lower, GiveBack, Raise, GiveAdded, FitAdded, CancelRemove, CancelLoad, FitGivenBack, Abandon, Position, told_more, Words, action_of, position_after, seat_of, debt_at, nothing_owed, a_look, a_fit, fit_if, deed_of, Finds, words_after, entries_after}
 use Rattle.world_semaphore.proofs.of_machine.laws.Kept.{after, more_is, no_more}
 use Rattle.world_semaphore.proofs.of_machine.stages.Taking.{taken}
 

@@ -1,5 +1,5 @@
 -- A move that does nothing is a legal step: one that its party may not make, and a poll of a future that has been ready.
-use Rattle.world_semaphore.proofs.Prelude.{◌≡◌, ◌≢◌, ℕ, ◌||◌, true, false, Option, Some, None, refl, ap, sym, ◌∙◌, subst, false≢true, Answer, Call, Move, What, Begin, Refusal, Rest, Within, Standing, outside, inside, is_outside, call_in, may_end, refused, is_poll_after_ready, is_drop, outside_inside, knows, World, standing_of, size_of, debt_of, nothing, nothing_owed, a_look, a_fit, call_of, added_in, is_forget, size_after, KnowsDebts, IsCause, HasItsOwn, Legal, AnswersAtOnce, is_try, is_poll, is_first_poll}
+use Rattle.world_semaphore.proofs.Prelude.{◌≡◌, ◌≢◌, ℕ, ◌||◌, true, false, Option, Some, None, refl, ap, sym, ◌∙◌, subst, false≢true, Answer, Call, Move, What, Begin, Refusal, Rest, Within, Standing, outside, inside, is_outside, call_in, may_end, refused, is_poll_after_ready, is_drop, outside_inside, knows, World, standing_of, size_of, debt_of, nothing, nothing_owed, a_fit, call_of, added_in, is_forget, size_after, KnowsDebts, IsCause, HasItsOwn, Legal, AnswersAtOnce, is_try, is_poll, is_first_poll}
 use Rattle.world_base.proofs.of_table.Idle as idle
 use Rattle.world_base.proofs.of_table.Idle.{Idle, same_decides}
 

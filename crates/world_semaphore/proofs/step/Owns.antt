@@ -1,5 +1,5 @@
 -- What each party has, by where it stands.
-use Rattle.world_semaphore.proofs.Prelude.{◌≡◌, ℕ, true, false, Option, Some, is_some, refl, arith, ap, sym, ◌∙◌, subst, entries_of, Kind, Rest, Stage, Outside, Inside, Forgotten, Within, Answer, inside, is_outside, may_end, both, some_eq, none_some, stage_at, stands_as, Table, past_last, by_stage, by_stage_or_past, by_stage_or_past_at, Take, Retake, Join, Ask, Remove, Load, HandOn, PassOn, RefuseFit, Try, Lower, GiveBack, Raise, GiveAdded, FitAdded, CancelRemove, CancelLoad, FitGivenBack, Abandon, Place, Position, Out, Unlisted, Waiting as Waits_here, Holding, At, Share, Debt, nothing_owed, a_fit, share_of, size_at, listed, debt_at, verdict, verdict_of, Semaphore, IsSemaphore, goes_with, runs, is_begun, position_at, World, share_at, standing_of, size_of, debt_of, view_of, is_poll_call, HasItsOwn, IsSemaphoreTable}
+use Rattle.world_semaphore.proofs.Prelude.{◌≡◌, ℕ, true, false, Option, Some, is_some, refl, arith, ap, sym, ◌∙◌, subst, entries_of, Kind, Rest, Stage, Outside, Inside, Forgotten, Within, Answer, inside, is_outside, may_end, both, some_eq, none_some, stage_at, stands_as, Table, past_last, by_stage, by_stage_or_past, by_stage_or_past_at, Take, Retake, Join, Ask, Remove, Load, HandOn, PassOn, RefuseFit, Try, Lower, GiveBack, Raise, GiveAdded, FitAdded, CancelRemove, CancelLoad, FitGivenBack, Abandon, Place, Position, Out, Unlisted, Waiting as Waits_here, Holding, At, Share, nothing_owed, a_fit, share_of, size_at, listed, debt_at, verdict, verdict_of, Semaphore, IsSemaphore, goes_with, runs, is_begun, position_at, World, share_at, standing_of, size_of, debt_of, view_of, is_poll_call, HasItsOwn, IsSemaphoreTable}
 use Rattle.world_semaphore.proofs.table.Seen as seen
 use Rattle.world_semaphore.proofs.step.Idle.{StandsWell}
 

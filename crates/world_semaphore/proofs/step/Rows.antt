@@ -1,9 +1,8 @@
 -- What each place's action does, finding by finding.
-use Rattle.world_semaphore.proofs.Prelude.{◌≡◌, ℕ, ◌+◌, ◌<◌, ◌≤◌, Bool, true, false, List, Option, Some, None, is_some, refl, arith, Entry, Answer, Plain, Refusal, is_refusal, Action, Found, Done, Left, Short, Available, PastLimit, NoMemory, Yes, No, Next, Place, Take, Retake, Join, Ask, Remove, Load, HandOn, PassOn, RefuseFit, Try, Lower, GiveBack, Raise, GiveAdded, FitAdded, CancelRemove, CancelLoad, FitGivenBack, Abandon, Words, action_of, next_of, position_after, Share, nothing_had, guard_of, seat_of, share_of, listed, verdict_of, a_fit, Deed, nothing, changes, does, joins, asks, removes, fits, Change, takes, gives_back, forgets, raises, gives, share_after, deed_of, Finds, answer_by, gives_something_back, gives_up}
+use Rattle.world_semaphore.proofs.Prelude.{◌≡◌, ℕ, ◌+◌, ◌<◌, ◌≤◌, Bool, true, false, List, Option, Some, None, is_some, refl, arith, Entry, Answer, Plain, Refusal, is_refusal, Action, Found, Done, Left, Short, Available, PastLimit, NoMemory, Yes, No, Next, Place, Take, Retake, Join, Ask, Remove, Load, HandOn, PassOn, RefuseFit, Try, Lower, GiveBack, Raise, GiveAdded, FitAdded, CancelRemove, CancelLoad, FitGivenBack, Abandon, Words, action_of, next_of, position_after, Share, nothing_had, guard_of, seat_of, share_of, listed, verdict_of, a_fit, Deed, nothing, changes, does, joins, fits, takes, gives_back, forgets, raises, gives, share_after, deed_of, Finds, answer_by, gives_something_back, gives_up}
 use Rattle.lock_program.specs.Refusals.{number_of}
 use Rattle.world_base.specs.table.Ends.{answer_of}
 use Rattle.lock_program.specs.declared.end.Next.TheVariants as next
-use Rattle.world_semaphore.proofs.of_machine.laws.Kept.{after}
 use Rattle.world_semaphore.proofs.of_machine.stages.Taking.{taken}
 
 -- what a call is decided on after this

@@ -1,5 +1,5 @@
 -- For how many permits a party's future, guard or call is after an action.
-use Rattle.world_semaphore.proofs.Prelude.{◌≡◌, ℕ, true, false, Option, Some, None, refl, Call, Inputs, What, Begin, Go, Stage, Within, call_at, polls_again, Found, Done, Left, Yes, Place, Take, Retake, Join, Ask, Remove, Load, HandOn, PassOn, RefuseFit, Try, Lower, GiveBack, Raise, GiveAdded, FitAdded, CancelRemove, CancelLoad, FitGivenBack, Abandon, Position, Next, next_of, position_after, size_at, knows, goes_with, answer_by, is_begun, size_after}
+use Rattle.world_semaphore.proofs.Prelude.{◌≡◌, ℕ, true, false, Some, None, refl, Call, Inputs, What, Begin, Go, Stage, Within, call_at, polls_again, Found, Done, Left, Yes, Place, Take, Retake, Join, Ask, Remove, Load, HandOn, PassOn, RefuseFit, Try, Raise, GiveAdded, FitAdded, CancelRemove, CancelLoad, FitGivenBack, Position, Next, next_of, position_after, size_at, knows, goes_with, answer_by, is_begun, size_after}
 use Rattle.world_semaphore.specs.machine.Seats.{size_of}
 use Rattle.world_semaphore.proofs.of_machine.stages.Taking.{taken}
 use Rattle.world_semaphore.proofs.of_machine.stages.Turns.{Turn, turn}

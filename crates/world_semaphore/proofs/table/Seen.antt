@@ -1,5 +1,5 @@
 -- What callers see of a machine, party by party.
-use Rattle.world_semaphore.proofs.Prelude.{◌≡◌, ℕ, List, arith, sum_by, stage_at, stands_as, Table, mapped_at, sum_mapped, standings_at, Position, Out, Debt, permits_of, permits_at, under_way_at, share_of, size_at, debt_at, verdict, Semaphore, IsSemaphore, position_at, sizes_of, held, under_way, available, share_at, standing_of, size_of, debt_of, view_of}
+use Rattle.world_semaphore.proofs.Prelude.{◌≡◌, ℕ, List, arith, sum_by, stage_at, stands_as, Table, mapped_at, sum_mapped, standings_at, Position, Out, permits_of, permits_at, under_way_at, share_of, size_at, debt_at, verdict, Semaphore, IsSemaphore, position_at, sizes_of, held, under_way, available, share_at, standing_of, size_of, debt_of, view_of}
 
 module _ (t : Table Semaphore) where
   abbrev xs : List Position

@@ -1,5 +1,5 @@
 -- While a party goes on alone, whoever was notified before or is owed something stays covered.
-use Rattle.world_semaphore.proofs.Prelude.{◌≡◌, ℕ, ◌+◌, ◌-◌, ◌<◌, ◌≤◌, ◌⊎◌, inl, inr, Bool, true, false, List, Option, Some, None, refl, arith, ap, sym, ◌∙◌, subst, Entry, is_marked_at, marked_count, without, marked_count-without_waiting, marked_count-joined, is_party, entries_of, is_stepped, Action, Found, Done, Left, Short, Available, PastLimit, NoMemory, Yes, No, Place, Take, Retake, Join, Ask, Remove, Load, HandOn, PassOn, RefuseFit, Try, Lower, GiveBack, Raise, GiveAdded, FitAdded, CancelRemove, CancelLoad, FitGivenBack, Abandon, Position, At, told_more, Words, Next, action_of, next_of, position_after, Debt, nothing_owed, a_look, a_fit, fit_if, seat_of, deed_of, Finds, words_after, entries_after, answer_by}
+use Rattle.world_semaphore.proofs.Prelude.{◌≡◌, ℕ, ◌-◌, ◌<◌, ◌⊎◌, inl, inr, Bool, true, false, List, Option, Some, None, refl, arith, ap, sym, ◌∙◌, subst, Entry, marked_count, marked_count-without_waiting, marked_count-joined, is_party, entries_of, is_stepped, Action, Found, Done, Left, Short, Available, PastLimit, NoMemory, Yes, No, Place, Take, Retake, Join, Ask, Remove, Load, HandOn, PassOn, RefuseFit, Try, Lower, GiveBack, Raise, GiveAdded, FitAdded, CancelRemove, CancelLoad, FitGivenBack, Abandon, At, told_more, Words, Next, action_of, next_of, position_after, Debt, nothing_owed, a_look, a_fit, fit_if, seat_of, deed_of, Finds, words_after, entries_after, answer_by}
 use Rattle.world_semaphore.proofs.of_machine.laws.Entries.{marked_count-fitted}
 use Rattle.world_semaphore.proofs.of_machine.laws.Kept.{more_is, no_more}
 use Rattle.world_semaphore.proofs.of_machine.stages.Taking.{taken}

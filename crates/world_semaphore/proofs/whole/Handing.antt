@@ -1,5 +1,5 @@
 -- A notified party for whom there are too few permits hands over to one for whom there are enough.
-use Rattle.world_semaphore.proofs.Prelude.{◌≡◌, ◌≢◌, ℕ, ◌+◌, ◌<◌, ◌≤◌, ◌==◌, inl, inr, true, false, Bool, List, [], ◌∷◌, length, Option, Some, None, if◌then◌else◌, refl, arith, ap, sym, ◌∙◌, subst, leb-true, nat_tests, Entry, is_marked, is_marked_at, marked_count, is_enough, fit_first, fitted, length-joined, length-without, marked_count-without_marked, marked_count-joined, is_party, entries_of, Answer, Call, Inputs, What, Begin, Rest, Within, outside, inputs_of, is_stepped, moves_of, answers_of, Table, marked_listed, some_eq, none_some, is_there, Action, Found, Done, Left, Short, NoMemory, Yes, No, Place, Take, Retake, Join, Ask, PassOn, Position, Out, Unlisted, Waiting, At, Words, action_of, next_of, place_for, seat_of, size_at, listed, Deed, nothing, changes, does, deed_of, Finds, words_after, entries_after, Semaphore, answer_by, position_at, sizes_of, State, World, standing_of, available, size_of, IsFreeAndWanted, state_after, HandsOver, Known, Runs, view_of}
+use Rattle.world_semaphore.proofs.Prelude.{◌≡◌, ◌≢◌, ℕ, ◌+◌, ◌<◌, ◌≤◌, inl, true, false, Bool, List, [], ◌∷◌, length, Some, None, refl, arith, ap, sym, ◌∙◌, subst, leb-true, nat_tests, Entry, is_marked, is_marked_at, marked_count, is_enough, fit_first, fitted, length-joined, length-without, marked_count-without_marked, marked_count-joined, is_party, entries_of, Answer, Call, Inputs, What, Begin, Rest, Within, outside, inputs_of, is_stepped, moves_of, answers_of, Table, some_eq, none_some, is_there, Action, Found, Done, Left, Short, NoMemory, Yes, No, Place, Take, Retake, Join, Ask, PassOn, Position, Waiting, At, Words, action_of, next_of, place_for, seat_of, size_at, listed, Deed, nothing, changes, does, deed_of, Finds, words_after, entries_after, Semaphore, answer_by, position_at, sizes_of, State, World, standing_of, size_of, state_after, Known, Runs, view_of}
 use Rattle.world_semaphore.proofs.of_machine.laws.Entries.{length-fitted}
 use Rattle.world_semaphore.proofs.of_machine.laws.Kept.{after}
 use Rattle.world_semaphore.proofs.table.Seen as seen

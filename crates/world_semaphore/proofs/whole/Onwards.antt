@@ -1,5 +1,5 @@
 -- What each action of a party's whole call keeps holds along it, and what the last one says holds at its end.
-use Rattle.world_semaphore.proofs.Prelude.{◌≡◌, ◌≢◌, ℕ, ◌⊎◌, inl, inr, true, false, Some, None, refl, arith, ap, sym, ◌∙◌, subst, Answer, Call, Inputs, Move, What, Begin, Go, Rest, Stage, Outside, Inside, Forgotten, Within, outside, inputs_of, is_stepped, going_on, moves_of, answers_of, beginning, by_stage_or_past, past_last, outside_stage, stage_at, stands_as, call_at, polls_again, Table, Place, Position, Out, At, Next, place_for, next_of, position_after, verdict, Semaphore, IsSemaphore, knows, goes_with, answer_by, position_at, World, standing_of, Steps, IsSemaphoreTable, view_of, Known, HoldsWell, learn, Runs}
+use Rattle.world_semaphore.proofs.Prelude.{◌≡◌, ◌≢◌, ℕ, ◌⊎◌, inl, inr, true, false, Some, None, refl, arith, ap, sym, ◌∙◌, subst, Answer, Call, Inputs, What, Begin, Go, Rest, Stage, Outside, Inside, Forgotten, Within, outside, inputs_of, is_stepped, going_on, moves_of, answers_of, beginning, by_stage_or_past, past_last, outside_stage, stage_at, call_at, polls_again, Table, Place, Position, Out, At, Next, place_for, next_of, position_after, verdict, Semaphore, knows, goes_with, answer_by, position_at, World, standing_of, Steps, view_of, Known, HoldsWell, learn, Runs}
 use Rattle.world_base.proofs.of_any_world.Runs.{Onward, along}
 use Rattle.lock_program.specs.declared.end.Next.TheVariants as next
 use Rattle.lock_program.specs.declared.end.End.{End}

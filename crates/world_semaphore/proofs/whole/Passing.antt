@@ -1,5 +1,5 @@
 -- A poll or a drop of a pending party leaves some entry notified, if as many permits are available as somebody listed waits for, where one was.
-use Rattle.world_semaphore.proofs.Prelude.{◌≡◌, ◌≢◌, ℕ, ◌<◌, ◌≤◌, ◌⊎◌, inl, inr, true, false, Bool, List, Option, Some, None, refl, arith, ap, sym, ◌∙◌, subst, ℕ_discrete, Entry, marked_count, fitted, entries_of, Answer, Call, Inputs, What, Begin, Rest, Within, is_refusal, outside, inputs_of, is_stepped, moves_of, answers_of, some_eq, none_some, Table, Action, Found, Done, Left, Yes, Place, Take, Retake, Join, Ask, Remove, Load, HandOn, PassOn, RefuseFit, FitAdded, FitGivenBack, CancelRemove, Abandon, Position, Out, Unlisted, Waiting, Holding, At, Words, action_of, next_of, place_for, a_look, seat_of, size_at, listed, deed_of, Finds, words_after, entries_after, Semaphore, IsSemaphore, answer_by, position_at, sizes_of, World, standing_of, IsFreeAndWanted, Known, Runs, IsSemaphoreTable, view_of}
+use Rattle.world_semaphore.proofs.Prelude.{◌≡◌, ◌≢◌, ℕ, ◌<◌, ◌≤◌, ◌⊎◌, inl, inr, true, false, Bool, List, Some, None, refl, arith, ap, sym, ◌∙◌, subst, ℕ_discrete, Entry, marked_count, fitted, entries_of, Answer, Call, Inputs, What, Begin, Rest, Within, is_refusal, outside, inputs_of, is_stepped, moves_of, answers_of, some_eq, none_some, Table, Action, Found, Done, Left, Yes, Place, Take, Retake, Ask, Remove, Load, HandOn, PassOn, RefuseFit, FitAdded, FitGivenBack, Position, Waiting, At, Words, action_of, next_of, place_for, a_look, seat_of, size_at, listed, deed_of, Finds, words_after, entries_after, Semaphore, answer_by, position_at, sizes_of, World, standing_of, IsFreeAndWanted, Known, Runs, view_of}
 use Rattle.world_semaphore.specs.machine.Seats.{size_of}
 use Rattle.world_semaphore.proofs.of_machine.laws.Entries.{entries_of-fitted, fitted_marks, wanted_so}
 use Rattle.world_semaphore.proofs.of_machine.laws.Kept.{after}

@@ -1,5 +1,5 @@
 -- What whole calls promise.
-use Rattle.world_semaphore.proofs.Prelude.{◌≡◌, ◌≢◌, ℕ, ◌<◌, ◌≤◌, ◌⊎◌, inl, inr, true, false, List, length, Some, refl, arith, ap, sym, ◌∙◌, subst, le-leb, Entry, marked_count, is_marked_at, is_party, entries_of, Answer, Call, Plain, Inputs, Begin, Go, Kind, Rest, Within, Standing, outside, call_in, StandsAfter, going_on, moves_of, answers_of, beginning, marked_listed, chosen, Table, guard_of, listed, Semaphore, knows, position_at, World, share_at, available, standing_of, size_of, call_of, size_after, wanted_in, HasItsOwn, is_first_poll, is_poll, IsFreeAndWanted, Steps, Stands, view_of, Known, HoldsWell, learn, Runs, IsSolo, Takes, HandsOver, Promises}
+use Rattle.world_semaphore.proofs.Prelude.{◌≡◌, ◌≢◌, ℕ, ◌<◌, ◌≤◌, ◌⊎◌, inl, inr, true, List, length, Some, refl, arith, ap, sym, ◌∙◌, subst, le-leb, Entry, marked_count, is_marked_at, is_party, entries_of, Answer, Call, Plain, Inputs, Begin, Go, Kind, Rest, Within, Standing, outside, call_in, StandsAfter, going_on, moves_of, answers_of, beginning, marked_listed, chosen, Table, guard_of, listed, Semaphore, knows, position_at, World, share_at, available, standing_of, size_of, call_of, size_after, wanted_in, HasItsOwn, is_first_poll, is_poll, IsFreeAndWanted, Steps, Stands, Known, HoldsWell, learn, Runs, IsSolo, Takes, HandsOver, Promises}
 use Rattle.world_base.proofs.of_any_world.Endings.{ends_on}
 use Rattle.world_base.proofs.of_any_world.Runs.{Onward, along, at_first, first_of, last_of}
 use Rattle.world_semaphore.proofs.table.Seen as seen

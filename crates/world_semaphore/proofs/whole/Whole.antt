@@ -1,7 +1,6 @@
 -- A call that is carried out alone ends within its number of steps.
-use Rattle.world_semaphore.proofs.Prelude.{◌≡◌, ℕ, ◌+◌, ◌<◌, ◌≤◌, if◌then◌else◌, Bool, true, false, List, Option, Some, None, refl, arith, ap, sym, ◌∙◌, subst, Entry, is_marked_at, is_party, entries_of, Answer, Call, Inputs, Move, What, Begin, Go, Stage, Within, inputs_of, going_on, some_eq, left_by, beginning, stage_at, call_at, polls_again, Table, unlisted_unmarked, joined_unmarked, Found, Done, Left as Left_there, Short, Available, PastLimit, NoMemory, Yes, No, Place, Take, Retake, Join, Ask, Remove, Load, HandOn, PassOn, RefuseFit, Try, Lower, GiveBack, Raise, GiveAdded, FitAdded, CancelRemove, CancelLoad, FitGivenBack, Abandon, Position, Out, Unlisted, Waiting, Holding, At, Words, Next, action_of, next_of, position_after, seat_of, listed, deed_of, entries_after, Finds, Semaphore, IsSemaphore, answer_by, position_at, sizes_of, knows, goes_with, IsSemaphoreTable, TableSteps}
+use Rattle.world_semaphore.proofs.Prelude.{◌≡◌, ℕ, ◌+◌, ◌<◌, ◌≤◌, if◌then◌else◌, Bool, true, false, List, Some, None, refl, arith, ap, sym, ◌∙◌, subst, Entry, is_marked_at, is_party, entries_of, Answer, Call, Inputs, Move, What, Begin, Go, Stage, Within, inputs_of, going_on, some_eq, left_by, beginning, stage_at, call_at, polls_again, Table, joined_unmarked, Found, Done, Left as Left_there, Short, PastLimit, NoMemory, Yes, No, Place, Take, Retake, Join, Ask, Remove, Load, HandOn, PassOn, RefuseFit, Try, Lower, GiveBack, Raise, GiveAdded, FitAdded, CancelRemove, CancelLoad, FitGivenBack, Abandon, Position, Out, Unlisted, Waiting, Holding, At, Words, Next, action_of, next_of, position_after, seat_of, deed_of, entries_after, Finds, Semaphore, IsSemaphore, answer_by, position_at, sizes_of, knows, goes_with, IsSemaphoreTable, TableSteps}
 use Rattle.world_semaphore.specs.machine.Ranks.{left, left_at, is_own_marked, steps_left}
-use Rattle.world_semaphore.proofs.of_machine.laws.Kept.{after}
 use Rattle.world_semaphore.proofs.of_machine.stages.Taking.{taken}
 use Rattle.world_semaphore.proofs.of_machine.stages.Turns.{Turn, turn}
 use Rattle.world_semaphore.specs.Whole.{most_steps_of}

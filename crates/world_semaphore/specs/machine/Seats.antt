@@ -1,5 +1,5 @@
 -- What a party has and owes where it stands, so that sums over the parties count it.
-use Rattle.std.specs.Prelude.{ℕ, ◌==◌, if◌then◌else◌, Bool, true, false, Option, Some, None, nat_le, unwrap_or}
+use Rattle.std.specs.Prelude.{ℕ, ◌==◌, Bool, true, false, Option, Some, None, nat_le, unwrap_or}
 pub use Rattle.world_base.specs.Rosters.{bit}
 use Rattle.world_base.specs.declared.moves.Answer.{Answer}
 use Rattle.world_base.specs.declared.moves.Answer.TheVariants.{Ready, Granted, Pending, GivenBack}

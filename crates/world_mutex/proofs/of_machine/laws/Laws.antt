@@ -1,5 +1,5 @@
 -- What always holds of a mutex, as callers see it.
-use Rattle.world_mutex.proofs.Prelude.{◌≡◌, ℕ, Bool, true, zero, suc, List, [], ◌∷◌, length, refl, ap, arith, sym, ◌∙◌, marked_count, IsMarkedFirst, Queue, Place, Out, Holding, Ask, AskStarved, Action, Found, Done, Free, Held, SomeStarved, AtLimit, NoMemory, Yes, No, Word, bit, counted, listed, waits, owes, is_resting, OnWord, OnList, Lock, IsLock, place_at, Finds, IsAtRest, IsMutex, ◌<◌, ◌⊎◌, inl, inr, is_waiting, is_due_there as is_due, Retry, PassOn, JoinStarved, LookAlone, PassOnListed, Seize, RefuseUncount, RefuseNotifyMemory, RefuseNotifyStarved, ReleaseNotify}
+use Rattle.world_mutex.proofs.Prelude.{◌≡◌, ℕ, Bool, true, zero, suc, List, [], ◌∷◌, length, refl, ap, arith, sym, ◌∙◌, marked_count, IsMarkedFirst, Queue, Place, Out, Holding, Ask, AskStarved, Action, Found, Done, Free, Held, SomeStarved, AtLimit, NoMemory, Yes, No, Word, bit, counted, listed, waits, owes, is_resting, OnWord, OnList, Lock, IsLock, place_at, Finds, IsMutex, ◌<◌, ◌⊎◌, inl, inr, is_waiting, is_due_there as is_due, Retry, PassOn, JoinStarved, LookAlone, PassOnListed, Seize, RefuseUncount, RefuseNotifyMemory, RefuseNotifyStarved, ReleaseNotify}
 use Rattle.world_base.specs.queue.Debts.{Roles, Rests}
 use Rattle.world_base.proofs.of_queue.Debts.{paid_at_rest}
 use Rattle.world_base.proofs.of_table.Resting.{one_at_rest, nothing_owed}

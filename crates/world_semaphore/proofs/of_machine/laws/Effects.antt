@@ -1,5 +1,5 @@
 -- What an action does, in numbers.
-use Rattle.world_semaphore.proofs.Prelude.{◌≡◌, ℕ, ◌<◌, ◌≤◌, Bool, true, false, refl, arith, is_wanted, length-joined, length-without, marked_count-without_marked, marked_count-without_waiting, marked_count-joined, is_party, WeightedQueue, is_there, Action, Found, Done, Left, Short, Available, PastLimit, NoMemory, Yes, No, Words, CanDo, Finds, deed_of, words_after, entries_after, tally_of}
+use Rattle.world_semaphore.proofs.Prelude.{◌≡◌, ℕ, ◌<◌, ◌≤◌, Bool, true, refl, arith, is_wanted, length-joined, length-without, marked_count-without_marked, marked_count-without_waiting, marked_count-joined, is_party, WeightedQueue, is_there, Action, Found, Done, Left, Short, Available, PastLimit, NoMemory, Yes, No, Words, CanDo, Finds, deed_of, words_after, entries_after, tally_of}
 use Rattle.world_semaphore.proofs.of_machine.laws.Steps.{Effect}
 use Rattle.world_semaphore.proofs.of_machine.laws.Entries.{length-fitted, marked_count-fitted, fitted_marks}
 

@@ -1,5 +1,5 @@
 -- What a list function does to the list, in numbers and party by party.
-use Rattle.world_semaphore.proofs.Prelude.{◌≡◌, ◌≢◌, ℕ, zero, suc, ◌+◌, ◌<◌, ◌≤◌, ◌⊎◌, inl, inr, ◌==◌, if◌then◌else◌, Bool, true, false, List, [], ◌∷◌, length, nat_le, refl, arith, ap, sym, ◌∙◌, subst, le-leb, leb-true, nat_tests, Entry, entry, is_marked, is_marked_at, marked_count, without, is_enough, fit_first, fitted, is_wanted, length-joined, length-without, is_party, entries_of, is_there, Deed, ListFunction, nothing, changes, does, joins, asks, removes, fits, list_after, entries_after}
+use Rattle.world_semaphore.proofs.Prelude.{◌≡◌, ◌≢◌, ℕ, ◌+◌, ◌<◌, ◌≤◌, ◌==◌, if◌then◌else◌, Bool, true, false, List, [], ◌∷◌, length, nat_le, refl, arith, ◌∙◌, le-leb, leb-true, nat_tests, Entry, entry, is_marked_at, marked_count, without, is_enough, fit_first, fitted, is_wanted, length-joined, length-without, is_party, entries_of, is_there, Deed, ListFunction, nothing, changes, does, joins, asks, removes, fits, list_after, entries_after}
 use Rattle.lock_event.specs.declared.event.Mark.TheVariants.{Waiting}
 use Rattle.world_base.proofs.of_queue.Queues.{own_one, other_one}
 use Rattle.world_base.proofs.of_queue.Rekeyed.{entries_of-joined, entries_of-without_own, entries_of-without_other}

@@ -1,5 +1,5 @@
 -- Each step keeps what always holds of the numbers.
-use Rattle.world_semaphore.proofs.Prelude.{◌≡◌, ℕ, ◌+◌, ◌<◌, ◌≤◌, ◌⊎◌, inl, inr, zero, suc, true, false, Bool, Option, Some, None, nat_le, nat_lt, ◌==◌, if◌then◌else◌, refl, arith, le-leb, lt-leb, nat_tests, Action, Found, Done, Left, Short, Available, PastLimit, NoMemory, Yes, No, Place, Take, Retake, Join, Ask, Remove, Load, HandOn, PassOn, RefuseFit, Try, Lower, GiveBack, Raise, GiveAdded, FitAdded, CancelRemove, CancelLoad, FitGivenBack, Abandon, Position, told_more, after_taking_with, action_of, next_of, position_after, seat_of, seated, waits_for, waits, bit, pays, fit_if, Tally, Counts}
+use Rattle.world_semaphore.proofs.Prelude.{◌≡◌, ℕ, ◌+◌, ◌<◌, ◌≤◌, ◌⊎◌, inl, inr, true, false, Option, Some, None, nat_le, ◌==◌, refl, arith, le-leb, nat_tests, Action, Found, Done, Left, Short, Available, PastLimit, NoMemory, Yes, No, Place, Take, Retake, Join, Ask, Remove, Load, HandOn, PassOn, RefuseFit, Try, Lower, GiveBack, Raise, GiveAdded, FitAdded, CancelRemove, CancelLoad, FitGivenBack, Abandon, Position, told_more, after_taking_with, action_of, next_of, position_after, seat_of, seated, waits_for, waits, bit, pays, fit_if, Tally, Counts}
 use Rattle.world_semaphore.specs.machine.Tally.{IsSound}
 use Rattle.world_semaphore.proofs.of_machine.laws.Steps.{Effect, Goes}
 

@@ -1,5 +1,5 @@
 -- What always holds of a semaphore, as callers see it.
-use Rattle.world_semaphore.proofs.Prelude.{◌≡◌, ℕ, zero, suc, ◌<◌, ◌≤◌, true, List, [], ◌∷◌, length, get_or, refl, arith, sym, ◌∙◌, subst, sum_by, get_or-le-sum_by, sum_by-cons, marked_count, is_wanted, entries_of, WeightedQueue, past_last, same_test, Position, Out, Unlisted, Waiting, Holding, At, Words, bit, listed, waits, owes, size_at, is_short, is_resting, IsKept, IsAtRest, IsSemaphore, position_at, sizes_of}
+use Rattle.world_semaphore.proofs.Prelude.{◌≡◌, ℕ, zero, suc, ◌<◌, ◌≤◌, true, List, [], ◌∷◌, length, get_or, refl, arith, sum_by, get_or-le-sum_by, sum_by-cons, marked_count, is_wanted, WeightedQueue, same_test, Position, Out, Unlisted, Waiting, Holding, At, Words, listed, waits, owes, size_at, is_short, is_resting, IsKept, IsAtRest, IsSemaphore, position_at, sizes_of}
 use Rattle.world_base.proofs.of_table.Resting.{one_at_rest}
 use Rattle.world_semaphore.proofs.of_machine.laws.Entries.{wanted_who}
 

@@ -1,14 +1,13 @@
 -- An action of one party keeps what always holds of a semaphore.
-use Rattle.world_semaphore.proofs.Prelude.{◌≡◌, ◌≢◌, ℕ, ◌+◌, ◌<◌, ◌≤◌, ◌⊎◌, inl, inr, Bool, true, false, List, length, get_or, Option, Some, None, ◌==◌, refl, arith, ap, sym, subst, ◌∙◌, length-set, get_or-set_same, get_or-set_other, set, ℕ_discrete, sum_by, get_or_default, sum_by-set, get_or-le-sum_by, nat_tests, Entry, is_wanted, entries_of, WeightedQueue, weighted_queue, weight_in, What, Rest, Stage, Within, some_eq, call_at, polls_again, stage_after, Keeps, Action, Found, Done, Left, Short, Available, PastLimit, NoMemory, Yes, No, Place, Take, Retake, Join, Ask, Remove, Load, HandOn, PassOn, RefuseFit, Try, Lower, GiveBack, Raise, GiveAdded, FitAdded, CancelRemove, CancelLoad, FitGivenBack, Abandon, Position, Out, Unlisted, Waiting, Holding, At, Words, place_for, action_of, next_of, position_after, Seat, bit, pays, seat_of, seated, permits_of, permits_at, under_way_at, listed, waits_for, waits, owes, size_at, is_short_at, is_short, Deed, CanDo, Finds, deed_of, words_after, entries_after, weights_after, fits as fits_so, does, changes, nothing, joins, asks, removes, Tally, tally_of, counts_of, Semaphore, IsKept, knows, goes_with, answer_by, runs, position_at, sizes_of, told_more}
+use Rattle.world_semaphore.proofs.Prelude.{◌≡◌, ◌≢◌, ℕ, ◌+◌, ◌<◌, ◌≤◌, ◌⊎◌, inl, inr, Bool, true, false, List, length, get_or, Some, None, ◌==◌, refl, arith, ap, sym, subst, ◌∙◌, length-set, get_or-set_same, get_or-set_other, set, ℕ_discrete, sum_by, get_or_default, sum_by-set, get_or-le-sum_by, nat_tests, Entry, is_wanted, entries_of, WeightedQueue, weighted_queue, weight_in, What, Rest, Stage, Within, some_eq, call_at, polls_again, stage_after, Keeps, Action, Found, Done, Left, Short, Available, PastLimit, NoMemory, Yes, No, Place, Take, Retake, Join, Ask, Remove, Load, HandOn, PassOn, RefuseFit, Try, Lower, GiveBack, Raise, GiveAdded, FitAdded, CancelRemove, CancelLoad, FitGivenBack, Abandon, Position, Out, Waiting, At, Words, place_for, action_of, next_of, position_after, Seat, bit, pays, seat_of, seated, permits_of, permits_at, under_way_at, listed, waits_for, waits, owes, size_at, is_short_at, is_short, Deed, CanDo, Finds, deed_of, words_after, entries_after, weights_after, fits as fits_so, does, changes, nothing, joins, asks, removes, Tally, tally_of, counts_of, Semaphore, IsKept, knows, goes_with, answer_by, runs, position_at, sizes_of}
 use Rattle.world_base.proofs.Owing.{some_term}
 use Rattle.world_semaphore.specs.machine.Seats.{size_of}
 use Rattle.world_semaphore.specs.machine.Tally.{IsSound}
 use Rattle.world_semaphore.specs.machine.Machine.{Stands}
-use Rattle.world_semaphore.proofs.of_machine.laws.Steps.{Effect, Goes}
+use Rattle.world_semaphore.proofs.of_machine.laws.Steps.{Goes}
 use Rattle.world_semaphore.proofs.of_machine.laws.Effects.{numbers}
 use Rattle.world_semaphore.proofs.of_machine.laws.Entries.{CanOf, own, others, wanted_so, fitted-agree}
 use Rattle.world_semaphore.proofs.of_machine.laws.Kept.{after, kept}
-use Rattle.world_semaphore.proofs.of_machine.laws.Laws.{listed_known}
 use Rattle.world_semaphore.proofs.of_machine.laws.CanDo.{can_do}
 use Rattle.world_semaphore.proofs.of_machine.stages.Turns.{Fits, fits, lands}
 use Rattle.world_semaphore.proofs.of_machine.stages.Taking.{taken}

@@ -1,5 +1,5 @@
 -- A new semaphore.
-use Rattle.world_semaphore.proofs.Prelude.{ℕ, ◌≤◌, [], replicate, refl, sym, arith, length-replicate, weighted_queue, Out, words, permits_at, under_way_at, listed, waits, is_short, IsKept}
+use Rattle.world_semaphore.proofs.Prelude.{ℕ, ◌≤◌, [], replicate, refl, sym, arith, length-replicate, weighted_queue, Out, words, permits_at, under_way_at, listed, waits, IsKept}
 use Rattle.world_base.proofs.Alike.{all_alike, none_of_all}
 
 pub new_is : (n permits most : ℕ) → permits ≤ most → IsKept (words permits permits most) (replicate n Out) (weighted_queue n [] (replicate n 0))

@@ -1,5 +1,5 @@
 -- What a step does to the numbers.
-use Rattle.world_semaphore.proofs.Prelude.{◌≡◌, ℕ, ◌+◌, ◌<◌, ◌≤◌, Bool, true, false, Action, Found, Done, Left, Short, Available, PastLimit, NoMemory, Yes, No, Position, Seat, permits_of, bit, pays, Tally, Counts}
+use Rattle.world_semaphore.proofs.Prelude.{◌≡◌, ℕ, ◌+◌, ◌<◌, ◌≤◌, Action, Found, Done, Left, Short, Available, PastLimit, NoMemory, Yes, No, Seat, permits_of, bit, pays, Tally, Counts}
 
 abbrev pub SameList : Tally → Tally → Type 0
 SameList s t = (t.size ≡ s.size) × (t.marked ≡ s.marked)

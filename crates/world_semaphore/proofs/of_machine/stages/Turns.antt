@@ -1,7 +1,6 @@
 -- Where a call begins or goes on, and at which stage its party is after its action.
-use Rattle.world_semaphore.proofs.Prelude.{◌≡◌, ℕ, ◌≤◌, ◌&&◌, true, false, Bool, Option, Some, None, refl, sym, subst, arith, false≢true, Call, Inputs, What, Begin, Go, Kind, Rest, Stage, Outside, Inside, Forgotten, Within, within, some_eq, none_some, both, call_at, polls_again, stage_after, Found, Done, Left, Yes, Place, Take, Retake, Join, Ask, Remove, Load, HandOn, PassOn, RefuseFit, Try, Lower, GiveBack, Raise, GiveAdded, FitAdded, CancelRemove, CancelLoad, FitGivenBack, Abandon, Position, Out, Unlisted, Waiting, Holding, At, told_more, is_told, Next, place_for, next_of, position_after, seat_of, seated, waits_for, waits, is_short_at, is_short, size_at, knows, runs, is_polling, is_begun, goes_with, answer_by}
+use Rattle.world_semaphore.proofs.Prelude.{◌≡◌, ℕ, ◌≤◌, ◌&&◌, true, false, Some, None, refl, sym, subst, arith, false≢true, Call, Inputs, What, Begin, Go, Kind, Rest, Stage, Outside, Inside, Forgotten, Within, within, some_eq, none_some, both, call_at, polls_again, stage_after, Found, Done, Left, Yes, Place, Take, Retake, Join, Ask, Remove, Load, HandOn, PassOn, RefuseFit, Try, Lower, GiveBack, Raise, GiveAdded, FitAdded, CancelRemove, CancelLoad, FitGivenBack, Abandon, Position, Out, Unlisted, Waiting, Holding, At, told_more, is_told, Next, place_for, next_of, position_after, seat_of, seated, waits_for, waits, is_short_at, is_short, size_at, knows, runs, is_polling, is_begun, goes_with, answer_by}
 use Rattle.world_semaphore.specs.machine.Seats.{size_of}
-use Rattle.world_semaphore.proofs.of_machine.laws.Kept.{after}
 use Rattle.world_semaphore.proofs.of_machine.stages.Taking.{taken}
 
 -- The moves of a semaphore's parties: each call from where it may begin, and going on.

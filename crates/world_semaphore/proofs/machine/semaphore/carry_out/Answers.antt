@@ -1,5 +1,5 @@
 -- What each action finds and does: all else stays as it was.
-use Rattle.world_semaphore.proofs.Prelude.{◌≡◌, ℕ, ◌+◌, true, false, Bool, List, refl, sym, ap, Entry, is_marked_at, without, Action, Found, is_party, WeightedQueue, weighted_queue, weight_in, Words, Finds, FindsSo, deed_of, entries_after, words, words_after, told_by}
+use Rattle.world_semaphore.proofs.Prelude.{◌≡◌, ℕ, ◌+◌, true, false, Bool, List, refl, sym, ap, Entry, is_marked_at, without, Action, Found, is_party, WeightedQueue, weighted_queue, weight_in, Words, FindsSo, deed_of, entries_after, words, told_by}
 use Rattle.world_semaphore.specs.machine.Carried.{Carried}
 use Rattle.world_semaphore.proofs.machine.semaphore.carry_out.Goals as goal
 

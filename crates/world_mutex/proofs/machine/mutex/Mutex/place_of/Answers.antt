@@ -1,5 +1,5 @@
 -- The place is the concealed machine's.
-use Rattle.world_mutex.proofs.Prelude.{ap, sym, ◌∙◌, slice_get, reveal, revealed, place_behind, Lock, Mutex}
+use Rattle.world_mutex.proofs.Prelude.{ap, sym, ◌∙◌, slice_get, revealed, place_behind, Lock, Mutex}
 use Rattle.world_mutex.proofs.machine.mutex.Mutex.place_of.Goals as goal
 
 pub returns : goal.returns
