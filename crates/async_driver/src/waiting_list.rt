@@ -1,6 +1,6 @@
 //! The waiting list of a lock that threads share.
 
-ghost use Rattle.std.specs.Prelude.{◌≡◌, ℕ, ◌≤◌, false, IfOk, IfSome, IfNone, None};
+ghost use Rattle.std.specs.Prelude.{◌≡◌, ℕ, ◌≤◌, false, IfOk, IfSome, IfNone, IsSome, None};
 ghost use Rattle.async_driver.specs.Heard.{IsOf, IsTold, OnNotified, OnPolled, OnWaiting, KeepsAt, IsKept, HasLeft};
 ghost use Rattle.futures.specs.Task.{Covers, Keeps};
 ghost use Rattle.lock_event.specs.Lists.{is_waiting_at};
@@ -299,20 +299,36 @@ impl<W: Wakes> WaitingList<W> {
     }
 
     // As `notify`, of a list that may have entries.
-    #[inline(never)]
+    #[inline]
     fn notify_listed<R: Wait>(&self, rt: &R, n: usize, owed: Owed)
         requires { 1 ≤ n }
     {
         if n == 1 {
-            let due = match &mut *locked(&self.entries, rt) {
-                Some(entries) => notify_one(entries, &self.summary, owed),
-                None => unlisted(owed, self.alloc).next,
-            };
-            if let Some(waker) = due {
-                waker.wake();
-            }
-            return;
+            self.notify_first(rt, owed);
+        } else {
+            self.notify_many(rt, n, owed);
         }
+    }
+
+    // The same of one. It stands apart from a notification of many, since the room of that would be cleared here too.
+    #[inline(never)]
+    fn notify_first<R: Wait>(&self, rt: &R, owed: Owed) {
+        let due = match &mut *locked(&self.entries, rt) {
+            Some(entries) => notify_one(entries, &self.summary, owed),
+            None => {
+                owed.end_unlisted();
+                None
+            }
+        };
+        if let Some(waker) = due {
+            waker.wake();
+        }
+    }
+
+    #[inline(never)]
+    fn notify_many<R: Wait>(&self, rt: &R, n: usize, owed: Owed)
+        requires { 1 ≤ n }
+    {
         let due = match &mut *locked(&self.entries, rt) {
             Some(entries) => {
                 owed.notify(entries, n);
@@ -493,20 +509,29 @@ impl WaitingList<Waker> {
 // The calls as they are under the list's lock.
 
 // The list, which is made where nobody joined before.
+#[inline(always)]
 fn made<W: Wakes>(
     entries: &mut Option<Box<Event<W>>>,
     alloc: Global,
 ) -> Result<&mut Event<W>, Memory> {
     if entries.is_none() {
-        let Ok(made) = Box::new(alloc, Event::new(alloc)) else {
-            return Err(Memory);
-        };
-        *entries = Some(made);
+        make(entries, alloc)?;
     }
     match entries {
         Some(entries) => Ok(entries),
         None => unreachable!(),
     }
+}
+
+#[inline(never)]
+fn make<W: Wakes>(entries: &mut Option<Box<Event<W>>>, alloc: Global) -> Result<(), Memory>
+    ensures { IfOk result (λ _. IsSome entries.new) }
+{
+    let Ok(made) = Box::new(alloc, Event::new(alloc)) else {
+        return Err(Memory);
+    };
+    *entries = Some(made);
+    Ok(())
 }
 
 // By the contract the entry that has joined keeps a waker of the task that is answered.

@@ -1,6 +1,9 @@
 -- What contracts see of a mutex's future, and what a poll answers.
 use Rattle.std.specs.Prelude.{◌≡◌, ℕ, Bool, true, false, ⊤, Option, None}
 use Rattle.async_mutex.specs.declared.stage.Stage.{Stage}
+use Rattle.async_mutex.specs.Stages.{HasShare}
+use Rattle.async_mutex.specs.declared.stage.Look.{Look}
+use Rattle.async_mutex.specs.declared.stage.Look.TheVariants as looks
 use Rattle.async_mutex.specs.declared.stage.Stage.TheVariants as stages
 use Rattle.async_driver.specs.declared.turn.Turn.{Turn}
 use Rattle.async_driver.specs.declared.turn.Turn.TheVariants.{Pending, Ready, Refused}
@@ -49,6 +52,12 @@ module _ {O T R : Type 0} (lock_of : O → Mutex T R) where
   abbrev pub GotAt : Stage O → Seated → Hold T → Type 0
   GotAt (stages.Waits owner) seat hold = Holds (lock_of owner).raw.words seat hold × (seat.starved ≡ false)
   GotAt _ seat hold = ⊥
+
+  -- a first look got the lock, or was in vain; nobody looks where who has the mutex isn't there
+  abbrev pub Looks : Stage O → Look T → Type 0
+  Looks stage (looks.Got seat hold) = GotAt stage seat hold
+  Looks stage (looks.Vain vain) = HasShare stage
+  Looks stage looks.NoShare = HasShare stage → ⊥
 
   -- its party was told at its mutex, and has its duty
   abbrev pub ToldAs : Stage O → Owed → Kept T → Type 0

@@ -17,3 +17,8 @@ abbrev pub IsFor : {O L : Type 0} → (O → L) → Stage O → L → Type 0
 IsFor lock_of (Waits owner) lock = lock ≡ lock_of owner
 IsFor lock_of Unowned lock = ⊤
 IsFor lock_of Finished lock = ⊥
+
+-- who has the lock is there
+abbrev pub HasShare : {O : Type 0} → Stage O → Type 0
+HasShare (Waits owner) = ⊤
+HasShare _ = ⊥

@@ -9,7 +9,9 @@ ghost use Rattle.async_mutex.specs.Futures.{HasReceipt, IsTurn, WaitsAt, future}
 use crate::guard::Guard;
 use crate::mutex::Mutex;
 use crate::owns::Owns;
-use crate::stage::{Stage, drop_stage, first_turn, into_guard, later_turn, take};
+use crate::stage::{
+    Look, Stage, drop_stage, first_look, first_turn, into_guard, later_turn, no_share,
+};
 use async_driver::{Polled, Turn};
 use futures::task::Context;
 use lock_driver::{RawMutex, Waiting};
@@ -75,14 +77,16 @@ impl<T, R: Wait + Clock, O: Owns<T, R>> LockFuture<T, R, O> {
         ensures kept { Keeps cx.old cx.new }
     {
         if self.waiting.is_none() {
-            if let Some((seat, hold)) = take::<T, R, O>(&self.stage) {
-                let stage = mem::replace(&mut self.stage, Stage::Finished);
-                return Turn::Ready(into_guard(stage, seat, hold));
-            }
-            if let Stage::Finished = self.stage {
-                return Turn::Refused(Refusal::Finished);
-            }
-            return first_turn::<T, R, O>(&mut self.stage, cx, &mut self.waiting);
+            return match first_look::<T, R, O>(&self.stage) {
+                Look::Got(seat, hold) => {
+                    let stage = mem::replace(&mut self.stage, Stage::Finished);
+                    Turn::Ready(into_guard(stage, seat, hold))
+                }
+                Look::Vain(vain) => {
+                    first_turn::<T, R, O>(&mut self.stage, cx, vain, &mut self.waiting)
+                }
+                Look::NoShare => Turn::Refused(no_share(&self.stage)),
+            };
         }
         later_turn::<T, R, O>(&mut self.stage, cx, &mut self.waiting)
     }

@@ -43,6 +43,8 @@ impl<T: Drop, R: AllocGlobal + Drop> Mutex<T, R> {
     /// Creates a free mutex over a value. If memory is refused, it returns [`Refusal::Memory`] and drops the value.
     ///
     /// No forgotten guard has left the mutex held (`is_left`), and as many waiters may be starved as [`STARVED_LIMIT`] says (`limit`).
+    // In line, as all that makes a mutex: so it isn't copied from one place to the next.
+    #[inline(always)]
     pub fn new(rt: R, value: T) -> Result<Mutex<T, R>, Refusal>
         ensures memory { IfErr result (λ refusal. refusal ≡ Refusal.Memory) }
         ensures is_left { IfOk result (λ mutex. mutex.raw.words.is_left ≡ false) }
@@ -52,6 +54,7 @@ impl<T: Drop, R: AllocGlobal + Drop> Mutex<T, R> {
     }
 
     /// Creates a free mutex as [`Mutex::new`] does, where at most `limit` waiters may be starved at once. It is for tests.
+    #[inline(always)]
     pub fn with_limit(rt: R, value: T, limit: u64) -> Result<Mutex<T, R>, Refusal>
         requires { limit ≤ 1073741823 }
         ensures memory { IfErr result (λ refusal. refusal ≡ Refusal.Memory) }
@@ -94,7 +97,7 @@ impl<T, R: Wait> Mutex<T, R> {
     pub fn try_lock(&self) -> Option<MutexGuard<'_, T, R>>
         ensures { IfSome result (λ guard. guard.mutex ≡ self.now) }
     {
-        let (seat, hold) = self.raw.take()?;
+        let (seat, hold) = self.raw.take().ok()?;
         Some(Guard::new(self, seat, hold))
     }
 
@@ -130,7 +133,7 @@ impl<T: Drop, R: Wait + Drop> Mutex<T, R> {
     pub fn try_lock_arc(this: &Arc<Mutex<T, R>>) -> Option<MutexGuardArc<T, R>>
         ensures { IfSome result (λ guard. guard.mutex ≡ arc_value this.now) }
     {
-        let (seat, hold) = this.raw.take()?;
+        let (seat, hold) = this.raw.take().ok()?;
         match Arc::try_clone(this) {
             Ok(mutex) => Some(Guard::new(mutex, seat, hold)),
             Err(_) => {
@@ -198,7 +201,7 @@ impl<T: Drop, R: Wait + Clock + RandomSource + AllocGlobal + Drop> Mutex<T, R> {
 
 impl<T: fmt::Debug, R: Wait> fmt::Debug for Mutex<T, R> {
     fn fmt<W: fmt::Write>(&self, f: &mut fmt::Formatter<W>) -> fmt::Result {
-        let Some((seat, hold)) = self.raw.take() else {
+        let Ok((seat, hold)) = self.raw.take() else {
             return debug_as(f, &Locked);
         };
         let shown = debug_as(f, hold.get(self.raw.words.room()));

@@ -1,9 +1,10 @@
 //! How far a future is, one poll of it by who has the mutex, and what a dropped one gives back.
 
-ghost use Rattle.std.specs.Prelude.{◌≡◌, false, IfSome, IfNone, IsSomeAnd, None};
+ghost use Rattle.std.specs.Prelude.{◌≡◌, false, IfSome, IfNone, IsSomeAnd, MatchBool, None};
 ghost use Rattle.futures.specs.Task.{Keeps};
-ghost use Rattle.async_mutex.specs.Stages.{IsFor, IsOf, is_finished};
-ghost use Rattle.async_mutex.specs.Futures.{GotAt, HasReceipt, IsAnswer, IsTurn, OnOutcome, OnPolled, ToldAs, WaitsAs};
+ghost use Rattle.async_mutex.specs.Stages.{HasShare, IsFor, IsOf, is_finished};
+ghost use Rattle.lock_program.specs.declared.refusal.Refusal.TheVariants as refusals;
+ghost use Rattle.async_mutex.specs.Futures.{GotAt, HasReceipt, IsAnswer, IsTurn, Looks, OnOutcome, OnPolled, ToldAs, WaitsAs};
 ghost use Rattle.async_driver.specs.Turns.{OnPending};
 ghost use Rattle.lock_driver.specs.Waits.{entry_of};
 ghost use Rattle.async_mutex.specs.Outcomes.{OnWaits, Waits};
@@ -15,7 +16,7 @@ use crate::outcome::{Outcome, came_to};
 use crate::owns::Owns;
 use async_driver::{Owed, Turn, nothing};
 use futures::task::Context;
-use lock_driver::{RawMutex, Waiting, poll_entry, poll_first, poll_told};
+use lock_driver::{RawMutex, Vain, Waiting, poll_entry, poll_first, poll_told};
 use lock_program::Refusal;
 use lock_words::{Hold, Seat};
 use std::mem;
@@ -45,14 +46,38 @@ pub(crate) fn first<T, R, O: Owns<T, R>>(share: Option<O>) -> Stage<O>
     }
 }
 
-/// The lock, if it can be had at once.
+/// What a first look by who has the mutex came to.
+pub(crate) enum Look<T> {
+    /// The lock, by this seat.
+    Got(Seat<T>, Hold<T>),
+    /// This, which doesn't get the lock.
+    Vain(Vain),
+    /// Nobody looked: who has the mutex isn't there.
+    NoShare,
+}
+
+/// Looks at the lock, and takes it if it is free and nobody is starved.
 #[inline]
-pub(crate) fn take<T, R, O: Owns<T, R>>(stage: &Stage<O>) -> Option<(Seat<T>, Hold<T>)>
-    ensures { IfSome result (λ r. GotAt O.lock_of stage.now r.0 r.1) }
+pub(crate) fn first_look<T, R, O: Owns<T, R>>(stage: &Stage<O>) -> Look<T>
+    ensures { Looks O.lock_of stage.now result }
 {
     match stage {
-        Stage::Waits(owner) => owner.lock().raw.take(),
-        Stage::Unowned | Stage::Finished => None,
+        Stage::Waits(owner) => match owner.lock().raw.take() {
+            Ok((seat, hold)) => Look::Got(seat, hold),
+            Err(vain) => Look::Vain(vain),
+        },
+        Stage::Unowned | Stage::Finished => Look::NoShare,
+    }
+}
+
+/// Why a poll is refused where who has the mutex isn't there: the future is over, or could have no share of the mutex.
+#[inline]
+pub(crate) fn no_share<O>(stage: &Stage<O>) -> Refusal
+    ensures { MatchBool (is_finished stage.now) (result ≡ refusals.Finished) (result ≡ refusals.Memory) }
+{
+    match stage {
+        Stage::Finished => Refusal::Finished,
+        Stage::Unowned | Stage::Waits(_) => Refusal::Memory,
     }
 }
 
@@ -72,15 +97,16 @@ pub(crate) fn into_guard<T, R: Wait, O: Owns<T, R>>(
     }
 }
 
-/// A first poll by who has the mutex, that didn't get the lock at once.
+/// A first poll by who has the mutex, whose look was in vain.
 #[inline(always)]
 pub(crate) fn first_poll<T, R: Wait + Clock, O: Owns<T, R>>(
     stage: &Stage<O>,
     cx: &mut Context<'_>,
+    vain: Vain,
     waiting: &mut Option<Waiting<RawMutex<T>>>,
 ) -> Outcome<T>
     requires none { waiting.old ≡ None }
-    requires open { is_finished stage.now ≡ false }
+    requires share { HasShare stage.now }
     ensures waiting { IfSome waiting.new (WaitsAs O.lock_of stage.now) }
     ensures outcome { OnPolled O.lock_of stage.now result waiting.new }
     ensures receipt { OnWaits result (HasReceipt O.lock_of stage.now cx.new (entry_of waiting.new)) }
@@ -90,10 +116,9 @@ pub(crate) fn first_poll<T, R: Wait + Clock, O: Owns<T, R>>(
         Stage::Waits(owner) => {
             let mutex = owner.lock();
             let seat = mutex.raw.words.sit();
-            came_to(poll_first(&mutex.raw, &mutex.rt, cx, seat, waiting))
+            came_to(poll_first(&mutex.raw, &mutex.rt, cx, seat, vain, waiting))
         }
-        Stage::Unowned => Outcome::Refused(Refusal::Memory),
-        Stage::Finished => unreachable!(),
+        Stage::Unowned | Stage::Finished => unreachable!(),
     }
 }
 
@@ -163,23 +188,23 @@ pub(crate) fn into_turn<T, R: Wait, O: Owns<T, R>>(
     }
 }
 
-/// The rest of a first poll that didn't get the lock at once. It stands apart, since what it takes room for would be cleared
-/// at each poll.
+/// The rest of a first poll whose look was in vain. It stands apart, since what it takes room for would be cleared at each poll.
 #[inline(never)]
 pub(crate) fn first_turn<T, R: Wait + Clock, O: Owns<T, R>>(
     stage: &mut Stage<O>,
     cx: &mut Context<'_>,
+    vain: Vain,
     waiting: &mut Option<Waiting<RawMutex<T>>>,
 ) -> Turn<Guard<T, R, O>>
     requires none { waiting.old ≡ None }
-    requires open { is_finished stage.old ≡ false }
+    requires share { HasShare stage.old }
     ensures turn { IsTurn (λ guard. IsOf O.lock_of stage.old guard.mutex) false result (is_finished stage.new) }
     ensures share { is_finished stage.new ≡ false → stage.new ≡ stage.old }
     ensures waiting { IfSome waiting.new (WaitsAs O.lock_of stage.new) }
     ensures receipt { OnPending result (HasReceipt O.lock_of stage.old cx.new (entry_of waiting.new)) }
     ensures kept { Keeps cx.old cx.new }
 {
-    let outcome = first_poll::<T, R, O>(stage, cx, waiting);
+    let outcome = first_poll::<T, R, O>(stage, cx, vain, waiting);
     into_turn::<T, R, O>(stage, outcome)
 }
 

@@ -52,6 +52,11 @@ abbrev pub WaitsAt : {O R : Type 0} → (O → Semaphore R) → Stage O → ℕ 
 WaitsAt semaphore_of (Waits owner) s = s ≡ (semaphore_of owner).raw.source
 WaitsAt semaphore_of _ s = ⊥
 
+-- no share of the semaphore could be had, or who has it went to the guard
+abbrev pub HasNoShare : {O : Type 0} → Stage O → Type 0
+HasNoShare (Waits owner) = ⊥
+HasNoShare _ = ⊤
+
 -- its party waits at its semaphore between two polls
 abbrev pub WaitsAs : {O R : Type 0} → (O → Semaphore R) → Stage O → ℕ → Waiting → Type 0
 WaitsAs semaphore_of (Waits owner) k w = WaitsFor (semaphore_of owner).raw k w

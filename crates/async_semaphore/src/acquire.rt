@@ -7,7 +7,7 @@ ghost use Rattle.async_semaphore.specs.Stages.{Gives, HasReceiptAt, IsTurn, OnRe
 
 use crate::guard::PermitGuard;
 use crate::owns::Owns;
-use crate::stage::{Stage, drop_stage, give_up, into_guard, poll_stage, take, take_again};
+use crate::stage::{Stage, drop_stage, into_guard, poll_first, poll_waiting, take};
 use async_driver::{Polled, Turn};
 use futures::task::Context;
 use lock_program::Refusal;
@@ -83,29 +83,31 @@ impl<R: Wait + Clock, O: Owns<R>> AcquireFuture<R, O> {
         ensures registered { OnPending result (Covers cx.new (WaitsAt O.semaphore_of self.old.stage)) }
         ensures kept { Keeps cx.old cx.new }
     {
-        if self.waiting.is_none() {
+        let permits = self.permits;
+        let outcome = if self.waiting.is_none() {
             // The stage is out meanwhile, so that who got the permits needn't be read again from memory.
-            let permits = self.permits;
             let stage = mem::replace(&mut self.stage, Stage::Finished);
             match take::<R, O>(&stage, permits) {
                 Some(Tried::Got(seat)) => return Turn::Ready(into_guard(stage, seat, permits)),
-                Some(Tried::Short(seat)) => give_up::<R, O>(&stage, seat, permits),
-                Some(Tried::Changed(seat)) => {
-                    if let Some(seat) = take_again::<R, O>(&stage, seat, permits) {
-                        return Turn::Ready(into_guard(stage, seat, permits));
-                    }
+                Some(tried) => {
+                    self.stage = stage;
+                    poll_first::<R, O>(&self.stage, permits, tried, &mut self.waiting, cx)
                 }
-                None => {}
+                None => {
+                    if let Stage::Finished = stage {
+                        return Turn::Refused(Refusal::Finished);
+                    }
+                    self.stage = stage;
+                    return Turn::Refused(Refusal::Memory);
+                }
             }
-            self.stage = stage;
-        }
-        if let Stage::Finished = self.stage {
-            return Turn::Refused(Refusal::Finished);
-        }
-        match poll_stage::<R, O>(&self.stage, self.permits, &mut self.waiting, cx) {
+        } else {
+            poll_waiting::<R, O>(&self.stage, permits, &mut self.waiting, cx)
+        };
+        match outcome {
             Outcome::Got(seat) => {
                 let stage = mem::replace(&mut self.stage, Stage::Finished);
-                Turn::Ready(into_guard(stage, seat, self.permits))
+                Turn::Ready(into_guard(stage, seat, permits))
             }
             Outcome::Waits => Turn::Pending,
             Outcome::Refused(refusal) => Turn::Refused(refusal),

@@ -1,8 +1,8 @@
 //! How far a future is, one poll of it by who has the semaphore, and what a dropped one gives back.
 
-ghost use Rattle.std.specs.Prelude.{◌≡◌, false, true, IfSome};
+ghost use Rattle.std.specs.Prelude.{◌≡◌, false, None, IfNone, IfSome, IsSomeAnd};
 ghost use Rattle.futures.specs.Task.{Keeps};
-ghost use Rattle.async_semaphore.specs.Stages.{Gives, GotAt, IsFor, OnPolled, OnTriedAt, ShortAt, WaitsAs, is_finished};
+ghost use Rattle.async_semaphore.specs.Stages.{Gives, GotAt, HasNoShare, IsFor, OnPolled, OnTriedAt, WaitsAs, is_finished};
 ghost use Rattle.async_semaphore.specs.declared.semaphore.Semaphore.{Semaphore};
 ghost use Rattle.semaphore_driver.specs.Polls.{WaitsFor};
 
@@ -39,44 +39,15 @@ pub(crate) fn first<R, O: Owns<R>>(share: Option<O>) -> Stage<O>
     }
 }
 
-/// A first try for the permits, by who has the semaphore.
+/// A first try for the permits, by who has the semaphore, if that is still here.
 #[inline]
 pub(crate) fn take<R, O: Owns<R>>(stage: &Stage<O>, permits: u64) -> Option<Tried>
-    ensures { IfSome result (OnTriedAt O.semaphore_of stage.now permits) }
+    ensures tried { IfSome result (OnTriedAt O.semaphore_of stage.now permits) }
+    ensures none { IfNone result (HasNoShare stage.now) }
 {
     match stage {
         Stage::Waits(owner) => Some(owner.semaphore().raw.try_take(permits)),
         Stage::Unowned | Stage::Finished => None,
-    }
-}
-
-/// Ends a first try that is in vain.
-#[inline]
-pub(crate) fn give_up<R, O: Owns<R>>(stage: &Stage<O>, seat: Seat, permits: u64)
-    requires { ShortAt O.semaphore_of stage.now permits seat }
-{
-    match stage {
-        Stage::Waits(owner) => owner.semaphore().raw.give_up(seat, permits),
-        Stage::Unowned | Stage::Finished => unreachable!(),
-    }
-}
-
-/// Goes on with a try whose word changed meanwhile. It stands apart, as [`poll_stage`] does.
-#[inline(never)]
-pub(crate) fn take_again<R: Wait, O: Owns<R>>(
-    stage: &Stage<O>,
-    seat: Seat,
-    permits: u64,
-) -> Option<Seat>
-    requires { GotAt O.semaphore_of stage.now 0 seat }
-    ensures { IfSome result (GotAt O.semaphore_of stage.now permits) }
-{
-    match stage {
-        Stage::Waits(owner) => {
-            let semaphore = owner.semaphore();
-            semaphore.raw.try_again(&semaphore.rt, seat, permits)
-        }
-        Stage::Unowned | Stage::Finished => unreachable!(),
     }
 }
 
@@ -96,31 +67,58 @@ pub(crate) fn into_guard<R: Wait, O: Owns<R>>(
     }
 }
 
-/// One poll by who has the semaphore. It stands apart, since what it takes room for would be cleared at each poll that is ready
-/// without it.
+/// The rest of a first poll that didn't get its permits at once, by who has the semaphore. It stands apart, as the next one does,
+/// since what it takes room for would be cleared at each poll that is ready without it.
 #[inline(never)]
-pub(crate) fn poll_stage<R: Wait + Clock, O: Owns<R>>(
+pub(crate) fn poll_first<R: Wait + Clock, O: Owns<R>>(
+    stage: &Stage<O>,
+    permits: u64,
+    tried: Tried,
+    waiting: &mut Option<Waiting>,
+    cx: &mut Context<'_>,
+) -> Outcome
+    requires tried { OnTriedAt O.semaphore_of stage.now permits tried }
+    requires none { waiting.old ≡ None }
+    ensures waits { IfSome waiting.new (WaitsAs O.semaphore_of stage.now permits) }
+    ensures polled { OnPolled O.semaphore_of stage.now permits cx.new result waiting.new }
+    ensures kept { Keeps cx.old cx.new }
+{
+    let Stage::Waits(owner) = stage else {
+        unreachable!()
+    };
+    let semaphore = owner.semaphore();
+    let raw = &semaphore.raw;
+    let seat = match tried {
+        Tried::Got(seat) => return Outcome::Got(seat),
+        Tried::Short(seat) => seat,
+        Tried::Changed(seat) => match raw.look_on(&semaphore.rt, seat, permits) {
+            Ok(seat) => return Outcome::Got(seat),
+            Err(seat) => seat,
+        },
+    };
+    raw.poll_first(&semaphore.rt, cx, permits, seat, waiting)
+}
+
+/// A poll of what waits, by who has the semaphore.
+#[inline(never)]
+pub(crate) fn poll_waiting<R: Wait + Clock, O: Owns<R>>(
     stage: &Stage<O>,
     permits: u64,
     waiting: &mut Option<Waiting>,
     cx: &mut Context<'_>,
 ) -> Outcome
-    requires waits { IfSome waiting.old (WaitsAs O.semaphore_of stage.now permits) }
-    requires open { is_finished stage.now ≡ false }
+    requires { IsSomeAnd waiting.old (WaitsAs O.semaphore_of stage.now permits) }
     ensures waits { IfSome waiting.new (WaitsAs O.semaphore_of stage.now permits) }
     ensures polled { OnPolled O.semaphore_of stage.now permits cx.new result waiting.new }
     ensures kept { Keeps cx.old cx.new }
 {
-    match stage {
-        Stage::Waits(owner) => {
-            let semaphore = owner.semaphore();
-            semaphore
-                .raw
-                .poll_waiting(&semaphore.rt, cx, permits, waiting)
-        }
-        Stage::Unowned => Outcome::Refused(Refusal::Memory),
-        Stage::Finished => unreachable!(),
-    }
+    let Stage::Waits(owner) = stage else {
+        unreachable!()
+    };
+    let semaphore = owner.semaphore();
+    semaphore
+        .raw
+        .poll_waiting(&semaphore.rt, cx, permits, waiting)
 }
 
 /// What a dropped future gives back.

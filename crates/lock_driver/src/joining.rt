@@ -5,9 +5,8 @@ ghost use Rattle.async_driver.specs.Heard.{IsKept, IsOf, IsTold, OnNotified, OnW
 ghost use Rattle.futures.specs.Task.{Covers, Keeps};
 ghost use Rattle.words_base.specs.Tries.{OnTaking};
 
-use crate::waiting::look;
 use crate::word::MutexWord;
-use async_driver::{Heard, Joined, Listed};
+use async_driver::{Heard, Joined, Listed, nothing};
 use futures::task::Context;
 use lock_event::Memory;
 use lock_words::Taking;
@@ -85,4 +84,19 @@ impl Joining {
         } = self;
         joined.unasked()
     }
+}
+
+// A take of a party that owes nothing.
+#[inline(always)]
+fn look<W: MutexWord>(word: &W, seat: &mut W::Seat) -> Taking<W::Right>
+    requires of { W.is_of word.now seat.old }
+    requires idle { W.holds seat.old ≡ false }
+    ensures of { W.is_of word.now seat.new }
+    ensures took { OnTaking result (λ right. (W.holds seat.new ≡ true) × W.right_of word.now right) (W.holds seat.new ≡ false) (W.holds seat.new ≡ false) }
+    ensures same { (W.starved seat.new ≡ W.starved seat.old) × (W.beside seat.new ≡ W.beside seat.old) }
+{
+    let mut owed = None;
+    let taking = word.take(seat, &mut owed);
+    nothing(owed);
+    taking
 }

@@ -12,6 +12,6 @@ mod waiting;
 mod word;
 
 pub use mutex_party::MutexParty;
-pub use raw::RawMutex;
+pub use raw::{RawMutex, Vain};
 pub use waiting::{Outcome, Waiting, cancel, poll_entry, poll_first, poll_told};
 pub use word::{Counting, MutexWord};

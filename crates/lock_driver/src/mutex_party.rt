@@ -510,9 +510,9 @@ impl<W: MutexWord> MutexParty<W> {
 // The time, if the clock can be read.
 #[inline(always)]
 pub(crate) fn now<R: Clock>(rt: &R) -> Option<Instant> {
-    // Not by `ok`, which moves the whole through memory.
+    // Not by `ok`, and nothing is added: else the compiled code copies the whole, and waits until its parts have been written.
     match Instant::now(rt) {
-        Ok(now) => Some(now),
+        Ok(now) => now.checked_add(Duration::ZERO),
         Err(_) => None,
     }
 }

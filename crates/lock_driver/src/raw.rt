@@ -1,6 +1,6 @@
 //! A mutex without its runtime.
 
-ghost use Rattle.std.specs.Prelude.{◌≡◌, ◌≤◌, false, [], Some, IfSome};
+ghost use Rattle.std.specs.Prelude.{◌≡◌, ◌≤◌, false, [], Some, IfOk, IfSome};
 ghost use Rattle.lock_words.specs.Tries.{Holds};
 ghost use Rattle.lock_program.specs.Mutex.{start_of, action_of, next_of};
 ghost use Rattle.lock_program.specs.declared.mutex.Action.TheVariants as does;
@@ -15,6 +15,15 @@ use async_driver::{Listed, Owed, WaitingList, nothing};
 use futures::task::{Source, Waker};
 use lock_words::{Counting as CountingWord, Full, Hold, Seat, Setting, Taking, TakingAlone, Words};
 use std::sync::Wait;
+
+/// What a first look found that didn't get the lock.
+#[derive(Clone, Copy)]
+pub enum Vain {
+    /// Somebody held the lock.
+    Held,
+    /// Nobody held it, and others were starved.
+    Starved,
+}
 
 /// A mutex without its runtime: its words, with the value, and its waiting list.
 pub struct RawMutex<T> {
@@ -109,25 +118,26 @@ impl<T> RawMutex<T> {
     }
 
     /// Takes the lock at once, if it is free and nobody is starved. It is the first action of a try and of a first
-    /// poll, and ends either with the lock; a poll that it doesn't end goes on by [`poll_first`](crate::poll_first).
+    /// poll, and ends either with the lock; a poll that it doesn't end goes on by [`poll_first`](crate::poll_first), with what
+    /// it found.
     ///
     /// By the contract the seat that it answers holds the lock, with the right to its value (`holds`).
     #[inline]
-    pub fn take(&self) -> Option<(Seat<T>, Hold<T>)>
-        ensures holds { IfSome result (λ r. Holds self.now.words r.0 r.1 × (r.0.starved ≡ false)) }
+    pub fn take(&self) -> Result<(Seat<T>, Hold<T>), Vain>
+        ensures holds { IfOk result (λ r. Holds self.now.words r.0 r.1 × (r.0.starved ≡ false)) }
     {
         straight_rows();
         let mut seat = self.words.sit();
         let mut owed = None;
         let taking = self.words.take(&mut seat, &mut owed);
         nothing(owed);
-        match taking {
-            Taking::Got(hold) => Some((seat, hold)),
-            Taking::Held | Taking::Starved => {
-                seat.rise();
-                None
-            }
-        }
+        let vain = match taking {
+            Taking::Got(hold) => return Ok((seat, hold)),
+            Taking::Held => Vain::Held,
+            Taking::Starved => Vain::Starved,
+        };
+        seat.rise();
+        Err(vain)
     }
 }
 

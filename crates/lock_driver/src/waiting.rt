@@ -20,6 +20,7 @@ ghost use Rattle.lock_program.specs.declared.refusal.Refusal.TheVariants as refu
 
 use crate::joining::Joining;
 use crate::mutex_party::{MutexParty, now};
+use crate::raw::Vain;
 use crate::word::MutexWord;
 use async_driver::{Carries, Heard, Listed, Owed, nothing, put};
 use futures::task::Context;
@@ -51,8 +52,7 @@ pub enum Outcome<W: MutexWord> {
     Refused(W::Seat, Refusal),
 }
 
-/// A first poll, past a look that found the lock held, or others starved: it looks, joins the list with a waker, looks again, and
-/// asks.
+/// A first poll, past a look that found the lock held, or others starved: it joins the list with a waker, looks again, and asks.
 ///
 /// A party that waits has a receipt of the list (`receipt`).
 #[inline(always)]
@@ -61,6 +61,7 @@ pub fn poll_first<W: MutexWord, R: Wait + Clock>(
     rt: &R,
     cx: &mut Context<'_>,
     seat: W::Seat,
+    vain: Vain,
     waiting: &mut Option<Waiting<W>>,
 ) -> Outcome<W>
     requires of { W.is_of word.now seat }
@@ -73,10 +74,9 @@ pub fn poll_first<W: MutexWord, R: Wait + Clock>(
 {
     first_rows();
     let mut seat = seat;
-    match look(word, &mut seat) {
-        Taking::Held => {}
-        Taking::Got(right) => return Outcome::Got(seat, right),
-        Taking::Starved => return enters_starved(word, rt, cx, seat, waiting),
+    match vain {
+        Vain::Held => {}
+        Vain::Starved => return enters_starved(word, rt, cx, seat, waiting),
     }
     let mut joining = match Joining::join(word, rt, cx) {
         Ok(joining) => joining,
@@ -104,21 +104,6 @@ pub fn poll_first<W: MutexWord, R: Wait + Clock>(
         }
         Heard::Notified(owed) => hears(word, rt, cx, seat, owed, waiting),
     }
-}
-
-// A take of a party that owes nothing.
-#[inline(always)]
-pub(crate) fn look<W: MutexWord>(word: &W, seat: &mut W::Seat) -> Taking<W::Right>
-    requires of { W.is_of word.now seat.old }
-    requires idle { W.holds seat.old ≡ false }
-    ensures of { W.is_of word.now seat.new }
-    ensures took { OnTaking result (λ right. (W.holds seat.new ≡ true) × W.right_of word.now right) (W.holds seat.new ≡ false) (W.holds seat.new ≡ false) }
-    ensures same { (W.starved seat.new ≡ W.starved seat.old) × (W.beside seat.new ≡ W.beside seat.old) }
-{
-    let mut owed = None;
-    let taking = word.take(seat, &mut owed);
-    nothing(owed);
-    taking
 }
 
 // The rest of a first poll that found others starved when it entered. It joins without a waker: refused, it leaves the list again,

@@ -101,6 +101,7 @@ impl<T> Words<T> {
     }
 
     /// Creates a free lock as [`Words::new`] does, where fewer may be starved. It is for tests.
+    #[inline(always)]
     pub fn with_limit(alloc: Global, value: T, limit: u64) -> Result<Words<T>, AllocError>
     where
         T: Drop,
@@ -398,7 +399,9 @@ fn renew<T>(spare: &mut Spare<T>, place: &mut Place<T, Global>) -> Hold<T>
     hold
 }
 
-// The table of a free lock: a free word, and a ticket of its spare in the slot.
+// The table of a free lock: a free word, and a ticket of its spare in the slot. In line, as all that makes a lock: so it isn't copied
+// from one place to the next.
+#[inline(always)]
 fn free_table<T>(
     alloc: Global,
     spare: &Spare<T>,
@@ -408,8 +411,8 @@ fn free_table<T>(
     ensures sizes { IfOk result (λ table. (table.shared.table_id.words ≡ 1) × (table.shared.table_id.slots ≡ 1)) }
     ensures key { IfOk result (λ table. table.shared.key ≡ spare.now) }
 {
-    let mut slots = Vec::new(alloc);
-    slots.push(Rested::Spared(ticket))?;
+    let mut slots = Vec::with_capacity(alloc, 1)?;
+    slots.push_reserved(Rested::Spared(ticket));
     match Table::new(alloc, &[FREE], slots, spare) {
         Ok((table, _first)) => Ok(table),
         Err(_) => Err(AllocError),

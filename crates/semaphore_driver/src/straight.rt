@@ -28,9 +28,10 @@ use words_semaphore::{Raising, Seat, Taking};
 pub enum Tried {
     /// The permits, by this seat, which has exactly these.
     Got(Seat),
-    /// Fewer are available, as this seat's last look found: [`RawSemaphore::give_up`] ends it.
+    /// Fewer are available, as this seat's last look found: [`RawSemaphore::give_up`] ends it, and a poll goes on by
+    /// [`RawSemaphore::poll_first`].
     Short(Seat),
-    /// The word changed meanwhile: [`RawSemaphore::try_again`] goes on, with this seat.
+    /// The word changed meanwhile: [`RawSemaphore::try_again`] goes on with this seat, and a poll by [`RawSemaphore::look_on`].
     Changed(Seat),
 }
 
@@ -44,9 +45,8 @@ pub struct Notifies {
 impl RawSemaphore {
     /// Takes this many permits at once, if as many are available. It waits for nobody: one look, and one exchange.
     ///
-    /// It is the one action of a try, and the first of a first poll: a poll that it doesn't end goes on by
-    /// [`RawSemaphore::poll_waiting`]. By the contract the seat that it returns has exactly these permits, and it is in vain only
-    /// where its look found fewer.
+    /// It is the one action of a try, and the first of a first poll. By the contract the seat that it returns has exactly these permits,
+    /// and it is in vain only where its look found fewer.
     #[inline]
     pub fn try_take(&self, permits: u64) -> Tried
         ensures { OnTried self.now permits result }
@@ -83,6 +83,19 @@ impl RawSemaphore {
         }
         self.give_up(seat, permits);
         None
+    }
+
+    /// Goes on with the first look of a poll whose word changed meanwhile, until it stands still: the seat with the permits, or one that
+    /// [`RawSemaphore::poll_first`] goes on with. It stands apart, as [`RawSemaphore::try_again`] does.
+    #[inline(never)]
+    pub fn look_on<R: Wait>(&self, rt: &R, seat: Seat, permits: u64) -> Result<Seat, Seat>
+        requires { Has self.now 0 seat }
+        ensures got { IfOk result (Has self.now permits) }
+        ensures short { IfErr result (IsShort self.now permits) }
+    {
+        let mut seat = seat;
+        let has_got = self.take(rt, &mut seat, permits);
+        if has_got { Ok(seat) } else { Err(seat) }
     }
 
     // Takes this many permits, if as many are available, however often the word changes meanwhile: in vain only where its last look

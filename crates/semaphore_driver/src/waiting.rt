@@ -1,6 +1,6 @@
 //! Polls of a future of a semaphore, and what a dropped one gives back.
 
-ghost use Rattle.std.specs.Prelude.{◌≡◌, ℕ, false, true, Some, None, IfSome};
+ghost use Rattle.std.specs.Prelude.{◌≡◌, ℕ, false, true, Some, None, IfSome, IsSomeAnd};
 ghost use Rattle.futures.specs.Task.{Keeps};
 ghost use Rattle.lock_program.specs.declared.end.End.TheVariants as ends;
 ghost use Rattle.lock_program.specs.declared.end.Next.TheVariants as next;
@@ -8,7 +8,7 @@ ghost use Rattle.semaphore_driver.specs.Parties.{EndsAt, IfPending, IsFor, IsPol
 ghost use Rattle.lock_program.specs.declared.refusal.Refusal.TheVariants as refusals;
 ghost use Rattle.semaphore_driver.specs.Polls.{OnOutcome, WaitsFor};
 ghost use Rattle.semaphore_driver.specs.Semaphores.{Has};
-ghost use Rattle.semaphore_driver.specs.Straight.{OnTried};
+ghost use Rattle.semaphore_driver.specs.Straight.{IsShort, OnTried};
 ghost use Rattle.semaphore_driver.specs.Table.{CanPoll};
 ghost use Rattle.sync_program.specs.Permits.{action_of, next_of, start_of};
 ghost use Rattle.sync_program.specs.declared.permits.Action.TheVariants as does;
@@ -80,50 +80,27 @@ impl RawSemaphore {
         }
     }
 
-    /// Polls a future for so many permits, with what its party keeps while it waits: nothing before the first poll, after one
-    /// that was refused, and after the last.
+    /// A first poll of a future for so many permits, past a look that found fewer: it joins the list, looks again, and asks.
     ///
     /// What most polls come to are few rows of the program's table, and their actions stand here in order. Which rows they are, `first_rows`
     /// and `later_rows` say by contract; that they are carried out so, duties and seats say in part, and tests for the rest.
     /// Whatever else a poll comes to goes on by the driver.
-    pub fn poll_waiting<R: Wait + Clock>(
-        &self,
-        rt: &R,
-        cx: &mut Context<'_>,
-        permits: u64,
-        waiting: &mut Option<Waiting>,
-    ) -> Outcome
-        requires { IfSome waiting.old (WaitsFor self.now permits) }
-        ensures waits { IfSome waiting.new (WaitsFor self.now permits) }
-        ensures outcome { OnOutcome self.now permits cx.new result waiting.new }
-        ensures kept { Keeps cx.old cx.new }
-    {
-        match waiting.take() {
-            Some(kept) => self.poll_again(rt, cx, permits, kept, waiting),
-            None => self.poll_first(rt, cx, permits, waiting),
-        }
-    }
-
-    // A poll of a future that doesn't wait yet: it looks, joins the list, looks again, and asks.
     #[inline(always)]
-    fn poll_first<R: Wait + Clock>(
+    pub fn poll_first<R: Wait + Clock>(
         &self,
         rt: &R,
         cx: &mut Context<'_>,
         permits: u64,
+        seat: Seat,
         waiting: &mut Option<Waiting>,
     ) -> Outcome
-        requires { waiting.old ≡ None }
+        requires short { IsShort self.now permits seat }
+        requires none { waiting.old ≡ None }
         ensures waits { IfSome waiting.new (WaitsFor self.now permits) }
         ensures outcome { OnOutcome self.now permits cx.new result waiting.new }
         ensures kept { Keeps cx.old cx.new }
     {
         first_rows();
-        let seat = match self.try_once(self.stock.sit(), permits) {
-            Tried::Got(seat) => return Outcome::Got(seat),
-            Tried::Short(seat) => seat,
-            Tried::Changed(seat) => return self.look_anew(rt, cx, permits, seat, waiting),
-        };
         let Ok(mut joining) = Joining::join(self, rt, permits) else {
             self.stock.rise(seat);
             return Outcome::Refused(Refusal::Memory);
@@ -152,23 +129,23 @@ impl RawSemaphore {
         }
     }
 
-    // A poll of a future that waits: it looks, and leaves the list with the permits, or asks.
-    #[inline(always)]
-    fn poll_again<R: Wait + Clock>(
+    /// A poll of a future for so many permits that waits: it looks, and leaves the list with the permits, or asks.
+    pub fn poll_waiting<R: Wait + Clock>(
         &self,
         rt: &R,
         cx: &mut Context<'_>,
         permits: u64,
-        kept: Waiting,
         waiting: &mut Option<Waiting>,
     ) -> Outcome
-        requires kept { WaitsFor self.now permits kept }
-        requires none { waiting.old ≡ None }
+        requires { IsSomeAnd waiting.old (WaitsFor self.now permits) }
         ensures waits { IfSome waiting.new (WaitsFor self.now permits) }
         ensures outcome { OnOutcome self.now permits cx.new result waiting.new }
         ensures kept { Keeps cx.old cx.new }
     {
         later_rows();
+        let Some(kept) = waiting.take() else {
+            unreachable!()
+        };
         let Waiting { seat, entry } = kept;
         let seat = match self.try_once(seat, permits) {
             Tried::Got(seat) => return Outcome::Got(self.leave_with(rt, permits, seat, entry)),
@@ -230,38 +207,8 @@ impl RawSemaphore {
         seat
     }
 
-    // The word changed during a first look. This stands apart, as the next two do: a poll that doesn't come here has no room to clear for
-    // a party.
-    #[inline(never)]
-    fn look_anew<R: Wait + Clock>(
-        &self,
-        rt: &R,
-        cx: &mut Context<'_>,
-        permits: u64,
-        seat: Seat,
-        waiting: &mut Option<Waiting>,
-    ) -> Outcome
-        requires has { Has self.now 0 seat }
-        requires none { waiting.old ≡ None }
-        ensures waits { IfSome waiting.new (WaitsFor self.now permits) }
-        ensures outcome { OnOutcome self.now permits cx.new result waiting.new }
-        ensures kept { Keeps cx.old cx.new }
-    {
-        let party = PermitParty {
-            permits,
-            seat,
-            entry: None,
-            duty: None,
-        };
-        let place = Place::Take {
-            permits,
-            listed: false,
-            told: false,
-        };
-        self.drive(rt, cx, party, place, waiting)
-    }
-
-    // The word changed while a party looked that stands in the list: it looks again, at this place.
+    // The word changed while a party looked that stands in the list: it looks again, at this place. This stands apart, as the next one
+    // does: a poll that doesn't come here has no room to clear for a party.
     #[inline(never)]
     fn look_again<R: Wait + Clock>(
         &self,
@@ -421,21 +368,23 @@ impl RawSemaphore {
         self.stock.rise(seat);
     }
 
-    /// Gives back what a future for so many permits has that is dropped while it waits, as [`RawSemaphore::cancel`].
+    /// Gives back what a future for so many permits has that is dropped while it waits: its entry, and a notification that it was
+    /// given. Its program has one branch, and so its actions stand in order. Which rows of the table they are, `cancel_rows` says.
+    #[inline]
     pub fn cancel_waiting<R: Wait>(&self, rt: &R, permits: u64, waiting: Waiting)
         requires { WaitsFor self.now permits waiting }
     {
-        self.cancel(rt, waiting.into_party(permits), Position::Waiting(permits));
+        cancel_rows();
+        let _ = permits;
+        let Waiting { seat, entry } = waiting;
+        self.leave(rt, seat, entry);
     }
 
-    /// Gives back what a party has that waits between two polls: its entry, and a notification that it was given. Its
-    /// program has one branch, and so its actions stand here in their order. Which rows of the table they are,
-    /// `cancel_rows` says.
+    /// The same of a party that waits between two polls. It is for tests.
     pub fn cancel<R: Wait>(&self, rt: &R, party: PermitParty, position: Position)
         requires stands { Stands self.now party position }
         requires rests { CanPoll position }
     {
-        cancel_rows();
         let _ = position;
         let PermitParty {
             permits: _,
@@ -443,14 +392,25 @@ impl RawSemaphore {
             entry,
             duty,
         } = party;
+        nothing(duty);
+        match entry {
+            Some(entry) => self.leave(rt, seat, entry),
+            None => self.stock.rise(seat),
+        }
+    }
+
+    // Takes the entry of a seat that has nothing out of the list, tells whoever is next if it was notified, and ends the seat.
+    #[inline(always)]
+    fn leave<R: Wait>(&self, rt: &R, seat: Seat, entry: WeightedListed)
+        requires has { Has self.now 0 seat }
+        requires entry { entry.list.id ≡ self.now.list }
+    {
         let mut seat = seat;
-        let mut duty = duty;
-        if let Some(entry) = entry {
-            if self.stock.remove(rt, entry, &mut duty) {
-                let available = self.stock.load(&mut seat, &mut duty);
-                if let Some(duty) = duty.take() {
-                    self.stock.fit(rt, &seat, available, duty);
-                }
+        let mut duty = None;
+        if self.stock.remove(rt, entry, &mut duty) {
+            let available = self.stock.load(&mut seat, &mut duty);
+            if let Some(owed) = duty.take() {
+                self.stock.fit(rt, &seat, available, owed);
             }
         }
         nothing(duty);

@@ -4,7 +4,7 @@ use crate::interfered::Interfered;
 use async_driver::nothing;
 use futures::task::Context;
 use futures::test::MockTask;
-use lock_driver::{Counting, MutexWord, Outcome, RawMutex, cancel, poll_first};
+use lock_driver::{Counting, MutexWord, Outcome, RawMutex, Vain, cancel, poll_first};
 use lock_words::Words;
 use std::sync::Wait;
 use std::sync::atomic::AtomicBool;
@@ -26,7 +26,8 @@ fn counted_while_it_waits<R: Wait + Clock>(
         return None;
     }
     let mut waiting = None;
-    let found = match poll_first(word, rt, cx, word.raw.words.sit(), &mut waiting) {
+    let seat = word.raw.words.sit();
+    let found = match poll_first(word, rt, cx, seat, Vain::Starved, &mut waiting) {
         Outcome::Got(seat, hold) => {
             nothing(waiting);
             word.raw.release(rt, seat, hold);
@@ -62,7 +63,6 @@ fn a_count_that_was_in_vain_is_made_again(rt: HostRuntime) {
     let word = Interfered {
         raw: RawMutex { words },
         has_changed: AtomicBool::new(false),
-        has_looked: AtomicBool::new(true),
     };
     let counted = task.enter(|cx| counted_while_it_waits(&word, &rt, cx));
     assert!(rt; counted == Some(2));

@@ -14,9 +14,6 @@ pub(crate) struct Interfered {
     pub(crate) raw: RawMutex<u64>,
     /// Unless it is set, the first count finds that the word has changed.
     pub(crate) has_changed: AtomicBool,
-    /// Unless it is set, the first take of a party that owes nothing finds the lock held, as if its holder gave it back right
-    /// afterwards.
-    pub(crate) has_looked: AtomicBool,
 }
 
 impl MutexWord for Interfered {
@@ -43,11 +40,7 @@ impl MutexWord for Interfered {
     ghost source_id = { λ word. word.raw.words.source };
 
     fn take(&self, seat: &mut Seat<u64>, owed: &mut Option<Owed>) -> Taking<Hold<u64>> {
-        if owed.is_none() && !self.has_looked.swap(true, Ordering::SeqCst) {
-            Taking::Held
-        } else {
-            self.raw.words.take(seat, owed)
-        }
+        self.raw.words.take(seat, owed)
     }
 
     fn take_alone(&self, seat: &mut Seat<u64>, owed: &mut Option<Owed>) -> TakingAlone<Hold<u64>> {

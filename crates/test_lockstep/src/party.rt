@@ -46,7 +46,7 @@ pub(crate) fn entry_of(walker: &Party) -> Option<EntryId> {
 pub(crate) fn take(walker: &mut Party) -> bool {
     match walker.place {
         Place::Out => match walker.shared.take() {
-            Some((seat, hold)) => {
+            Ok((seat, hold)) => {
                 let held = MutexParty {
                     entry: None,
                     since: None,
@@ -59,7 +59,7 @@ pub(crate) fn take(walker: &mut Party) -> bool {
                 out.end(&*walker.shared).rise();
                 true
             }
-            None => false,
+            Err(_) => false,
         },
         _ => false,
     }

@@ -131,12 +131,13 @@ fn first<R: Wait>(
     bench: &Bench<R>,
     cx: &mut Context<'_>,
 ) -> (Party, Option<End>) {
-    if let Some((seat, hold)) = shared.take() {
-        return (holding(shared, seat, hold), Some(End::Got));
-    }
+    let vain = match shared.take() {
+        Ok((seat, hold)) => return (holding(shared, seat, hold), Some(End::Got)),
+        Err(vain) => vain,
+    };
     let seat = shared.words.sit();
     let mut waiting = None;
-    let outcome = poll_first(&*shared, bench, cx, seat, &mut waiting);
+    let outcome = poll_first(&*shared, bench, cx, seat, vain, &mut waiting);
     came_to(shared, outcome, waiting)
 }
 

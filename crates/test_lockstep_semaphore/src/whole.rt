@@ -1,7 +1,7 @@
 //! The polls of a future past the driver, each whole, as the public type makes them; and what a dropped future gives back.
 
 ghost use Rattle.semaphore_driver.specs.Parties.{Stands};
-ghost use Rattle.semaphore_driver.specs.Polls.{WaitsFor};
+ghost use Rattle.semaphore_driver.specs.Polls.{OnOutcome, WaitsFor};
 ghost use Rattle.std.specs.Arc.{arc_value};
 ghost use Rattle.std.specs.Prelude.{IfSome};
 ghost use Rattle.sync_program.specs.declared.permits.Position.TheVariants as stands;
@@ -11,7 +11,7 @@ use async_driver::nothing;
 use futures::task::Context;
 use lock_program::End;
 use lockstep::{Bench, Walker};
-use semaphore_driver::{Outcome, PermitParty, RawSemaphore, Waiting};
+use semaphore_driver::{Outcome, PermitParty, RawSemaphore, Tried, Waiting};
 use std::mem;
 use std::sync::{Arc, Wait};
 use sync_program::permits::Position;
@@ -55,18 +55,18 @@ pub(crate) fn waiting_of(shared: &RawSemaphore, party: PermitParty, permits: u64
     }
 }
 
-// A poll of a future with what it keeps: what becomes of it, and how the poll ends.
-fn poll_waiting<R: Wait>(
+// What becomes of a future by a poll that went so, and how the poll ends.
+fn came_to(
     shared: Arc<RawSemaphore>,
-    bench: &Bench<R>,
-    cx: &mut Context<'_>,
     permits: u64,
+    outcome: Outcome,
     waiting: Option<Waiting>,
+    cx: &Context<'_>,
 ) -> (Having, Option<End>)
-    requires { IfSome waiting (WaitsFor (arc_value shared) permits) }
+    requires waits { IfSome waiting (WaitsFor (arc_value shared) permits) }
+    requires outcome { OnOutcome (arc_value shared) permits cx.now outcome waiting }
 {
-    let mut waiting = waiting;
-    match shared.poll_waiting(bench, cx, permits, &mut waiting) {
+    match outcome {
         Outcome::Got(seat) => {
             nothing(waiting);
             let held = Held::new(shared, seat, permits);
@@ -87,6 +87,41 @@ fn poll_waiting<R: Wait>(
     }
 }
 
+// A poll of a future that has nothing: a try, and where that is in vain the rest.
+fn first<R: Wait>(
+    shared: Arc<RawSemaphore>,
+    bench: &Bench<R>,
+    cx: &mut Context<'_>,
+    permits: u64,
+) -> (Having, Option<End>) {
+    let seat = match shared.try_take(permits) {
+        Tried::Got(seat) => Ok(seat),
+        Tried::Short(seat) => Err(seat),
+        Tried::Changed(seat) => shared.look_on(bench, seat, permits),
+    };
+    let mut waiting = None;
+    let outcome = match seat {
+        Ok(seat) => Outcome::Got(seat),
+        Err(seat) => shared.poll_first(bench, cx, permits, seat, &mut waiting),
+    };
+    came_to(shared, permits, outcome, waiting, cx)
+}
+
+// A poll of a future that waits.
+fn later<R: Wait>(
+    shared: Arc<RawSemaphore>,
+    bench: &Bench<R>,
+    cx: &mut Context<'_>,
+    permits: u64,
+    waiting: Waiting,
+) -> (Having, Option<End>)
+    requires { WaitsFor (arc_value shared) permits waiting }
+{
+    let mut waiting = Some(waiting);
+    let outcome = shared.poll_waiting(bench, cx, permits, &mut waiting);
+    came_to(shared, permits, outcome, waiting, cx)
+}
+
 // What becomes of a future by a whole poll, and how the poll ends.
 fn polled<R: Wait>(walker: Party, bench: &Bench<R>, cx: &mut Context<'_>) -> (Having, Option<End>) {
     let Walker {
@@ -97,11 +132,11 @@ fn polled<R: Wait>(walker: Party, bench: &Bench<R>, cx: &mut Context<'_>) -> (Ha
     match place {
         Position::Unlisted(permits) => {
             shared.cancel(bench, party, place);
-            poll_waiting(shared, bench, cx, permits, None)
+            first(shared, bench, cx, permits)
         }
         Position::Waiting(permits) => {
             let waiting = waiting_of(&shared, party, permits);
-            poll_waiting(shared, bench, cx, permits, Some(waiting))
+            later(shared, bench, cx, permits, waiting)
         }
         _ => {
             let walker = Walker {
