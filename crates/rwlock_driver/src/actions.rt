@@ -14,7 +14,7 @@ use futures::task::Context;
 use lock_program::mutex;
 use lock_program::rwlock::Found;
 use std::sync::Wait;
-use words_rwlock::{Adding, Readers, Reading};
+use words_rwlock::{Adding, LastLeft, Readers, Reading};
 
 impl RwLockParty {
     pub(crate) fn read(&mut self, raw: &RawRwLock, turn: mutex::Place) -> Option<Finding>
@@ -52,7 +52,8 @@ impl RwLockParty {
         ensures { Does raw.now does.Off turn result self.old self.new }
     {
         match raw.words.off(&mut self.turn.seat) {
-            Some(owed) => {
+            Some(last) => {
+                let LastLeft { owed, is_marked: _ } = last;
                 put(&mut self.no_readers.owed, owed);
                 Finding::of(Found::NoneLeft, turn)
             }

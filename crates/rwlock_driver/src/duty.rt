@@ -204,6 +204,18 @@ impl RawRwLock {
         owed.end(&self.lists.keys.turn);
     }
 
+    /// Ends the duty of the last reader whose step found no writer's bit. Whoever waits until no reader is left has set it before, and
+    /// looks for readers once more after it has joined that list.
+    #[inline]
+    pub(crate) fn leave_unmarked(&self, owed: Owed, reader: &Seat)
+        requires list { owed.list.id ≡ (lists_of self.now).no_readers.name.id }
+        requires table { reader.now.inner.table_id ≡ self.now.words.table }
+        requires unmarked { reader.now.inner.me.0.found % 2 ≡ 0 }
+    {
+        let _ = reader;
+        owed.end(&self.lists.keys.no_readers);
+    }
+
     /// Ends the duty of a seat that waits to write and was notified that no reader is left. Nobody but who has set the writer's
     /// bit stands in that list, and it looks next itself.
     pub(crate) fn look_next(&self, owed: Owed, seat: &Seat)

@@ -3,7 +3,7 @@
 //! Each gives back what it gives back by the types' force: a seat can't end before it has nothing, nor a call before those
 //! whom it has to notify were notified. Which rows of the table they carry out, `try_rows`, `drop_rows` and `change_rows` say.
 
-ghost use Rattle.std.specs.Prelude.{◌≡◌, ◌≢◌, true, false, [], Bool, Some, IfErr, IfOk, IfSome, MatchBool};
+ghost use Rattle.std.specs.Prelude.{◌≡◌, ◌≢◌, ◌%◌, true, false, [], Bool, Some, IfErr, IfOk, IfSome, MatchBool};
 ghost use Rattle.lock_program.specs.ReadWrite.{start_of, action_of, next_of};
 ghost use Rattle.lock_program.specs.declared.end.End.TheVariants as ends;
 ghost use Rattle.lock_program.specs.declared.end.Next.TheVariants as next;
@@ -17,6 +17,7 @@ ghost use Rattle.lock_program.specs.declared.rwlock.Place.TheVariants as at;
 ghost use Rattle.lock_program.specs.declared.rwlock.Purpose.{Purpose};
 ghost use Rattle.lock_program.specs.declared.rwlock.Purpose.TheVariants as purpose;
 ghost use Rattle.lock_program.specs.declared.rwlock.RwLockCall.TheVariants as calls;
+ghost use Rattle.rwlock_driver.specs.Lists.{lists_of};
 ghost use Rattle.rwlock_driver.specs.Rights.{Has, HasBegun, IsClosed, IsFull, ReadsBeside, idle, passing, reader, upgradable, awaits, writer};
 ghost use Rattle.rwlock_driver.specs.Straight.{FoundTaken, IsRest, IsVain, OnFirst, OnTried, Owes};
 ghost use Rattle.rwlock_driver.specs.Polls.{poll_of, right_of};
@@ -33,7 +34,7 @@ use crate::raw::RawRwLock;
 use async_driver::Owed;
 use lock_program::rwlock::Place;
 use std::sync::Wait;
-use words_rwlock::{Adding, Readers, Reading, Seat, Taking};
+use words_rwlock::{Adding, LastLeft, Readers, Reading, Seat, Taking};
 
 /// An upgrade that has begun: its seat has the turn and the writer's bit.
 pub enum Begun {
@@ -325,7 +326,7 @@ impl RawRwLock {
         drop_rows();
         let mut seat = seat;
         let left = match self.words.off(&mut seat) {
-            Some(owed) => self.lists.no_readers.unless_listed(owed),
+            Some(last) => self.unless_vain(last, &seat),
             None => None,
         };
         self.words.rise(seat);
@@ -343,12 +344,28 @@ impl RawRwLock {
     {
         drop_rows();
         let mut seat = seat;
-        if let Some(owed) = self.words.off(&mut seat) {
-            if let Some(owed) = self.lists.no_readers.unless_listed(owed) {
+        if let Some(last) = self.words.off(&mut seat) {
+            if let Some(owed) = self.unless_vain(last, &seat) {
                 return Some(Notifies::NoReadersThenTurn(owed, seat));
             }
         }
         self.give_turn(seat)
+    }
+
+    // The duty of the last reader, where somebody may wait for that.
+    #[inline]
+    fn unless_vain(&self, last: LastLeft, seat: &Seat) -> Option<Owed>
+        requires list { last.owed.list.id ≡ (lists_of self.now).no_readers.name.id }
+        requires table { seat.now.inner.table_id ≡ self.now.words.table }
+        requires marked { MatchBool last.is_marked (seat.now.inner.me.0.found % 2 ≡ 1) (seat.now.inner.me.0.found % 2 ≡ 0) }
+        ensures { IfSome result (λ owed. owed.list.id ≡ (lists_of self.now).no_readers.name.id) }
+    {
+        let LastLeft { owed, is_marked } = last;
+        if is_marked {
+            return self.lists.no_readers.unless_listed(owed);
+        }
+        self.leave_unmarked(owed, seat);
+        None
     }
 
     /// Writes no more, and gives the turn back: readers and those who wait for the turn have to be notified.

@@ -7,7 +7,7 @@ use futures::task::Waker;
 use std::alloc::Global;
 use std::process::Abort;
 use std::thread;
-use words_rwlock::{Lists, Reading, Words};
+use words_rwlock::{LastLeft, Lists, Reading, Words};
 
 /// A lock's words, with the key of the list of who waits for no readers. Nobody waits in these tests, and so a duty to notify
 /// ends by it.
@@ -58,7 +58,8 @@ fn read_once(tested: &Tested) -> Came {
     match words.read(&mut seat) {
         Reading::Reads => {
             let was_last = match words.off(&mut seat) {
-                Some(owed) => {
+                Some(last) => {
+                    let LastLeft { owed, is_marked: _ } = last;
                     owed.end(&tested.no_readers);
                     true
                 }

@@ -1,5 +1,7 @@
 //! What the tries find.
 
+use async_driver::Owed;
+
 /// What a try to count a seat as starved found.
 #[derive(Clone, Copy, PartialEq, Eq)]
 pub enum Counting {
@@ -33,6 +35,14 @@ pub enum Adding {
     Full,
     /// The word changed meanwhile: try again.
     Changed,
+}
+
+/// What the last reader that leaves has to do. It has no `Drop`.
+pub struct LastLeft {
+    /// To notify whoever waits until no reader is left.
+    pub owed: Owed,
+    /// Whether its step found the writer's bit. Whoever waits there has set the bit before.
+    pub is_marked: bool,
 }
 
 /// Whether readers are left.

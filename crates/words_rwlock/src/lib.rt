@@ -12,7 +12,7 @@ mod rule;
 mod view;
 mod words;
 
-pub use found::{Adding, Counting, Readers, Reading};
+pub use found::{Adding, Counting, LastLeft, Readers, Reading};
 pub use lists::Lists;
 pub use rule::RwRule;
 pub use view::{Pledge, Seat, View};

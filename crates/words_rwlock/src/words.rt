@@ -6,7 +6,7 @@ ghost use Rattle.words_rwlock.specs.declared.view.View.{View as SeatView};
 ghost use Rattle.words_rwlock.specs.Tries.{OnReading, OnAdding, OnCounting, OnReaders};
 ghost use Rattle.words_base.specs.Tries.{OnTaking, OnAlone, OnSetting};
 
-use crate::found::{Adding, Counting, Readers, Reading};
+use crate::found::{Adding, Counting, LastLeft, Readers, Reading};
 use crate::lists::Lists;
 use crate::rule::{
     AddsStep, DownsStep, KeptStep, LooksStep, MarksStep, OffsStep, ReadsStep, RwRule, SeesStep,
@@ -294,21 +294,26 @@ impl Words {
         shared.compare_exchange::<ReadsStep>(&mut seat.inner, STATE, seen, more) == seen
     }
 
-    /// Reads no more: one step. The last reader, whatever the writer's bit is, is to notify the one that waits for no readers.
-    pub fn off(&self, seat: &mut Seat) -> Option<Owed>
+    /// Reads no more: one step. The last reader, whatever the writer's bit is, is to notify the one that waits for no readers, and hears
+    /// whether the bit was set (`marked`).
+    pub fn off(&self, seat: &mut Seat) -> Option<LastLeft>
         requires table { seat.old.inner.table_id ≡ self.now.table }
         requires reads { seat.old.inner.me.0.reads ≡ true }
         ensures same { (seat.new.inner.table_id ≡ seat.old.inner.table_id) × (seat.new.inner.id ≡ seat.old.inner.id) }
         ensures step { seat.new.inner.me ≡ (without_read (having_found seat.new.inner.me.0.found seat.old.inner.me.0), seat.old.inner.me.1) }
         ensures last { IsSome result ↔ (seat.new.inner.me.0.found / 2 ≡ 1) }
-        ensures owed { IfSome result (λ owed. owed.list.id ≡ self.now.no_readers) }
+        ensures owed { IfSome result (λ last. last.owed.list.id ≡ self.now.no_readers) }
+        ensures marked { IfSome result (λ last. MatchBool last.is_marked (seat.new.inner.me.0.found % 2 ≡ 1) (seat.new.inner.me.0.found % 2 ≡ 0)) }
     {
         let found = self
             .table
             .shared
             .fetch_sub::<OffsStep>(&mut seat.inner, STATE, 2);
         if found / 2 == 1 {
-            Some(Owed::new(self.lists.no_readers.again()))
+            Some(LastLeft {
+                owed: Owed::new(self.lists.no_readers.again()),
+                is_marked: found % 2 == 1,
+            })
         } else {
             None
         }
