@@ -20,7 +20,7 @@ pub(crate) struct Held<'a, R: Wait> {
 impl<'a, R: Wait> Held<'a, R> {
     /// Takes the inner lock, if it can be had at once.
     pub(crate) fn take(barrier: &'a Barrier<R>, rt: &'a R) -> Option<Held<'a, R>> {
-        let (seat, hold) = barrier.raw().inner.take()?;
+        let (seat, hold) = barrier.raw().inner.take().ok()?;
         Some(Held {
             barrier,
             rt,
