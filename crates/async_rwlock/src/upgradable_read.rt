@@ -1,9 +1,9 @@
 //! The future of an upgradable read.
 
-ghost use Rattle.std.specs.Prelude.{◌≡◌, false, IfSome, None};
+ghost use Rattle.std.specs.Prelude.{◌≡◌, false, None};
 ghost use Rattle.futures.specs.Task.{Covers, Keeps};
 ghost use Rattle.async_driver.specs.Turns.{OnPending};
-ghost use Rattle.async_rwlock.specs.Stages.{HasReceiptAt, IsAsMade, IsOf, IsOnWayAt, IsTurn, OnRefused, WaitsAt, future, is_finished};
+ghost use Rattle.async_rwlock.specs.Stages.{HasReceiptAt, IsAsMade, IsOf, IsTurn, OnRefused, WaitsAt, future, is_finished};
 ghost use Rattle.rwlock_driver.specs.declared.aim.Aim.TheVariants as aims;
 
 use crate::owns::Owns;
@@ -11,7 +11,7 @@ use crate::stage::{Stage, Start, Went, begin_poll, drop_as, poll_as};
 use crate::upgradable_guard::UpgradableGuard;
 use async_driver::{Polled, Turn};
 use futures::task::Context;
-use rwlock_driver::{Aim, OnWay, Waiting};
+use rwlock_driver::{Aim, Waiting};
 use std::fmt;
 use std::marker::{Model, PhantomData};
 use std::sync::Wait;
@@ -73,23 +73,10 @@ impl<T, R: Wait + Clock, O: Owns<T, R>> UpgradableFuture<T, R, O> {
         ensures registered { OnPending result (Covers cx.new (WaitsAt O.lock_of self.old.stage)) }
         ensures kept { Keeps cx.old cx.new }
     {
-        match begin_poll::<T, R, O>(Aim::UpgradableRead, &mut self.stage, &self.waiting) {
-            Start::Got(owner, seat) => Turn::Ready(UpgradableGuard::new(owner, seat)),
-            Start::GoesOn(way) => self.go_on(way, cx),
-        }
-    }
-
-    // The rest of a poll that has begun. It stands apart, so that a poll that is ready at once has no room to clear for it.
-    #[inline(never)]
-    fn go_on(&mut self, way: Option<OnWay>, cx: &mut Context<'_>) -> Turn<UpgradableGuard<T, R, O>>
-        requires way { IfSome way (IsOnWayAt O.lock_of aims.UpgradableRead self.old.stage self.old.waiting) }
-        ensures turn { IsTurn aims.UpgradableRead (λ guard. IsOf O.lock_of self.old.stage guard.lock) (is_finished self.old.stage) result (is_finished self.new.stage) }
-        ensures share { is_finished self.new.stage ≡ false → self.new.stage ≡ self.old.stage }
-        ensures refused { OnRefused result (IsAsMade aims.UpgradableRead self.new.waiting) }
-        ensures receipt { OnPending result (HasReceiptAt O.lock_of self.old.stage cx.new self.new.waiting) }
-        ensures registered { OnPending result (Covers cx.new (WaitsAt O.lock_of self.old.stage)) }
-        ensures kept { Keeps cx.old cx.new }
-    {
+        let way = match begin_poll::<T, R, O>(Aim::UpgradableRead, &mut self.stage, &self.waiting) {
+            Start::Got(owner, seat) => return Turn::Ready(UpgradableGuard::new(owner, seat)),
+            Start::GoesOn(way) => way,
+        };
         match poll_as::<T, R, O>(
             Aim::UpgradableRead,
             way,
