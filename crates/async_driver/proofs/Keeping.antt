@@ -78,12 +78,24 @@ module _ {W : Type 0} (id : EntryId) (w : Option W) where
   there_head true c e es waits rest = refl
   there_head false c e es waits rest = rest waits
 
-  waits_listed : (l : List (Entry (Slot W))) → is_waiting_at (has_id id) l ≡ true → is_listed (has_id id) l ≡ true
+  pub waits_listed : (l : List (Entry (Slot W))) → is_waiting_at (has_id id) l ≡ true → is_listed (has_id id) l ≡ true
   waits_listed [] waits = absurd (cc)
   waits_listed (e ∷ es) waits = there_head (has_id id e.key) (not (is_marked e.mark)) e es waits (waits_listed es)
 
   pub waker_at-waiting : (l : List (Entry (Slot W))) → is_waiting_at (has_id id) l ≡ true → waker_at id (with_key (has_id id) (slot_of id w) l) ≡ w
   waker_at-waiting l waits = waker_at-with_key id w l (waits_listed l waits)
+
+-- and isn't marked
+module _ {W : Type 0} (id : EntryId) where
+  unmarked_there : (b c : Bool) (es : List (Entry (Slot W))) → (if b then not c else is_waiting_at (has_id id) es) ≡ true
+      → (is_waiting_at (has_id id) es ≡ true → is_marked_at (has_id id) es ≡ false) → (if b then c else is_marked_at (has_id id) es) ≡ false
+  unmarked_there true true es waits rest = absurd (cc)
+  unmarked_there true false es waits rest = refl
+  unmarked_there false c es waits rest = rest waits
+
+  pub waits_isnt_marked : (l : List (Entry (Slot W))) → is_waiting_at (has_id id) l ≡ true → is_marked_at (has_id id) l ≡ false
+  waits_isnt_marked [] waits = absurd (cc)
+  waits_isnt_marked (e ∷ es) waits = unmarked_there (has_id id e.key) (is_marked e.mark) es waits (waits_isnt_marked es)
 
 -- what has joined waits
 neither : (a b : Bool) → (a || b) ≡ false → (a ≡ false) × (b ≡ false)

@@ -15,7 +15,7 @@ use Rattle.async_driver.specs.declared.weighted_list.WeightedListed.{WeightedLis
 -- what it heard is of this list, and it waits for as many as before
 abbrev pub IsOf : ℕ → ℕ → WeightedHeard → Type 0
 IsOf list weight (Notified owed) = owed.list.id ≡ list
-IsOf list weight (Waiting entry) = (entry.list.id ≡ list) × (entry.weight ≡ weight)
+IsOf list weight (Waiting entry) = (entry.list.id ≡ list) × (entry.weight.count ≡ weight)
 
 abbrev pub OnWaiting : WeightedHeard → (WeightedListed → Type 0) → Type 0
 OnWaiting (Notified owed) fact = ⊤

@@ -18,6 +18,7 @@ mod locked;
 mod settled;
 mod summary;
 mod turn;
+mod units;
 mod waiting_list;
 mod weighted_list;
 
@@ -29,5 +30,6 @@ pub use kept::Kept;
 pub use list_id::ListId;
 pub use settled::{Polled, Settled};
 pub use turn::Turn;
+pub use units::Units;
 pub use waiting_list::{Heard, Joined, Listed, WaitingList, Wakes};
-pub use weighted_list::{WeightedHeard, WeightedList, WeightedListed};
+pub use weighted_list::{WeightedHeard, WeightedJoined, WeightedList, WeightedListed};

@@ -70,10 +70,12 @@ impl Summary {
         }
     }
 
-    /// The same of a list whose entries have weights. Nobody asks there how many notifications there were.
+    /// The same of a list whose entries have weights.
     pub(crate) fn fitted<W: Drop>(&self, entries: &WeightedEvent<W>) {
         if entries.len() == 0 {
             self.say(false);
+        } else {
+            self.passed_on();
         }
     }
 

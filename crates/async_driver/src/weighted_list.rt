@@ -1,18 +1,20 @@
 //! The waiting list of a lock that threads share, where each entry waits for a number of units.
 
-ghost use Rattle.std.specs.Prelude.{◌≡◌, ℕ, IfOk, IfSome, None};
+ghost use Rattle.std.specs.Prelude.{◌≡◌, ℕ, false, IfOk, IfSome, IsSome, None};
 ghost use Rattle.async_driver.specs.Heard.{OnPolled, IsKept};
 ghost use Rattle.async_driver.specs.Weighted.{IsOf, OnWaiting, KeepsAt};
 ghost use Rattle.futures.specs.Task.{Covers, Keeps};
-ghost use Rattle.lock_event.specs.Lists.{joined};
+ghost use Rattle.lock_event.specs.Lists.{is_listed, joined};
 ghost use Rattle.lock_event.specs.Loads.{laden, weight_of};
+ghost use Rattle.lock_event.specs.Slots.{has_id};
 ghost use Rattle.lock_event.specs.Weights.{fitted};
 
 use crate::duty::{ListKey, Owed};
 use crate::kept::Kept;
 use crate::list_id::ListId;
 use crate::locked::locked;
-use crate::summary::Summary;
+use crate::summary::{Notifications, Summary};
+use crate::units::{Units, Wanted};
 use crate::waiting_list::{Polled, Wakes};
 use futures::task::{Context, Poll, Source, Waker};
 use lock_event::{Asked, EntryId, Memory, WeightedEvent};
@@ -22,12 +24,12 @@ use std::sync::{Mutex, Wait};
 /// An entry in a [`WeightedList`].
 ///
 /// Only [`WeightedList::remove`] ends it, and a poll that finds it notified: it has no `Drop`. In clauses it is its list,
-/// the task whose waker the entry keeps, once it has been polled, and for how many units it waits.
+/// the task whose waker the entry keeps, once it has joined with one or been polled, and for how many units it waits.
 pub struct WeightedListed {
     id: EntryId,
     list: ListId,
     keeps: Kept,
-    weight: u64,
+    weight: Units,
 }
 
 impl WeightedListed {
@@ -35,13 +37,36 @@ impl WeightedListed {
     pub fn id(&self) -> EntryId {
         self.id
     }
+}
 
-    /// Returns for how many units the entry waits.
-    #[inline]
-    pub fn weight(&self) -> u64
-        ensures { result ≡ self.now.weight }
+/// An entry of a [`WeightedList`] that has joined with a waker of its task, and hasn't been asked for since.
+///
+/// It has no `Drop`: [`WeightedList::ask_joined`] asks for its notification, and [`WeightedJoined::unasked`] goes on without. In
+/// clauses it is its entry.
+pub struct WeightedJoined {
+    entry: WeightedListed,
+    // What the list had been notified when it joined.
+    then: Notifications,
+}
+
+impl WeightedJoined {
+    /// The entry, of which it isn't said any more that it keeps a waker: nobody asked whether it has been notified.
+    pub fn unasked(self) -> WeightedListed
+        ensures { (result.list.id ≡ self.entry.list.id) × (result.weight.count ≡ self.entry.weight.count) × (result.keeps.by ≡ None) }
     {
-        self.weight
+        let WeightedJoined { entry, then: _ } = self;
+        let WeightedListed {
+            id,
+            list,
+            keeps: _,
+            weight,
+        } = entry;
+        WeightedListed {
+            id,
+            list,
+            keeps: Kept::of(&None),
+            weight,
+        }
     }
 }
 
@@ -129,23 +154,16 @@ impl<W: Wakes> WeightedList<W> {
     /// Adds a waiting entry for so many units at the back, with no waker. [`Memory`] comes only if memory was refused,
     /// and the list then is as it was.
     pub fn join<R: Wait>(&self, rt: &R, weight: u64) -> Result<WeightedListed, Memory>
-        ensures { IfOk result (λ entry. (entry.list.id ≡ self.now.name.id) × (entry.weight ≡ weight) × (entry.keeps.by ≡ None)) }
+        ensures { IfOk result (λ entry. (entry.list.id ≡ self.now.name.id) × (entry.weight.count ≡ weight) × (entry.keeps.by ≡ None)) }
     {
-        let joined = join_first(
-            &mut locked(&self.entries, rt),
-            self.alloc,
-            &self.summary,
-            weight,
-        );
-        match joined {
-            Ok(id) => Ok(WeightedListed {
-                id,
-                list: self.id(),
-                keeps: Kept::of(&None),
-                weight,
-            }),
-            Err(memory) => Err(memory),
-        }
+        let mut entries = locked(&self.entries, rt);
+        let id = join_locked(made(&mut entries, self.alloc)?, &self.summary, weight)?;
+        Ok(WeightedListed {
+            id,
+            list: self.id(),
+            keeps: Kept::of(&None),
+            weight: Units::of(&Wanted { units: weight }),
+        })
     }
 
     /// Asks for the notification of this entry, by [`WeightedEvent::ask`], with a waker in hand. A notified entry leaves the list. A
@@ -158,7 +176,7 @@ impl<W: Wakes> WeightedList<W> {
         waker: &mut Option<W>,
     ) -> WeightedHeard
         requires { entry.list.id ≡ self.now.name.id }
-        ensures { IsOf self.now.name.id entry.weight result }
+        ensures { IsOf self.now.name.id entry.weight.count result }
     {
         let WeightedListed {
             id,
@@ -267,42 +285,7 @@ impl WeightedList<Waker> {
         cx: &mut Context<'_>,
     ) -> WeightedHeard
         requires { entry.list.id ≡ self.now.name.id }
-        ensures list { IsOf self.now.name.id entry.weight result }
-        ensures waits { OnWaiting result (λ entry. IsKept cx.new entry.keeps × Covers cx.new (λ s. s ≡ source.now.id)) }
-        ensures kept { Keeps cx.old cx.new }
-    {
-        self.poll_entry(rt, entry, source, cx, false)
-    }
-
-    /// Polls an entry that keeps no waker yet, as [`WeightedList::poll`]: a waker is made, and the list is asked once. If the entry is
-    /// notified that waker is dropped, by which the kit wakes its task once more.
-    pub fn poll_first<R: Wait>(
-        &self,
-        rt: &R,
-        entry: WeightedListed,
-        source: &Source,
-        cx: &mut Context<'_>,
-    ) -> WeightedHeard
-        requires list { entry.list.id ≡ self.now.name.id }
-        requires first { entry.keeps.by ≡ None }
-        ensures list { IsOf self.now.name.id entry.weight result }
-        ensures waits { OnWaiting result (λ entry. IsKept cx.new entry.keeps × Covers cx.new (λ s. s ≡ source.now.id)) }
-        ensures kept { Keeps cx.old cx.new }
-    {
-        self.poll_entry(rt, entry, source, cx, true)
-    }
-
-    #[inline(always)]
-    fn poll_entry<R: Wait>(
-        &self,
-        rt: &R,
-        entry: WeightedListed,
-        source: &Source,
-        cx: &mut Context<'_>,
-        is_first: bool,
-    ) -> WeightedHeard
-        requires { entry.list.id ≡ self.now.name.id }
-        ensures list { IsOf self.now.name.id entry.weight result }
+        ensures list { IsOf self.now.name.id entry.weight.count result }
         ensures waits { OnWaiting result (λ entry. IsKept cx.new entry.keeps × Covers cx.new (λ s. s ≡ source.now.id)) }
         ensures kept { Keeps cx.old cx.new }
     {
@@ -312,12 +295,10 @@ impl WeightedList<Waker> {
             keeps: _,
             weight,
         } = entry;
-        let (polled, unused) = match &mut *locked(&self.entries, rt) {
-            Some(entries) if is_first => poll_first_locked(entries, id, source, cx),
-            Some(entries) => (poll_locked(entries, id, source, cx), None),
-            None => (Polled::Notified(None), None),
+        let polled = match &mut *locked(&self.entries, rt) {
+            Some(entries) => poll_locked(entries, id, source, cx),
+            None => Polled::Notified(None),
         };
-        drop(unused);
         match polled {
             Polled::Waiting(keeps) => WeightedHeard::Waiting(WeightedListed {
                 id,
@@ -331,26 +312,108 @@ impl WeightedList<Waker> {
             }
         }
     }
+
+    /// Adds a waiting entry for so many units at the back that keeps a waker of the task of `cx`, which has registered with
+    /// `source`. [`Memory`] comes only if memory was refused, and the list then is as it was.
+    ///
+    /// By the contract the entry keeps such a waker (`keeps`).
+    #[inline(always)]
+    pub fn join_with_waker<R: Wait>(
+        &self,
+        rt: &R,
+        weight: u64,
+        source: &Source,
+        cx: &mut Context<'_>,
+    ) -> Result<WeightedJoined, Memory>
+        ensures joined { IfOk result (λ joined. (joined.entry.list.id ≡ self.now.name.id) × (joined.entry.weight.count ≡ weight)) }
+        ensures keeps { IfOk result (λ joined. IsKept cx.new joined.entry.keeps × Covers cx.new (λ s. s ≡ source.now.id)) }
+        ensures kept { Keeps cx.old cx.new }
+    {
+        let mut entries = locked(&self.entries, rt);
+        let entries = made(&mut entries, self.alloc)?;
+        let (id, keeps, then) = join_waking(entries, &self.summary, weight, source, cx)?;
+        Ok(WeightedJoined {
+            entry: WeightedListed {
+                id,
+                list: self.id(),
+                keeps,
+                weight: Units::of(&Wanted { units: weight }),
+            },
+            then,
+        })
+    }
+
+    /// Asks for the notification of an entry that has joined with a waker. A notified entry leaves the list. A waiting one
+    /// keeps its waker (`waits`).
+    ///
+    /// Where the list was not notified since the entry joined, the entry waits, and the list isn't asked for its lock.
+    #[inline(always)]
+    pub fn ask_joined<R: Wait>(&self, rt: &R, joined: WeightedJoined) -> WeightedHeard
+        requires { joined.entry.list.id ≡ self.now.name.id }
+        ensures list { IsOf self.now.name.id joined.entry.weight.count result }
+        ensures waits { OnWaiting result (λ entry. entry.keeps ≡ joined.entry.keeps) }
+    {
+        let WeightedJoined { entry, then } = joined;
+        if self.summary.is_still(then) {
+            return WeightedHeard::Waiting(entry);
+        }
+        self.ask_locked_out(rt, entry)
+    }
+
+    // Asks under the list's lock for the notification of an entry that keeps a waker. It stands apart: hardly ever is a list
+    // notified between a join and the ask.
+    #[inline(never)]
+    fn ask_locked_out<R: Wait>(&self, rt: &R, entry: WeightedListed) -> WeightedHeard
+        requires { entry.list.id ≡ self.now.name.id }
+        ensures list { IsOf self.now.name.id entry.weight.count result }
+        ensures waits { OnWaiting result (λ waits. waits.keeps ≡ entry.keeps) }
+    {
+        let told = match &mut *locked(&self.entries, rt) {
+            Some(entries) => unless_waiting(entries, entry.id),
+            None => Some(None),
+        };
+        match told {
+            None => WeightedHeard::Waiting(entry),
+            Some(waker) => {
+                drop(waker);
+                let WeightedListed {
+                    id: _,
+                    list,
+                    keeps: _,
+                    weight: _,
+                } = entry;
+                WeightedHeard::Notified(Owed::told(list))
+            }
+        }
+    }
 }
 
 // The calls as they are under the list's lock.
 
-// Joins a list that is made where nobody joined before.
-fn join_first<W: Wakes>(
+// The list, which is made where nobody joined before.
+#[inline(always)]
+fn made<W: Wakes>(
     entries: &mut Option<Box<WeightedEvent<W>>>,
     alloc: Global,
-    summary: &Summary,
-    weight: u64,
-) -> Result<EntryId, Memory> {
-    if let Some(entries) = entries {
-        return join_locked(entries, summary, weight);
+) -> Result<&mut WeightedEvent<W>, Memory> {
+    if entries.is_none() {
+        make(entries, alloc)?;
     }
-    let Ok(mut made) = Box::new(alloc, WeightedEvent::new(alloc)) else {
+    match entries {
+        Some(entries) => Ok(entries),
+        None => unreachable!(),
+    }
+}
+
+#[inline(never)]
+fn make<W: Wakes>(entries: &mut Option<Box<WeightedEvent<W>>>, alloc: Global) -> Result<(), Memory>
+    ensures { IfOk result (λ _. IsSome entries.new) }
+{
+    let Ok(made) = Box::new(alloc, WeightedEvent::new(alloc)) else {
         return Err(Memory);
     };
-    let joined = join_locked(&mut made, summary, weight);
     *entries = Some(made);
-    joined
+    Ok(())
 }
 
 fn join_locked<W: Wakes>(
@@ -358,7 +421,8 @@ fn join_locked<W: Wakes>(
     summary: &Summary,
     weight: u64,
 ) -> Result<EntryId, Memory>
-    ensures { IfOk result (λ id. entries.new.entries ≡ joined entries.old.entries (laden id weight None)) }
+    ensures joined { IfOk result (λ id. entries.new.entries ≡ joined entries.old.entries (laden id weight None)) }
+    ensures fresh { IfOk result (λ id. is_listed (has_id id) entries.old.entries ≡ false) }
 {
     let joined = entries.listen(weight);
     if joined.is_ok() {
@@ -403,23 +467,37 @@ fn poll_locked(
     }
 }
 
-// The same of an entry that keeps no waker yet: one is made, and the list asked once. What the entry doesn't keep is handed out, to be
-// dropped when the list's lock has been released.
-fn poll_first_locked(
+// By the contract the entry that has joined keeps a waker of the task that is answered.
+fn join_waking(
     entries: &mut WeightedEvent<Waker>,
-    id: EntryId,
+    summary: &Summary,
+    weight: u64,
     source: &Source,
     cx: &mut Context<'_>,
-) -> (Polled, Option<Waker>)
-    ensures waits { OnPolled result.0 (λ keeps. KeepsAt id keeps entries.new.entries × IsKept cx.new keeps × Covers cx.new (λ s. s ≡ source.now.id)) }
+) -> Result<(EntryId, Kept, Notifications), Memory>
+    ensures keeps { IfOk result (λ joined. KeepsAt joined.0 joined.1 entries.new.entries × IsKept cx.new joined.1 × Covers cx.new (λ s. s ≡ source.now.id)) }
     ensures kept { Keeps cx.old cx.new }
 {
+    let id = join_locked(entries, summary, weight)?;
+    let then = summary.notifications();
     let mut made = None;
     let _: Poll<()> = cx.register(source, &mut made);
     let keeps = Kept::of(&made);
     match entries.ask(id, made) {
-        Asked::Waiting { kept } => (Polled::Waiting(keeps), kept),
-        Asked::Notified { kept, unused } => (Polled::Notified(kept), unused),
-        Asked::Unlisted { unused } => (Polled::Notified(unused), None),
+        Asked::Waiting { .. } => Ok((id, keeps, then)),
+        Asked::Notified { .. } => unreachable!(),
+        Asked::Unlisted { .. } => unreachable!(),
+    }
+}
+
+// What an entry kept that doesn't wait, which leaves the list if it is there. One that waits keeps its waker.
+fn unless_waiting(entries: &mut WeightedEvent<Waker>, id: EntryId) -> Option<Option<Waker>> {
+    match entries.ask(id, None) {
+        Asked::Notified { kept, .. } => Some(kept),
+        Asked::Unlisted { .. } => Some(None),
+        Asked::Waiting { kept } => {
+            let _ = entries.ask(id, kept);
+            None
+        }
     }
 }

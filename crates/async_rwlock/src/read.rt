@@ -11,7 +11,7 @@ use crate::read_guard::ReadGuard;
 use crate::stage::{Stage, Start, Went, begin_poll, drop_as, poll_as};
 use async_driver::{Polled, Turn};
 use futures::task::Context;
-use rwlock_driver::{Aim, Waiting};
+use rwlock_driver::{Aim, Resting};
 use std::fmt;
 use std::marker::{Model, PhantomData};
 use std::sync::Wait;
@@ -24,7 +24,7 @@ use std::time::Clock;
 pub struct ReadFuture<T, R: Wait, O: Owns<T, R>> {
     stage: Stage<O>,
     // `None` before the first poll, and once it was ready.
-    waiting: Option<Waiting>,
+    waiting: Option<Resting>,
     lock: PhantomData<(T, R)>,
 }
 

@@ -14,7 +14,7 @@ use crate::owns::Owns;
 use async_driver::nothing;
 use futures::task::Context;
 use lock_program::Refusal;
-use rwlock_driver::{Aim, Begun, First, OnWay, Outcome, Waiting};
+use rwlock_driver::{Aim, Begun, First, OnWay, Outcome, Resting};
 use std::mem;
 use std::sync::Wait;
 use std::time::Clock;
@@ -65,7 +65,7 @@ pub(crate) enum Start<O> {
 pub(crate) fn begin_poll<T, R, O: Owns<T, R>>(
     aim: Aim,
     stage: &mut Stage<O>,
-    waiting: &Option<Waiting>,
+    waiting: &Option<Resting>,
 ) -> Start<O>
     requires aim { aim ≢ aims.Upgrade }
     ensures { Starts O.lock_of aim waiting.now stage.old result stage.new }
@@ -99,7 +99,7 @@ fn poll_stage<T, R: Wait + Clock, O: Owns<T, R>>(
     aim: Aim,
     way: Option<OnWay>,
     stage: &Stage<O>,
-    waiting: &mut Option<Waiting>,
+    waiting: &mut Option<Resting>,
     cx: &mut Context<'_>,
 ) -> Outcome
     requires waits { IfSome waiting.old (WaitsAs O.lock_of aim stage.now) }
@@ -133,7 +133,7 @@ pub(crate) fn poll_as<T, R: Wait + Clock, O: Owns<T, R>>(
     aim: Aim,
     way: Option<OnWay>,
     stage: &mut Stage<O>,
-    waiting: &mut Option<Waiting>,
+    waiting: &mut Option<Resting>,
     cx: &mut Context<'_>,
 ) -> Went<O>
     requires waits { IfSome waiting.old (WaitsAs O.lock_of aim stage.old) }
@@ -166,7 +166,7 @@ pub(crate) fn poll_as<T, R: Wait + Clock, O: Owns<T, R>>(
 pub(crate) fn into_writer<T, R, O: Owns<T, R>>(
     seat: Seat,
     stage: &mut Stage<O>,
-    waiting: &Option<Waiting>,
+    waiting: &Option<Resting>,
 ) -> (O, Seat)
     requires begun { IsUpgrading O.lock_of stage.old (Some (begun.Writes seat)) waiting.now }
     ensures was { is_finished stage.old ≡ false }
@@ -186,7 +186,7 @@ pub(crate) fn into_writer<T, R, O: Owns<T, R>>(
 fn look_stage<T, R: Wait + Clock, O: Owns<T, R>>(
     seat: Seat,
     stage: &Stage<O>,
-    waiting: &mut Option<Waiting>,
+    waiting: &mut Option<Resting>,
     cx: &mut Context<'_>,
 ) -> Outcome
     requires begun { IsUpgrading O.lock_of stage.now (Some (begun.Awaits seat)) waiting.old }
@@ -209,7 +209,7 @@ fn look_stage<T, R: Wait + Clock, O: Owns<T, R>>(
 pub(crate) fn poll_begun<T, R: Wait + Clock, O: Owns<T, R>>(
     seat: Seat,
     stage: &mut Stage<O>,
-    waiting: &mut Option<Waiting>,
+    waiting: &mut Option<Resting>,
     cx: &mut Context<'_>,
 ) -> Went<O>
     requires begun { IsUpgrading O.lock_of stage.old (Some (begun.Awaits seat)) waiting.old }
@@ -236,7 +236,7 @@ pub(crate) fn poll_begun<T, R: Wait + Clock, O: Owns<T, R>>(
 pub(crate) fn drop_begun<T, R: Wait, O: Owns<T, R>>(
     begun: Begun,
     stage: Stage<O>,
-    waiting: Option<Waiting>,
+    waiting: Option<Resting>,
 )
     requires begun { IsUpgrading O.lock_of stage (Some begun) waiting }
 {
@@ -261,7 +261,7 @@ pub(crate) fn drop_begun<T, R: Wait, O: Owns<T, R>>(
 pub(crate) fn drop_as<T, R: Wait, O: Owns<T, R>>(
     aim: Aim,
     stage: Stage<O>,
-    waiting: Option<Waiting>,
+    waiting: Option<Resting>,
 )
     requires { IfSome waiting (WaitsAs O.lock_of aim stage) }
 {
@@ -274,12 +274,12 @@ pub(crate) fn drop_as<T, R: Wait, O: Owns<T, R>>(
 // What a dropped future gives back that hasn't been ready, its share of the lock last. It stands apart, so that the drop of
 // one that was ready is short.
 #[inline(never)]
-fn leave<T, R: Wait, O: Owns<T, R>>(aim: Aim, owner: O, waiting: Option<Waiting>)
+fn leave<T, R: Wait, O: Owns<T, R>>(aim: Aim, owner: O, waiting: Option<Resting>)
     requires { IfSome waiting (WaitsFor (O.lock_of owner).raw aim) }
 {
     if let Some(waiting) = waiting {
         let lock = owner.lock();
-        lock.raw.cancel(&lock.rt, aim, waiting);
+        lock.raw.cancel(&lock.rt, aim, waiting.resume());
     }
     drop(owner);
 }

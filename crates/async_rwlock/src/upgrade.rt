@@ -12,7 +12,7 @@ use crate::stage::{Stage, Went, drop_as, drop_begun, into_writer, poll_as, poll_
 use crate::write_guard::WriteGuard;
 use async_driver::{Polled, Turn};
 use futures::task::Context;
-use rwlock_driver::{Aim, Begun, Waiting};
+use rwlock_driver::{Aim, Begun, Resting};
 use std::fmt;
 use std::marker::{Model, PhantomData};
 use std::sync::Wait;
@@ -28,7 +28,7 @@ pub struct UpgradeFuture<T, R: Wait, O: Owns<T, R>> {
     // There before the first poll.
     begun: Option<Begun>,
     // There from the first poll on that wasn't ready.
-    waiting: Option<Waiting>,
+    waiting: Option<Resting>,
     lock: PhantomData<(T, R)>,
 }
 

@@ -1,9 +1,11 @@
 -- How far a future is, what it has meanwhile, and what its polls answer.
-use Rattle.std.specs.Prelude.{◌≡◌, ℕ, Bool, true, false, ⊤, IsNone, Option, None}
+use Rattle.std.specs.Prelude.{◌≡◌, ℕ, Bool, true, false, ⊤, IsNone, Option, None, Some}
 use Rattle.async_driver.specs.declared.turn.Turn.{Turn}
 use Rattle.async_driver.specs.declared.turn.Turn.TheVariants.{Pending, Ready, Refused}
 use Rattle.async_semaphore.specs.Guards.{Held}
 use Rattle.async_semaphore.specs.declared.semaphore.Semaphore.{Semaphore}
+use Rattle.async_semaphore.specs.declared.stage.FirstPoll.{FirstPoll}
+use Rattle.async_semaphore.specs.declared.stage.FirstPoll.TheVariants as first
 use Rattle.async_semaphore.specs.declared.stage.Stage.{Stage}
 use Rattle.async_semaphore.specs.declared.stage.Stage.TheVariants.{Unowned, Waits, Finished as Over}
 use Rattle.futures.specs.declared.task.context.Context.{Context}
@@ -88,6 +90,12 @@ abbrev pub OnPolled : {O R : Type 0} → (O → Semaphore R) → Stage O → ℕ
 OnPolled semaphore_of stage k cx (outcome.Got seat) rest = GotAt semaphore_of stage k seat × (rest ≡ None)
 OnPolled semaphore_of stage k cx outcome.Waits rest = HasReceiptAt semaphore_of stage k cx rest
 OnPolled semaphore_of stage k cx (outcome.Refused refusal) rest = (refusal ≡ Memory) × IsNone rest
+
+-- the same of the rest of a first poll, whose party comes back where it waits
+abbrev pub OnFirst : {O R : Type 0} → (O → Semaphore R) → Stage O → ℕ → Context → FirstPoll → Type 0
+OnFirst semaphore_of stage k cx (first.Got seat) = GotAt semaphore_of stage k seat
+OnFirst semaphore_of stage k cx (first.Waits w) = WaitsAs semaphore_of stage k w × HasReceiptAt semaphore_of stage k cx (Some w)
+OnFirst semaphore_of stage k cx (first.Refused refusal) = refusal ≡ Memory
 
 -- Ready, what was got is this and the future is over. One that is over is refused as finished and stays so; no other is, and none for
 -- another reason than memory.

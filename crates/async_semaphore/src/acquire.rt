@@ -1,14 +1,14 @@
 //! The future of permits.
 
-ghost use Rattle.std.specs.Prelude.{◌≡◌, false, IsNone, None};
+ghost use Rattle.std.specs.Prelude.{◌≡◌, true, false, IsNone, None};
 ghost use Rattle.futures.specs.Task.{Covers, Keeps};
 ghost use Rattle.async_driver.specs.Turns.{OnPending};
-ghost use Rattle.async_semaphore.specs.Stages.{Gives, HasReceiptAt, IsTurn, OnRefused, WaitsAt, future, is_finished};
+ghost use Rattle.async_semaphore.specs.Stages.{Gives, HasReceiptAt, IsTurn, OnRefused, OnTriedAt, WaitsAt, future, is_finished};
 
 use crate::guard::PermitGuard;
 use crate::owns::Owns;
-use crate::stage::{Stage, drop_stage, into_guard, poll_first, poll_waiting, take};
-use async_driver::{Polled, Turn};
+use crate::stage::{FirstPoll, Stage, drop_stage, into_guard, poll_first, poll_waiting, take};
+use async_driver::{Polled, Turn, put};
 use futures::task::Context;
 use lock_program::Refusal;
 use semaphore_driver::{Outcome, Tried, Waiting};
@@ -84,33 +84,62 @@ impl<R: Wait + Clock, O: Owns<R>> AcquireFuture<R, O> {
         ensures kept { Keeps cx.old cx.new }
     {
         let permits = self.permits;
-        let outcome = if self.waiting.is_none() {
-            // The stage is out meanwhile, so that who got the permits needn't be read again from memory.
-            let stage = mem::replace(&mut self.stage, Stage::Finished);
-            match take::<R, O>(&stage, permits) {
-                Some(Tried::Got(seat)) => return Turn::Ready(into_guard(stage, seat, permits)),
-                Some(tried) => {
-                    self.stage = stage;
-                    poll_first::<R, O>(&self.stage, permits, tried, &mut self.waiting, cx)
+        if self.waiting.is_some() {
+            return match poll_waiting::<R, O>(&self.stage, permits, &mut self.waiting, cx) {
+                Outcome::Got(seat) => {
+                    let stage = mem::replace(&mut self.stage, Stage::Finished);
+                    Turn::Ready(into_guard(stage, seat, permits))
                 }
-                None => {
-                    if let Stage::Finished = stage {
-                        return Turn::Refused(Refusal::Finished);
-                    }
-                    self.stage = stage;
-                    return Turn::Refused(Refusal::Memory);
+                Outcome::Waits => Turn::Pending,
+                Outcome::Refused(refusal) => Turn::Refused(refusal),
+            };
+        }
+        // The stage is out meanwhile, so that a future that is ready at once need not be in memory.
+        let stage = mem::replace(&mut self.stage, Stage::Finished);
+        match take::<R, O>(&stage, permits) {
+            Some(Tried::Got(seat)) => Turn::Ready(into_guard(stage, seat, permits)),
+            Some(tried) => self.poll_on(stage, tried, cx),
+            None => {
+                if let Stage::Finished = stage {
+                    return Turn::Refused(Refusal::Finished);
                 }
+                self.stage = stage;
+                Turn::Refused(Refusal::Memory)
             }
-        } else {
-            poll_waiting::<R, O>(&self.stage, permits, &mut self.waiting, cx)
-        };
-        match outcome {
-            Outcome::Got(seat) => {
-                let stage = mem::replace(&mut self.stage, Stage::Finished);
-                Turn::Ready(into_guard(stage, seat, permits))
+        }
+    }
+
+    // The rest of a first poll, whose stage is out. It is in line, so that the future need not be in memory for it, and a function of
+    // its own, so that what it takes room for is cleared only where it is reached.
+    #[inline(always)]
+    fn poll_on(
+        &mut self,
+        stage: Stage<O>,
+        tried: Tried,
+        cx: &mut Context<'_>,
+    ) -> Turn<PermitGuard<R, O>>
+        requires out { (is_finished self.old.stage ≡ true) × (self.old.waiting ≡ None) }
+        requires tried { OnTriedAt O.semaphore_of stage self.old.permits tried }
+        ensures turn { IsTurn (Gives O.semaphore_of stage self.old.permits) false result (is_finished self.new.stage) }
+        ensures permits { self.new.permits ≡ self.old.permits }
+        ensures share { is_finished self.new.stage ≡ false → self.new.stage ≡ stage }
+        ensures refused { OnRefused result (IsNone self.new.waiting) }
+        ensures receipt { OnPending result (HasReceiptAt O.semaphore_of stage self.old.permits cx.new self.new.waiting) }
+        ensures registered { OnPending result (Covers cx.new (WaitsAt O.semaphore_of stage)) }
+        ensures kept { Keeps cx.old cx.new }
+    {
+        let permits = self.permits;
+        match poll_first::<R, O>(&stage, permits, tried, cx) {
+            FirstPoll::Got(seat) => Turn::Ready(into_guard(stage, seat, permits)),
+            FirstPoll::Waits(waiting) => {
+                self.stage = stage;
+                put(&mut self.waiting, waiting);
+                Turn::Pending
             }
-            Outcome::Waits => Turn::Pending,
-            Outcome::Refused(refusal) => Turn::Refused(refusal),
+            FirstPoll::Refused(refusal) => {
+                self.stage = stage;
+                Turn::Refused(refusal)
+            }
         }
     }
 }

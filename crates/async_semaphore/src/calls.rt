@@ -34,7 +34,7 @@ impl<R: Wait> Semaphore<R> {
                 self.raw.give_up(seat, 1);
                 return None;
             }
-            Tried::Changed(seat) => self.raw.try_again(&self.rt, seat, 1)?,
+            Tried::Changed(seat) => self.raw.try_again(seat, 1)?,
         };
         Some(PermitGuard::new(self, seat, 1))
     }
@@ -53,7 +53,7 @@ impl<R: Wait> Semaphore<R> {
                 self.raw.give_up(seat, permits);
                 return None;
             }
-            Tried::Changed(seat) => self.raw.try_again(&self.rt, seat, permits)?,
+            Tried::Changed(seat) => self.raw.try_again(seat, permits)?,
         };
         Some(PermitGuard::new(self, seat, permits))
     }
@@ -149,7 +149,7 @@ impl<R: Wait + Drop> Semaphore<R> {
                 owner.raw.give_up(seat, permits);
                 return None;
             }
-            Tried::Changed(seat) => owner.raw.try_again(&owner.rt, seat, permits)?,
+            Tried::Changed(seat) => owner.raw.try_again(seat, permits)?,
         };
         Some(PermitGuard::new(owner, seat, permits))
     }

@@ -2,7 +2,7 @@
 
 ghost use Rattle.std.specs.Prelude.{◌≡◌, false, None, IfNone, IfSome, IsSomeAnd};
 ghost use Rattle.futures.specs.Task.{Keeps};
-ghost use Rattle.async_semaphore.specs.Stages.{Gives, GotAt, HasNoShare, IsFor, OnPolled, OnTriedAt, WaitsAs, is_finished};
+ghost use Rattle.async_semaphore.specs.Stages.{Gives, GotAt, HasNoShare, IsFor, OnFirst, OnPolled, OnTriedAt, WaitsAs, is_finished};
 ghost use Rattle.async_semaphore.specs.declared.semaphore.Semaphore.{Semaphore};
 ghost use Rattle.semaphore_driver.specs.Polls.{WaitsFor};
 
@@ -67,6 +67,16 @@ pub(crate) fn into_guard<R: Wait, O: Owns<R>>(
     }
 }
 
+/// What the rest of a first poll came to.
+pub(crate) enum FirstPoll {
+    /// The permits, by this seat.
+    Got(Seat),
+    /// It waits, and this is its party.
+    Waits(Waiting),
+    /// It gave up, and has nothing.
+    Refused(Refusal),
+}
+
 /// The rest of a first poll that didn't get its permits at once, by who has the semaphore. It stands apart, as the next one does,
 /// since what it takes room for would be cleared at each poll that is ready without it.
 #[inline(never)]
@@ -74,13 +84,10 @@ pub(crate) fn poll_first<R: Wait + Clock, O: Owns<R>>(
     stage: &Stage<O>,
     permits: u64,
     tried: Tried,
-    waiting: &mut Option<Waiting>,
     cx: &mut Context<'_>,
-) -> Outcome
+) -> FirstPoll
     requires tried { OnTriedAt O.semaphore_of stage.now permits tried }
-    requires none { waiting.old ≡ None }
-    ensures waits { IfSome waiting.new (WaitsAs O.semaphore_of stage.now permits) }
-    ensures polled { OnPolled O.semaphore_of stage.now permits cx.new result waiting.new }
+    ensures first { OnFirst O.semaphore_of stage.now permits cx.new result }
     ensures kept { Keeps cx.old cx.new }
 {
     let Stage::Waits(owner) = stage else {
@@ -89,14 +96,28 @@ pub(crate) fn poll_first<R: Wait + Clock, O: Owns<R>>(
     let semaphore = owner.semaphore();
     let raw = &semaphore.raw;
     let seat = match tried {
-        Tried::Got(seat) => return Outcome::Got(seat),
+        Tried::Got(seat) => return FirstPoll::Got(seat),
         Tried::Short(seat) => seat,
         Tried::Changed(seat) => match raw.look_on(&semaphore.rt, seat, permits) {
-            Ok(seat) => return Outcome::Got(seat),
+            Ok(seat) => return FirstPoll::Got(seat),
             Err(seat) => seat,
         },
     };
-    raw.poll_first(&semaphore.rt, cx, permits, seat, waiting)
+    let mut waiting = None;
+    match raw.poll_first(&semaphore.rt, cx, permits, seat, &mut waiting) {
+        Outcome::Got(seat) => {
+            nothing(waiting);
+            FirstPoll::Got(seat)
+        }
+        Outcome::Waits => match waiting {
+            Some(waiting) => FirstPoll::Waits(waiting),
+            None => unreachable!(),
+        },
+        Outcome::Refused(refusal) => {
+            nothing(waiting);
+            FirstPoll::Refused(refusal)
+        }
+    }
 }
 
 /// A poll of what waits, by who has the semaphore.

@@ -3,16 +3,17 @@ use Rattle.std.proofs.Common.{◌≡◌, ℕ, Bool, true, false, Option, Some, N
 use Rattle.std.specs.Prelude.{IsSomeAnd, IfSome, is_some}
 use Rattle.futures.specs.declared.task.context.Context.{Context}
 use Rattle.async_driver.specs.declared.waiting_list.Listed.{Listed}
-use Rattle.lock_driver.specs.Parties.{Having, IsReceipt, having_at}
+use Rattle.lock_driver.specs.Parties.{Having, IsReceipt, having_at, CanPoll as CanPollTurn}
 use Rattle.lock_program.specs.declared.end.End.{End}
 use Rattle.lock_program.specs.declared.end.End.TheVariants as ending
 use Rattle.lock_program.specs.declared.refusal.Refusal.{Refusal}
 use Rattle.lock_program.specs.declared.mutex.Place.{Place as TurnPlace}
 use Rattle.lock_program.specs.declared.mutex.Place.TheVariants as turn_at
 use Rattle.lock_program.specs.declared.rwlock.Place.{Place}
-use Rattle.lock_program.specs.declared.rwlock.Place.TheVariants.{AskNoWriter, WaitTurn, AwaitNoReaders}
+use Rattle.lock_program.specs.declared.rwlock.Place.TheVariants.{Made, AskNoWriter, WaitTurn, AwaitNoReaders, LookUnlisted}
 use Rattle.lock_program.specs.declared.rwlock.Purpose.{Purpose}
 use Rattle.lock_program.specs.declared.rwlock.Purpose.TheVariants as purpose
+use Rattle.lock_program.specs.declared.rwlock.Wanted.TheVariants as wanted
 use Rattle.rwlock_driver.specs.Parties.{Fits, IfPending, IsOf, Share, Stands, Waits, share_at, share_of, turned}
 use Rattle.rwlock_driver.specs.Polls.{CanPoll, EndsAt, HasReceipt, Polled, WaitsFor, IsAsking, first_of, got_at, right_of}
 use Rattle.rwlock_driver.specs.Rights.{Has, flags}
@@ -68,10 +69,14 @@ pub pending : (raw : RawRwLock) (cx : Context) (q : RwLockParty) (s : Standing) 
 pending raw cx q s a ending.Pending ends st w = receipt raw cx q s a ends st w
 pending raw cx q s a e ends st w = tt
 
--- what is taken out is what was there
-pub taken : (o : Option Waiting) (x : Waiting) (P : Waiting → Type 0) → IsSomeAnd o P → IfSome o (λ w. x ≡ w) → P x
-taken None x P h is = absurd h
-taken (Some w) x P h is = subst P (sym is) h
+-- where a future waits it may be polled
+pub can_ask : (a : Aim) (p : Place) → IsAsking a p → CanPoll a p
+can_ask aim.Read p is = subst (CanPoll aim.Read) (sym is) tt
+can_ask aim.UpgradableRead p is = subst (CanPoll aim.UpgradableRead) (sym is) tt
+can_ask aim.Write (WaitTurn purpose.Write) is = tt
+can_ask aim.Write (AwaitNoReaders false) is = tt
+can_ask aim.Upgrade p is = subst (CanPoll aim.Upgrade) (sym is) tt
+can_ask a p is = absurd is
 
 can_first : (a : Aim) → CanPoll a (first_of a)
 can_first aim.Read = tt
@@ -82,9 +87,31 @@ can_first aim.Upgrade = tt
 pub can_begin : (a : Aim) (p : Place) → p ≡ first_of a → CanPoll a p
 can_begin a p is = subst (CanPoll a) (sym is) (can_first a)
 
-pub refused : (raw : RawRwLock) (a : Aim) (cx : Context) (o : Option Waiting) (e : End) (r : Refusal) → e ≡ ending.Refused r → IsSomeAnd o (Polled raw a cx e) → IfSome o (WaitsFor raw a)
-refused raw a cx None e r is h = tt
-refused raw a cx (Some w) e r is h = let ends : EndsAt a (ending.Refused r) w.place.at = subst (λ x. EndsAt a x w.place.at) is h.1 in (h.0, can_begin a w.place.at ends.0)
+-- what a future keeps is the party that may be polled for its aim
+pub kept : (raw : RawRwLock) (a : Aim) (o : Option Waiting) (w x : Waiting) → o ≡ Some w → w ≡ x → WaitsFor raw a x → IfSome o (WaitsFor raw a)
+kept raw a o w x is same h = subst (λ y. IfSome y (WaitsFor raw a)) (sym is) (subst (WaitsFor raw a) (sym same) h)
+
+owes_none : (q : TurnPlace) → CanPollTurn q → (having_at q).owes ≡ false
+owes_none turn_at.Out c = refl
+owes_none turn_at.Ask c = refl
+owes_none turn_at.AskStarved c = refl
+owes_none q c = absurd c
+
+rests_at : (a : Aim) (p : Place) (t : TurnPlace) → CanPoll a p → Fits p t → (having_at t).owes ≡ false
+rests_at aim.Read (Made wanted.Read) t c f = ap (λ q. (having_at q).owes) f
+rests_at aim.Read AskNoWriter t c f = ap (λ q. (having_at q).owes) f
+rests_at aim.UpgradableRead (Made wanted.UpgradableRead) t c f = ap (λ q. (having_at q).owes) f
+rests_at aim.UpgradableRead (WaitTurn purpose.UpgradableRead) t c f = owes_none t f
+rests_at aim.Write (Made wanted.Write) t c f = ap (λ q. (having_at q).owes) f
+rests_at aim.Write (WaitTurn purpose.Write) t c f = owes_none t f
+rests_at aim.Write (AwaitNoReaders false) t c f = ap (λ q. (having_at q).owes) f
+rests_at aim.Upgrade (LookUnlisted true) t c f = ap (λ q. (having_at q).owes) f
+rests_at aim.Upgrade (AwaitNoReaders true) t c f = ap (λ q. (having_at q).owes) f
+rests_at a p t c f = absurd c
+
+-- a party between two polls owes nobody who waits for the turn a notification
+pub owes_nothing : (raw : RawRwLock) (q : RwLockParty) (s : Standing) (a : Aim) → Stands raw q s → CanPoll a s.at → is_some q.turn.owed ≡ false
+owes_nothing raw q s a st can = ap (λ h. h.owes) st.1 ∙ rests_at a s.at s.turn can st.4
 
 -- the party has this of the turn, and this beside it
 shows : (raw : RawRwLock) (q : RwLockParty) (t : Having) (h : Share) → IsOf raw q → turned q ≡ t → share_of q ≡ h → Has raw (flags t.right t.count h.marks h.reads h.writes) q.turn.seat

@@ -2,6 +2,7 @@ pub mod AtLists
 pub mod Lists
 pub mod Parties
 pub mod Polls
+pub mod Resting
 pub mod Rights
 pub mod Sound
 pub mod Straight

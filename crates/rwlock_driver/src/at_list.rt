@@ -37,6 +37,16 @@ impl AtList {
         nothing(owed);
     }
 
+    /// The entry of what owes nothing.
+    pub(crate) fn into_entry(self) -> Option<Listed>
+        requires { is_some self.owed ≡ false }
+        ensures { result ≡ self.entry }
+    {
+        let AtList { entry, owed } = self;
+        nothing(owed);
+        entry
+    }
+
     /// Joins the list. It returns false if memory was refused.
     pub(crate) fn join<R: Wait>(&mut self, rt: &R, list: &WaitingList<Waker>) -> bool
         requires at { IsAt list.now.name.id self.old }

@@ -30,6 +30,7 @@ use crate::aim::{Aim, Call};
 use crate::finding::Standing;
 use crate::party::RwLockParty;
 use crate::raw::RawRwLock;
+use crate::resting::Resting;
 use crate::straight::OnWay;
 use async_driver::{Carries, nothing, put};
 use futures::task::Context;
@@ -147,7 +148,7 @@ impl RawRwLock {
         rt: &R,
         cx: &mut Context<'_>,
         seat: Seat,
-        waiting: &mut Option<Waiting>,
+        waiting: &mut Option<Resting>,
     ) -> Outcome
         requires seat { Has self.now awaits seat }
         requires none { waiting.old ≡ None }
@@ -183,7 +184,7 @@ impl RawRwLock {
         cx: &mut Context<'_>,
         aim: Aim,
         way: OnWay,
-        waiting: &mut Option<Waiting>,
+        waiting: &mut Option<Resting>,
     ) -> Outcome
         requires begun { IsOn self.now aim way }
         requires none { waiting.old ≡ None }
@@ -207,7 +208,7 @@ impl RawRwLock {
         aim: Aim,
         seat: Seat,
         at: Place,
-        waiting: &mut Option<Waiting>,
+        waiting: &mut Option<Resting>,
     ) -> Outcome
         requires stands { IsBegun self.now seat at }
         requires on_way { IsOnWay aim at }
@@ -222,8 +223,7 @@ impl RawRwLock {
         };
         let mut party = self.holder(seat);
         let (end, place) = self.poll_from(rt, cx, aim, &mut party, place);
-        put(waiting, Waiting { party, place });
-        self.outcome(cx, aim, end, waiting)
+        self.outcome(cx, aim, end, Waiting { party, place }, waiting)
     }
 
     /// One poll by the driver, of what is moved out for it and back. There is no party before the first poll and after the last. By
@@ -234,7 +234,7 @@ impl RawRwLock {
         rt: &R,
         cx: &mut Context<'_>,
         aim: Aim,
-        waiting: &mut Option<Waiting>,
+        waiting: &mut Option<Resting>,
     ) -> Outcome
         requires waits { IfSome waiting.old (WaitsFor self.now aim) }
         requires begun { aim ≡ aims.Upgrade → IsSome waiting.old }
@@ -255,7 +255,7 @@ impl RawRwLock {
         rt: &R,
         cx: &mut Context<'_>,
         aim: Aim,
-        waiting: &mut Option<Waiting>,
+        waiting: &mut Option<Resting>,
     ) -> Outcome
         requires waits { IfSome waiting.old (WaitsFor self.now aim) }
         requires begun { aim ≡ aims.Upgrade → IsSome waiting.old }
@@ -263,54 +263,40 @@ impl RawRwLock {
         ensures outcome { OnOutcome self.now aim cx.new result waiting.new }
         ensures kept { Keeps cx.old cx.new }
     {
-        let end = self.poll_in_place(rt, cx, aim, waiting);
-        self.outcome(cx, aim, end, waiting)
+        let Waiting { mut party, place } = match waiting.take() {
+            Some(resting) => resting.resume(),
+            None => self.first(aim),
+        };
+        let (end, place) = self.poll(rt, cx, aim, &mut party, place);
+        self.outcome(cx, aim, end, Waiting { party, place }, waiting)
     }
 
-    // How a poll went that ended so.
+    // How a poll went that ended so, and what its future keeps.
     fn outcome(
         &self,
         cx: &Context<'_>,
         aim: Aim,
         end: End,
-        waiting: &mut Option<Waiting>,
+        polled: Waiting,
+        waiting: &mut Option<Resting>,
     ) -> Outcome
-        requires polled { IsSomeAnd waiting.old (Polled self.now aim cx.now end) }
+        requires polled { Polled self.now aim cx.now end polled }
+        requires none { waiting.old ≡ None }
         ensures waits { IfSome waiting.new (WaitsFor self.now aim) }
         ensures outcome { OnOutcome self.now aim cx.now result waiting.new }
     {
         let _ = cx;
         match end {
-            End::Pending => Outcome::Waits,
-            End::Got => Outcome::Got(self.seat_of(aim, taken(waiting))),
-            End::Refused(refusal) => Outcome::Refused(refusal),
-            End::Granted | End::Waiting | End::NotFree | End::GivenBack => unreachable!(),
-        }
-    }
-
-    // One poll, from the place where the party stands: how it ends.
-    fn poll_in_place<R: Wait + Clock>(
-        &self,
-        rt: &R,
-        cx: &mut Context<'_>,
-        aim: Aim,
-        waiting: &mut Option<Waiting>,
-    ) -> End
-        requires waits { IfSome waiting.old (WaitsFor self.now aim) }
-        requires begun { aim ≡ aims.Upgrade → IsSome waiting.old }
-        ensures polled { IsSomeAnd waiting.new (Polled self.now aim cx.new result) }
-        ensures kept { Keeps cx.old cx.new }
-    {
-        if waiting.is_none() {
-            put(waiting, self.first(aim));
-        }
-        match waiting {
-            Some(inside) => {
-                let (end, place) = self.poll(rt, cx, aim, &mut inside.party, inside.place);
-                inside.place = place;
-                end
+            End::Pending => {
+                put(waiting, polled.rest(self, aim));
+                Outcome::Waits
             }
-            None => unreachable!(),
+            End::Got => Outcome::Got(self.seat_of(aim, polled)),
+            End::Refused(refusal) => {
+                put(waiting, polled.rest(self, aim));
+                Outcome::Refused(refusal)
+            }
+            End::Granted | End::Waiting | End::NotFree | End::GivenBack => unreachable!(),
         }
     }
 
@@ -377,23 +363,11 @@ impl RawRwLock {
 
 // Puts back what was moved out.
 #[inline]
-fn put_back(waiting: &mut Option<Waiting>, moved: Option<Waiting>)
+fn put_back(waiting: &mut Option<Resting>, moved: Option<Resting>)
     requires { waiting.old ≡ None }
     ensures { waiting.new ≡ moved }
 {
     nothing(mem::replace(waiting, moved));
-}
-
-// The party of a call that is over.
-fn taken(waiting: &mut Option<Waiting>) -> Waiting
-    requires { IsSome waiting.old }
-    ensures party { IfSome waiting.old (λ w. result ≡ w) }
-    ensures none { waiting.new ≡ None }
-{
-    match waiting.take() {
-        Some(waiting) => waiting,
-        None => unreachable!(),
-    }
 }
 
 // The rows that `RawRwLock::poll_upgrading` carries out straight: an upgrade's first look.

@@ -142,7 +142,7 @@ abbrev pub IsTied : Semaphore → PermitParty → Type 0
 IsTied s q =
     (q.seat.inner.table_id ≡ s.word.table)
     × (q.seat.inner.me.0.under_way ≡ 0)
-    × IfSome q.entry (λ e. (e.list.id ≡ s.list) × (e.weight ≡ q.permits))
+    × IfSome q.entry (λ e. (e.list.id ≡ s.list) × (e.weight.count ≡ q.permits))
     × IsOf s.list q.duty
     × IsFresh q.seat q.duty
 
@@ -155,7 +155,7 @@ Stands s q p = IsTied s q × (having_of q ≡ having_at p) × IsFor q.permits p
 -- The receipt of a party that waits for so many permits: an entry for as many in the semaphore's list, which keeps a waker of the task
 -- that the context polls; and the task has registered with the semaphore's source.
 abbrev pub IsReceipt : Semaphore → ℕ → Context → Option WeightedListed → Type 0
-IsReceipt s k cx entry = IsSomeAnd entry (λ e. (e.list.id ≡ s.list) × (e.weight ≡ k) × IsKept cx e.keeps) × Covers cx (λ x. x ≡ s.source)
+IsReceipt s k cx entry = IsSomeAnd entry (λ e. (e.list.id ≡ s.list) × (e.weight.count ≡ k) × IsKept cx e.keeps) × Covers cx (λ x. x ≡ s.source)
 
 -- a fact of a party that asked in vain
 abbrev pub AsksNo : Action → Found → Type 0 → Type 0

@@ -15,7 +15,7 @@ WaitsFor s k w =
     × (w.seat.inner.me.0.permits ≡ 0)
     × (w.seat.inner.me.0.under_way ≡ 0)
     × (w.entry.list.id ≡ s.list)
-    × (w.entry.weight ≡ k)
+    × (w.entry.weight.count ≡ k)
 
 -- it has a receipt of the semaphore's list
 abbrev pub HasReceipt : Semaphore → ℕ → Context → Option Waiting → Type 0

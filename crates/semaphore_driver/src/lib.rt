@@ -7,6 +7,7 @@
 mod carries;
 mod duty;
 mod joining;
+mod looks;
 mod party;
 mod raw;
 mod stock;

@@ -8,7 +8,7 @@ ghost use Rattle.words_semaphore.specs.Steps.{first_view, having_taken, having_l
 ghost use Rattle.words_semaphore.specs.Tries.{OnTaking, OnRaising};
 
 use crate::duty::Keys;
-use async_driver::{Owed, WeightedHeard, WeightedList, WeightedListed, put};
+use async_driver::{Owed, WeightedHeard, WeightedJoined, WeightedList, WeightedListed, put};
 use futures::task::{Context, Source, Waker};
 use lock_event::Memory;
 use std::alloc::{AllocError, Global};
@@ -266,7 +266,7 @@ impl Stock {
         duty: &mut Option<Duty>,
     ) -> Result<WeightedListed, Memory>
         requires list { IsOf self.now.list duty.old }
-        ensures joined { IfOk result (λ entry. (entry.list.id ≡ self.now.list) × (entry.weight ≡ permits) × (entry.keeps.by ≡ None) × (seen_of duty.new ≡ unseen (seen_of duty.old))) }
+        ensures joined { IfOk result (λ entry. (entry.list.id ≡ self.now.list) × (entry.weight.count ≡ permits) × (entry.keeps.by ≡ None) × (seen_of duty.new ≡ unseen (seen_of duty.old))) }
         ensures refused { IfErr result (λ _. duty.new ≡ duty.old) }
         ensures list { IsOf self.now.list duty.new }
     {
@@ -289,7 +289,7 @@ impl Stock {
     ) -> Option<WeightedListed>
         requires entry { entry.list.id ≡ self.now.list }
         requires list { IsOf self.now.list duty.old }
-        ensures waits { IfSome result (λ waiting. (waiting.list.id ≡ self.now.list) × (waiting.weight ≡ entry.weight) × IsKept cx.new waiting.keeps × Covers cx.new (λ s. s ≡ source.now.id) × (duty.new ≡ duty.old)) }
+        ensures waits { IfSome result (λ waiting. (waiting.list.id ≡ self.now.list) × (waiting.weight.count ≡ entry.weight.count) × IsKept cx.new waiting.keeps × Covers cx.new (λ s. s ≡ source.now.id) × (duty.new ≡ duty.old)) }
         ensures told { IfNone result (seen_of duty.new ≡ Some None) }
         ensures list { IsOf self.now.list duty.new }
         ensures kept { Keeps cx.old cx.new }
@@ -303,23 +303,36 @@ impl Stock {
         }
     }
 
-    /// Polls an entry that has joined and keeps no waker yet, for a party that has no duty, as [`Stock::poll`]: the entry if it waits,
-    /// and else the duty of its party.
-    #[inline]
-    pub fn poll_first<R: Wait>(
+    /// Joins the list for this many permits with a waker of the task of `cx`, which has registered with `source`, for a party that
+    /// has no duty.
+    #[inline(always)]
+    pub fn join_with_waker<R: Wait>(
         &self,
         rt: &R,
-        entry: WeightedListed,
+        permits: u64,
         source: &Source,
         cx: &mut Context<'_>,
-    ) -> Result<WeightedListed, Duty>
-        requires entry { entry.list.id ≡ self.now.list }
-        requires first { entry.keeps.by ≡ None }
-        ensures waits { IfOk result (λ waiting. (waiting.list.id ≡ self.now.list) × (waiting.weight ≡ entry.weight) × IsKept cx.new waiting.keeps × Covers cx.new (λ s. s ≡ source.now.id)) }
-        ensures told { IfErr result (λ duty. (duty.owed.list.id ≡ self.now.list) × (duty.seen ≡ None)) }
+    ) -> Result<WeightedJoined, Memory>
+        ensures joined { IfOk result (λ joined. (joined.entry.list.id ≡ self.now.list) × (joined.entry.weight.count ≡ permits)) }
+        ensures keeps { IfOk result (λ joined. IsKept cx.new joined.entry.keeps × Covers cx.new (λ s. s ≡ source.now.id)) }
         ensures kept { Keeps cx.old cx.new }
     {
-        match self.list.poll_first(rt, entry, source, cx) {
+        self.list.join_with_waker(rt, permits, source, cx)
+    }
+
+    /// Asks for the notification of an entry that has joined with a waker, for a party that has no duty, as [`Stock::poll`]: the
+    /// entry if it waits, and else the duty of its party.
+    #[inline(always)]
+    pub fn ask_joined<R: Wait>(
+        &self,
+        rt: &R,
+        joined: WeightedJoined,
+    ) -> Result<WeightedListed, Duty>
+        requires entry { joined.entry.list.id ≡ self.now.list }
+        ensures waits { IfOk result (λ waiting. (waiting.list.id ≡ self.now.list) × (waiting.weight.count ≡ joined.entry.weight.count) × (waiting.keeps ≡ joined.entry.keeps)) }
+        ensures told { IfErr result (λ duty. (duty.owed.list.id ≡ self.now.list) × (duty.seen ≡ None)) }
+    {
+        match self.list.ask_joined(rt, joined) {
             WeightedHeard::Waiting(waiting) => Ok(waiting),
             WeightedHeard::Notified(owed) => Err(Duty { owed, seen: None }),
         }

@@ -101,26 +101,26 @@ impl RawSemaphore {
         ensures kept { Keeps cx.old cx.new }
     {
         first_rows();
-        let Ok(mut joining) = Joining::join(self, rt, permits) else {
+        let Ok(mut joining) = Joining::join(self, rt, permits, cx) else {
             self.stock.rise(seat);
             return Outcome::Refused(Refusal::Memory);
         };
         let seat = match joining.look(self, seat, permits) {
             Tried::Got(seat) => {
-                return Outcome::Got(self.leave_with(rt, permits, seat, joining.entry()));
+                return Outcome::Got(self.leave_with(rt, permits, seat, joining.unasked()));
             }
             Tried::Short(seat) => seat,
             Tried::Changed(seat) => {
-                let entry = joining.entry();
+                let entry = joining.unasked();
                 let place = Place::Take {
                     permits,
                     listed: true,
                     told: false,
                 };
-                return self.look_again(rt, cx, Waiting { seat, entry }, place, waiting);
+                return self.look_again(rt, cx, permits, Waiting { seat, entry }, place, waiting);
             }
         };
-        match joining.ask(self, rt, cx) {
+        match joining.ask(self, rt) {
             Ok(entry) => {
                 put(waiting, Waiting { seat, entry });
                 Outcome::Waits
@@ -152,7 +152,7 @@ impl RawSemaphore {
             Tried::Short(seat) => seat,
             Tried::Changed(seat) => {
                 let place = Place::Retake(permits);
-                return self.look_again(rt, cx, Waiting { seat, entry }, place, waiting);
+                return self.look_again(rt, cx, permits, Waiting { seat, entry }, place, waiting);
             }
         };
         let mut duty = None;
@@ -214,18 +214,18 @@ impl RawSemaphore {
         &self,
         rt: &R,
         cx: &mut Context<'_>,
+        permits: u64,
         kept: Waiting,
         place: Place,
         waiting: &mut Option<Waiting>,
     ) -> Outcome
-        requires kept { WaitsFor self.now kept.entry.weight kept }
-        requires place { (having_at_place place ≡ having 0 true None) × IsPolling (stands.At place) × IsFor kept.entry.weight (stands.At place) }
+        requires kept { WaitsFor self.now permits kept }
+        requires place { (having_at_place place ≡ having 0 true None) × IsPolling (stands.At place) × IsFor permits (stands.At place) }
         requires none { waiting.old ≡ None }
-        ensures waits { IfSome waiting.new (WaitsFor self.now kept.entry.weight) }
-        ensures outcome { OnOutcome self.now kept.entry.weight cx.new result waiting.new }
+        ensures waits { IfSome waiting.new (WaitsFor self.now permits) }
+        ensures outcome { OnOutcome self.now permits cx.new result waiting.new }
         ensures kept { Keeps cx.old cx.new }
     {
-        let permits = kept.entry.weight();
         self.drive(rt, cx, kept.into_party(permits), place, waiting)
     }
 

@@ -16,7 +16,8 @@ use lock_program::mutex::Place as TurnPlace;
 use lock_program::rwlock::{Place, Purpose, Wanted};
 use lockstep::{Bench, Walker};
 use rwlock_driver::{
-    Aim, Begun, First, Notifies, Outcome, RawRwLock, RwLockParty, Standing, Tried, Waiting,
+    Aim, Begun, First, Notifies, Outcome, RawRwLock, Resting, RwLockParty, Standing, Tried,
+    Waiting,
 };
 use std::mem;
 use std::sync::{Arc, Wait};
@@ -82,17 +83,20 @@ fn seat_awaiting(shared: &RawRwLock, party: RwLockParty, place: Standing) -> Sea
 }
 
 // A party that waits.
-fn waits(shared: Arc<RawRwLock>, waiting: Option<Waiting>, aim: Aim) -> Party
+fn waits(shared: Arc<RawRwLock>, waiting: Option<Resting>, aim: Aim) -> Party
     requires some { IsSome waiting }
     requires waits { IfSome waiting (WaitsFor (arc_value shared) aim) }
 {
     let _ = aim;
     match waiting {
-        Some(Waiting { party, place }) => Walker {
-            shared,
-            party,
-            place,
-        },
+        Some(resting) => {
+            let Waiting { party, place } = resting.resume();
+            Walker {
+                shared,
+                party,
+                place,
+            }
+        }
         None => unreachable!(),
     }
 }
@@ -379,7 +383,7 @@ fn polled<R: Wait>(
 fn ended(
     shared: Arc<RawRwLock>,
     outcome: Outcome,
-    waiting: Option<Waiting>,
+    waiting: Option<Resting>,
     aim: Aim,
     cx: &mut Context<'_>,
 ) -> (Party, Answer)

@@ -177,7 +177,7 @@ fn whole<R: Wait>(walker: Party, bench: &Bench<R>, party: usize, call: Call) -> 
 // A try of a party that has nothing.
 fn tried<R: Wait>(shared: Arc<RawSemaphore>, bench: &Bench<R>, permits: u64) -> (Having, Dids) {
     let call = Call::TryAcquire(permits);
-    match Held::try_take(shared, bench, permits) {
+    match Held::try_take(shared, permits) {
         Some(held) => (
             Having::Permits(held),
             began(call, Answer::Granted(Got::Plain)),
@@ -199,7 +199,7 @@ fn taken<R: Wait>(
     let Ok(again) = Arc::try_clone(&shared) else {
         return (Having::Nothing, began(call, Answer::NotPossible));
     };
-    if let Some(held) = Held::try_take(shared, bench, permits) {
+    if let Some(held) = Held::try_take(shared, permits) {
         return (
             Having::Permits(held),
             began(call, Answer::Ready(Got::Plain)),
