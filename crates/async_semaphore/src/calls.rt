@@ -21,7 +21,10 @@ use std::sync::{Arc, Wait};
 use std::time::Clock;
 
 impl<R: Wait> Semaphore<R> {
-    /// Attempts to acquire a permit: it does if one is available.
+    /// Attempts to acquire a permit: it does if one is available. It waits for nobody.
+    ///
+    /// Where another party changes the number of permits between its look and its exchange, it looks again. It is `None` too if that
+    /// happens 18,446,744,073,709,551,615 times in a row; the Rust crate looks again without end.
     ///
     /// By the contract a guard that it returns has one permit of this semaphore. That an available one is acquired is tested.
     #[inline]
@@ -39,7 +42,8 @@ impl<R: Wait> Semaphore<R> {
         Some(PermitGuard::new(self, seat, 1))
     }
 
-    /// Attempts to acquire this many permits at once: it does if as many are available. None are enough for 0.
+    /// Attempts to acquire this many permits at once, as [`Semaphore::try_acquire`] does one: it does if as many are available. None
+    /// are enough for 0.
     ///
     /// The Rust crate has no such call.
     #[inline]

@@ -18,4 +18,6 @@ mod text;
 #[cfg(test)]
 mod wait_queue;
 #[cfg(test)]
+mod weighted_joined;
+#[cfg(test)]
 mod weighted_queue;

@@ -175,7 +175,7 @@ fn whole<R: Wait>(walker: Party, bench: &Bench<R>, party: usize, call: Call) -> 
 }
 
 // A try of a party that has nothing.
-fn tried<R: Wait>(shared: Arc<RawSemaphore>, bench: &Bench<R>, permits: u64) -> (Having, Dids) {
+fn tried(shared: Arc<RawSemaphore>, permits: u64) -> (Having, Dids) {
     let call = Call::TryAcquire(permits);
     match Held::try_take(shared, permits) {
         Some(held) => (
@@ -287,7 +287,7 @@ impl Member {
             }
             Deed::Take(permits) => taken(shared, bench, party, permits, false),
             Deed::Whole(permits) => taken(shared, bench, party, permits, true),
-            Deed::Try(permits) => tried(shared, bench, permits),
+            Deed::Try(permits) => tried(shared, permits),
             Deed::Add(permits) => {
                 let (having, answer) = begin_addition(table, shared, permits);
                 (having, began(Call::AddPermits(permits), answer))
