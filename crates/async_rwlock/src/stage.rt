@@ -93,8 +93,8 @@ pub(crate) fn begin_poll<T, R, O: Owns<T, R>>(
     }
 }
 
-// One poll by who has the lock.
-#[inline]
+// One poll by who has the lock. In line, as the next one is: the future need not be in memory then.
+#[inline(always)]
 fn poll_stage<T, R: Wait + Clock, O: Owns<T, R>>(
     aim: Aim,
     way: Option<OnWay>,
@@ -128,7 +128,7 @@ fn poll_stage<T, R: Wait + Clock, O: Owns<T, R>>(
 }
 
 /// One poll of a future of this aim, or the rest of it, where it has the turn already.
-#[inline]
+#[inline(always)]
 pub(crate) fn poll_as<T, R: Wait + Clock, O: Owns<T, R>>(
     aim: Aim,
     way: Option<OnWay>,
