@@ -16,8 +16,7 @@ use lock_program::mutex::Place as TurnPlace;
 use lock_program::rwlock::{Place, Purpose, Wanted};
 use lockstep::{Bench, Walker};
 use rwlock_driver::{
-    Aim, Begun, First, Notifies, Outcome, RawRwLock, Resting, RwLockParty, Standing, Tried,
-    Waiting,
+    Aim, Begun, First, Notifies, Outcome, RawRwLock, Resting, RwLockParty, Standing, Tried, Waiting,
 };
 use std::mem;
 use std::sync::{Arc, Wait};
