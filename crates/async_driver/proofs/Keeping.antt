@@ -98,7 +98,7 @@ module _ {W : Type 0} (id : EntryId) where
   waits_isnt_marked (e ∷ es) waits = unmarked_there (has_id id e.key) (is_marked e.mark) es waits (waits_isnt_marked es)
 
 -- what has joined waits
-neither : (a b : Bool) → (a || b) ≡ false → (a ≡ false) × (b ≡ false)
+pub neither : (a b : Bool) → (a || b) ≡ false → (a ≡ false) × (b ≡ false)
 neither true b h = absurd (cc)
 neither false b h = (refl, h)
 

@@ -1,13 +1,13 @@
 -- What an entry with a weight keeps that has asked with a waker.
 use Rattle.std.proofs.Common.{◌≡◌, ℕ, Bool, true, false, List, [], ◌∷◌, Option, if◌then◌else◌, refl}
-use Rattle.lock_event.specs.Lists.{entry, is_listed, with_key}
-use Rattle.lock_event.specs.Loads.{kept_at, laden}
+use Rattle.lock_event.specs.Lists.{entry, is_listed, joined, with_key}
+use Rattle.lock_event.specs.Loads.{kept_at, laden, weight_at, weight_of}
 use Rattle.lock_event.specs.Slots.{has_id}
 use Rattle.lock_event.specs.declared.event.Entry.{Entry}
 use Rattle.lock_event.specs.declared.event.EntryId.{EntryId}
 use Rattle.lock_event.specs.declared.event.Slot.{Slot}
 use Rattle.lock_event.specs.declared.weighted.Load.{Load}
-use Rattle.async_driver.proofs.Keeping.{listed_after, same_number}
+use Rattle.async_driver.proofs.Keeping.{listed_after, neither, same_number}
 
 module _ {W : Type 0} (id : EntryId) (k : ℕ) (w : Option W) where
   at_head : (b : Bool) (e : Entry (Slot (Load W))) (es fs : List (Entry (Slot (Load W)))) → has_id id e.key ≡ b → (b ≡ false → kept_at id fs ≡ w)
@@ -20,3 +20,26 @@ module _ {W : Type 0} (id : EntryId) (k : ℕ) (w : Option W) where
   kept_at-with_key (e ∷ es) listed =
       at_head (has_id id e.key) e es (with_key (has_id id) (laden id k w) es) refl
       (λ other. kept_at-with_key es (listed_after (has_id id e.key) _ other listed))
+
+  -- and has that weight
+  weight_head : (b : Bool) (e : Entry (Slot (Load W))) (es fs : List (Entry (Slot (Load W)))) → has_id id e.key ≡ b → (b ≡ false → weight_at id fs ≡ k)
+      → weight_at id (if b then entry (laden id k w) e.mark ∷ es else e ∷ fs) ≡ k
+  weight_head true e es fs is rest = rw (same_number id.number) refl
+  weight_head false e es fs is rest = rw is (rest refl)
+
+  pub weight_at-with_key : (l : List (Entry (Slot (Load W)))) → is_listed (has_id id) l ≡ true → weight_at id (with_key (has_id id) (laden id k w) l) ≡ k
+  weight_at-with_key [] none = absurd (cc)
+  weight_at-with_key (e ∷ es) listed =
+      weight_head (has_id id e.key) e es (with_key (has_id id) (laden id k w) es) refl
+      (λ other. weight_at-with_key es (listed_after (has_id id e.key) _ other listed))
+
+  -- so has one that has just joined
+  behind : (b : Bool) (x y : ℕ) → b ≡ false → y ≡ k → (if b then x else y) ≡ k
+  behind true x y other is = absurd (cc)
+  behind false x y other is = is
+
+  pub weight_at-joined : (l : List (Entry (Slot (Load W)))) → is_listed (has_id id) l ≡ false → weight_at id (joined l (laden id k w)) ≡ k
+  weight_at-joined [] fresh = rw (same_number id.number) refl
+  weight_at-joined (e ∷ es) fresh =
+      let apart = neither (has_id id e.key) (is_listed (has_id id) es) fresh in
+      behind (has_id id e.key) (weight_of e.key) (weight_at id (joined es (laden id k w))) apart.0 (weight_at-joined es apart.1)

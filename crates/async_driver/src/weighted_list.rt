@@ -5,7 +5,7 @@ ghost use Rattle.async_driver.specs.Heard.{OnPolled, IsKept};
 ghost use Rattle.async_driver.specs.Weighted.{IsOf, OnWaiting, KeepsAt};
 ghost use Rattle.futures.specs.Task.{Covers, Keeps};
 ghost use Rattle.lock_event.specs.Lists.{is_listed, joined};
-ghost use Rattle.lock_event.specs.Loads.{laden, weight_of};
+ghost use Rattle.lock_event.specs.Loads.{laden, weight_at, weight_of};
 ghost use Rattle.lock_event.specs.Slots.{has_id};
 ghost use Rattle.lock_event.specs.Weights.{fitted};
 
@@ -475,6 +475,7 @@ fn join_waking(
     source: &Source,
     cx: &mut Context<'_>,
 ) -> Result<(EntryId, Kept, Notifications), Memory>
+    ensures weight { IfOk result (λ joined. weight_at joined.0 entries.new.entries ≡ weight) }
     ensures keeps { IfOk result (λ joined. KeepsAt joined.0 joined.1 entries.new.entries × IsKept cx.new joined.1 × Covers cx.new (λ s. s ≡ source.now.id)) }
     ensures kept { Keeps cx.old cx.new }
 {

@@ -1,12 +1,12 @@
 -- The entry that has joined waits, and keeps the waker that is handed in.
 use Rattle.std.proofs.Common.{◌≡◌, true, None, Some, subst, sym, ap, ◌∙◌, true≢false}
 use Rattle.futures.specs.Task.{Hears}
-use Rattle.lock_event.specs.Lists.{is_listed, is_marked_at, is_waiting_at}
-use Rattle.lock_event.specs.Loads.{kept_at, load}
+use Rattle.lock_event.specs.Lists.{is_waiting_at}
+use Rattle.lock_event.specs.Loads.{kept_at, load, weight_at}
 use Rattle.lock_event.specs.Slots.{has_id}
 use Rattle.async_driver.specs.Tasks.{woken_by}
 use Rattle.async_driver.proofs.Keeping.{is_kept, waits_isnt_marked, waits_joined, waits_listed}
-use Rattle.async_driver.proofs.KeepingWeights.{kept_at-with_key}
+use Rattle.async_driver.proofs.KeepingWeights.{kept_at-with_key, weight_at-joined, weight_at-with_key}
 use Rattle.async_driver.proofs.weighted_list.join_waking.Goals as goal
 
 pub unreachable-requires : goal.unreachable-requires
@@ -28,3 +28,10 @@ returns-clause-keeps c =
       is_kept _ _ waker keeps c.register.ensures.kept c.of-keeps.ensures c.register.ensures.left,
       (c.register.ensures.armed, λ s is. subst (λ x. Hears c.register.new.self x) (sym is) c.register.ensures.heard),
     )
+
+pub returns-clause-weight : goal.returns-clause-weight
+returns-clause-weight c =
+    let asked = c.in-Waiting.ensures.asked in
+    ap (weight_at c.in_ok-id.id) asked.2
+    ∙ (weight_at-with_key c.in_ok-id.id _ c.register.new.slot _ asked.0
+    ∙ (ap (weight_at c.in_ok-id.id) c.in_ok-id.ensures.joined ∙ weight_at-joined c.in_ok-id.id c.args.weight None _ c.in_ok-id.ensures.fresh))
