@@ -1,12 +1,16 @@
 //! How a list's lock is taken.
 
-use std::sync::{Mutex, MutexGuard, Wait};
-
-/// Takes the lock. It tries first, since the lock is mostly free, and a try is short enough to stand where it is called.
-#[inline(always)]
-pub(crate) fn locked<'a, T, R: Wait>(lock: &'a Mutex<T>, rt: &R) -> MutexGuard<'a, T> {
-    match lock.try_lock() {
-        Some(guard) => guard,
-        None => lock.lock(rt),
-    }
+/// Takes the lock, which gives its guard. It tries first, since the lock is mostly free.
+///
+/// It stands in line, and is no function: after each return of a function that may wait the compiled code looks at a flag, and here
+/// only what has to wait does.
+macro_rules! locked {
+    ($lock:expr, $rt:expr) => {
+        match $lock.try_lock() {
+            Some(guard) => guard,
+            None => $lock.lock($rt),
+        }
+    };
 }
+
+pub(crate) use locked;

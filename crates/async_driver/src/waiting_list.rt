@@ -171,7 +171,7 @@ impl<W: Wakes> WaitingList<W> {
 
     /// Returns whether the list has entries. It is for tests.
     pub fn is_listed<R: Wait>(&self, rt: &R) -> bool {
-        match &*locked(&self.entries, rt) {
+        match &*locked!(self.entries, rt) {
             Some(entries) => !entries.is_empty(),
             None => false,
         }
@@ -179,7 +179,7 @@ impl<W: Wakes> WaitingList<W> {
 
     /// Returns the entry at this index, counted from the front, with its mark. It is for tests.
     pub fn entry<R: Wait>(&self, rt: &R, index: usize) -> Option<(EntryId, Mark)> {
-        match &*locked(&self.entries, rt) {
+        match &*locked!(self.entries, rt) {
             Some(entries) if index < entries.len() => {
                 let entry = entries.entry(index);
                 Some((entry.key.id, entry.mark))
@@ -193,7 +193,7 @@ impl<W: Wakes> WaitingList<W> {
     pub fn join<R: Wait>(&self, rt: &R) -> Result<Listed, Memory>
         ensures { IfOk result (λ entry. entry.list.id ≡ self.now.name.id) }
     {
-        let mut entries = locked(&self.entries, rt);
+        let mut entries = locked!(self.entries, rt);
         let id = join_locked(made(&mut entries, self.alloc)?, &self.summary)?;
         Ok(Listed {
             id,
@@ -211,7 +211,7 @@ impl<W: Wakes> WaitingList<W> {
         ensures told { OnNotified result IsTold }
     {
         let Listed { id, list, keeps: _ } = entry;
-        let asked = match &mut *locked(&self.entries, rt) {
+        let asked = match &mut *locked!(self.entries, rt) {
             Some(entries) => entries.ask(id, waker.take()),
             None => Asked::Unlisted {
                 unused: waker.take(),
@@ -247,11 +247,13 @@ impl<W: Wakes> WaitingList<W> {
             list: _,
             keeps: _,
         } = entry;
-        let (kept, due) = match &mut *locked(&self.entries, rt) {
+        let (kept, due) = match &mut *locked!(self.entries, rt) {
             Some(entries) => leave_locked(entries, &self.summary, id),
             None => (None, None),
         };
-        drop(kept);
+        if let Some(waker) = kept {
+            drop(waker);
+        }
         if let Some(waker) = due {
             waker.wake();
         }
@@ -265,7 +267,11 @@ impl<W: Wakes> WaitingList<W> {
         requires list { owed.list.id ≡ self.now.name.id }
     {
         if let Some(owed) = self.unless_listed(owed) {
-            self.notify_listed(rt, n, owed);
+            if n == 1 {
+                self.notify_one(rt, owed);
+            } else {
+                self.notify_many(rt, n, owed);
+            }
         }
     }
 
@@ -286,7 +292,7 @@ impl<W: Wakes> WaitingList<W> {
         requires list { owed.list.id ≡ self.now.name.id }
     {
         if let Some(owed) = self.unless_listed(owed) {
-            let due = match &mut *locked(&self.entries, rt) {
+            let due = match &mut *locked!(self.entries, rt) {
                 Some(entries) => {
                     owed.notify_additional(entries, n);
                     self.summary.notified(entries);
@@ -298,23 +304,16 @@ impl<W: Wakes> WaitingList<W> {
         }
     }
 
-    // As `notify`, of a list that may have entries.
-    #[inline]
-    fn notify_listed<R: Wait>(&self, rt: &R, n: usize, owed: Owed)
-        requires { 1 ≤ n }
-    {
-        if n == 1 {
-            self.notify_first(rt, owed);
-        } else {
-            self.notify_many(rt, n, owed);
-        }
-    }
-
-    // The same of one. It stands apart from a notification of many, since the room of that would be cleared here too.
+    /// Notifies one waiting entry as [`WaitingList::notify`] does, and takes the list's lock for it even where the list has no entries: who
+    /// comes here has asked by [`WaitingList::unless_listed`].
+    ///
+    /// It stands apart from a notification of many, since the room of that would be cleared here too.
     #[inline(never)]
-    fn notify_first<R: Wait>(&self, rt: &R, owed: Owed) {
-        let due = match &mut *locked(&self.entries, rt) {
-            Some(entries) => notify_one(entries, &self.summary, owed),
+    pub fn notify_one<R: Wait>(&self, rt: &R, owed: Owed)
+        requires { owed.list.id ≡ self.now.name.id }
+    {
+        let due = match &mut *locked!(self.entries, rt) {
+            Some(entries) => notify_first(entries, &self.summary, owed),
             None => {
                 owed.end_unlisted();
                 None
@@ -325,11 +324,12 @@ impl<W: Wakes> WaitingList<W> {
         }
     }
 
+    #[cold]
     #[inline(never)]
     fn notify_many<R: Wait>(&self, rt: &R, n: usize, owed: Owed)
         requires { 1 ≤ n }
     {
-        let due = match &mut *locked(&self.entries, rt) {
+        let due = match &mut *locked!(self.entries, rt) {
             Some(entries) => {
                 owed.notify(entries, n);
                 self.summary.notified(entries);
@@ -357,7 +357,7 @@ impl<W: Wakes> WaitingList<W> {
 
     fn wake_one_by_one<R: Wait>(&self, rt: &R) {
         for _ in rt.forever() {
-            let next = match &mut *locked(&self.entries, rt) {
+            let next = match &mut *locked!(self.entries, rt) {
                 Some(entries) => entries.next_waker(),
                 None => None,
             };
@@ -385,7 +385,7 @@ impl WaitingList<Waker> {
         ensures keeps { IfOk result (λ joined. IsKept cx.new joined.entry.keeps × Covers cx.new (λ s. s ≡ source.now.id)) }
         ensures kept { Keeps cx.old cx.new }
     {
-        let mut entries = locked(&self.entries, rt);
+        let mut entries = locked!(self.entries, rt);
         let entries = made(&mut entries, self.alloc)?;
         let (id, keeps, then) = join_waking(entries, &self.summary, source, cx)?;
         Ok(Joined {
@@ -418,6 +418,7 @@ impl WaitingList<Waker> {
 
     // Asks under the list's lock for the notification of an entry that keeps a waker. It stands apart: hardly ever is a list
     // notified between a join and the ask.
+    #[cold]
     #[inline(never)]
     fn ask_locked_out<R: Wait>(&self, rt: &R, entry: Listed) -> Heard
         requires { entry.list.id ≡ self.now.name.id }
@@ -425,7 +426,7 @@ impl WaitingList<Waker> {
         ensures told { OnNotified result IsTold }
         ensures waits { OnWaiting result (λ waits. waits.keeps ≡ entry.keeps) }
     {
-        let told = match &mut *locked(&self.entries, rt) {
+        let told = match &mut *locked!(self.entries, rt) {
             Some(entries) => unless_waiting(entries, entry.id),
             None => Some(None),
         };
@@ -488,7 +489,7 @@ impl WaitingList<Waker> {
         ensures waits { IfNone result (IsKept cx.new entry.new.keeps × Covers cx.new (λ s. s ≡ source.now.id)) }
         ensures kept { Keeps cx.old cx.new }
     {
-        let polled = match &mut *locked(&self.entries, rt) {
+        let polled = match &mut *locked!(self.entries, rt) {
             Some(entries) => poll_locked(entries, entry.id, source, cx),
             None => Polled::Notified(None),
         };
@@ -497,8 +498,10 @@ impl WaitingList<Waker> {
                 entry.keeps = keeps;
                 None
             }
-            Polled::Notified(waker) => {
-                drop(waker);
+            Polled::Notified(kept) => {
+                if let Some(waker) = kept {
+                    drop(waker);
+                }
                 entry.id = EntryId::nobody();
                 Some(Owed::told(entry.list.again()))
             }
@@ -523,6 +526,7 @@ fn made<W: Wakes>(
     }
 }
 
+#[cold]
 #[inline(never)]
 fn make<W: Wakes>(entries: &mut Option<Box<Event<W>>>, alloc: Global) -> Result<(), Memory>
     ensures { IfOk result (λ _. IsSome entries.new) }
@@ -535,6 +539,7 @@ fn make<W: Wakes>(entries: &mut Option<Box<Event<W>>>, alloc: Global) -> Result<
 }
 
 // By the contract the entry that has joined keeps a waker of the task that is answered.
+#[inline(always)]
 fn join_waking(
     entries: &mut Event<Waker>,
     summary: &Summary,
@@ -587,7 +592,7 @@ fn leave_locked<W: Wakes>(
 }
 
 // Notifies one entry: the waker that is due.
-fn notify_one<W: Wakes>(entries: &mut Event<W>, summary: &Summary, owed: Owed) -> Option<W> {
+fn notify_first<W: Wakes>(entries: &mut Event<W>, summary: &Summary, owed: Owed) -> Option<W> {
     owed.notify(entries, 1);
     summary.notified(entries);
     entries.next_waker()

@@ -137,7 +137,7 @@ impl<W: Wakes> WeightedList<W> {
 
     /// Returns how many entries the list has. It is for tests.
     pub fn len<R: Wait>(&self, rt: &R) -> usize {
-        match &*locked(&self.entries, rt) {
+        match &*locked!(self.entries, rt) {
             Some(entries) => entries.len(),
             None => 0,
         }
@@ -145,7 +145,7 @@ impl<W: Wakes> WeightedList<W> {
 
     /// Returns whether the entry of this id stands in the list and is notified. It is for tests.
     pub fn is_notified<R: Wait>(&self, rt: &R, id: EntryId) -> bool {
-        match &*locked(&self.entries, rt) {
+        match &*locked!(self.entries, rt) {
             Some(entries) => entries.contains(id) && entries.is_notified(id),
             None => false,
         }
@@ -156,7 +156,7 @@ impl<W: Wakes> WeightedList<W> {
     pub fn join<R: Wait>(&self, rt: &R, weight: u64) -> Result<WeightedListed, Memory>
         ensures { IfOk result (λ entry. (entry.list.id ≡ self.now.name.id) × (entry.weight.count ≡ weight) × (entry.keeps.by ≡ None)) }
     {
-        let mut entries = locked(&self.entries, rt);
+        let mut entries = locked!(self.entries, rt);
         let id = join_locked(made(&mut entries, self.alloc)?, &self.summary, weight)?;
         Ok(WeightedListed {
             id,
@@ -184,7 +184,7 @@ impl<W: Wakes> WeightedList<W> {
             keeps: _,
             weight,
         } = entry;
-        let asked = match &mut *locked(&self.entries, rt) {
+        let asked = match &mut *locked!(self.entries, rt) {
             Some(entries) => entries.ask(id, waker.take()),
             None => Asked::Unlisted {
                 unused: waker.take(),
@@ -223,7 +223,7 @@ impl<W: Wakes> WeightedList<W> {
             keeps: _,
             weight: _,
         } = entry;
-        let (was_notified, kept) = match &mut *locked(&self.entries, rt) {
+        let (was_notified, kept) = match &mut *locked!(self.entries, rt) {
             Some(entries) => entries.withdraw(id),
             None => (false, None),
         };
@@ -259,7 +259,7 @@ impl<W: Wakes> WeightedList<W> {
     // As `fit`, of a list that may have entries.
     #[inline(never)]
     fn fit_listed<R: Wait>(&self, rt: &R, available: u64, owed: Owed) {
-        let due = match &mut *locked(&self.entries, rt) {
+        let due = match &mut *locked!(self.entries, rt) {
             Some(entries) => fit_locked(entries, &self.summary, available, owed),
             None => {
                 owed.end_unlisted();
@@ -295,7 +295,7 @@ impl WeightedList<Waker> {
             keeps: _,
             weight,
         } = entry;
-        let polled = match &mut *locked(&self.entries, rt) {
+        let polled = match &mut *locked!(self.entries, rt) {
             Some(entries) => poll_locked(entries, id, source, cx),
             None => Polled::Notified(None),
         };
@@ -306,8 +306,10 @@ impl WeightedList<Waker> {
                 keeps,
                 weight,
             }),
-            Polled::Notified(waker) => {
-                drop(waker);
+            Polled::Notified(kept) => {
+                if let Some(waker) = kept {
+                    drop(waker);
+                }
                 WeightedHeard::Notified(Owed::told(list))
             }
         }
@@ -329,7 +331,7 @@ impl WeightedList<Waker> {
         ensures keeps { IfOk result (λ joined. IsKept cx.new joined.entry.keeps × Covers cx.new (λ s. s ≡ source.now.id)) }
         ensures kept { Keeps cx.old cx.new }
     {
-        let mut entries = locked(&self.entries, rt);
+        let mut entries = locked!(self.entries, rt);
         let entries = made(&mut entries, self.alloc)?;
         let (id, keeps, then) = join_waking(entries, &self.summary, weight, source, cx)?;
         Ok(WeightedJoined {
@@ -362,13 +364,14 @@ impl WeightedList<Waker> {
 
     // Asks under the list's lock for the notification of an entry that keeps a waker. It stands apart: hardly ever is a list
     // notified between a join and the ask.
+    #[cold]
     #[inline(never)]
     fn ask_locked_out<R: Wait>(&self, rt: &R, entry: WeightedListed) -> WeightedHeard
         requires { entry.list.id ≡ self.now.name.id }
         ensures list { IsOf self.now.name.id entry.weight.count result }
         ensures waits { OnWaiting result (λ waits. waits.keeps ≡ entry.keeps) }
     {
-        let told = match &mut *locked(&self.entries, rt) {
+        let told = match &mut *locked!(self.entries, rt) {
             Some(entries) => unless_waiting(entries, entry.id),
             None => Some(None),
         };
@@ -405,6 +408,7 @@ fn made<W: Wakes>(
     }
 }
 
+#[cold]
 #[inline(never)]
 fn make<W: Wakes>(entries: &mut Option<Box<WeightedEvent<W>>>, alloc: Global) -> Result<(), Memory>
     ensures { IfOk result (λ _. IsSome entries.new) }

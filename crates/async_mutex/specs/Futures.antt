@@ -15,9 +15,6 @@ use Rattle.async_mutex.specs.Outcomes.{Kept}
 use Rattle.async_mutex.specs.Outcomes as outcomes
 use Rattle.futures.specs.declared.task.context.Context.{Context}
 use Rattle.lock_driver.specs.Parties.{IsGivenUp, IsReceipt}
-use Rattle.lock_driver.specs.Mutexes.{of_mutex}
-use Rattle.lock_driver.specs.Waits as driver
-use Rattle.async_driver.specs.declared.duty.Owed.{Owed}
 use Rattle.lock_place.specs.declared.room.Hold.{Hold}
 use Rattle.lock_program.specs.declared.refusal.Refusal.{Refusal}
 use Rattle.lock_program.specs.declared.refusal.Refusal.TheVariants.{Finished}
@@ -58,11 +55,6 @@ module _ {O T R : Type 0} (lock_of : O → Mutex T R) where
   Looks stage (looks.Got seat hold) = GotAt stage seat hold
   Looks stage (looks.Vain vain) = HasShare stage
   Looks stage looks.NoShare = HasShare stage → ⊥
-
-  -- its party was told at its mutex, and has its duty
-  abbrev pub ToldAs : Stage O → Owed → Kept T → Type 0
-  ToldAs (stages.Waits owner) owed q = driver.WasTold of_mutex (lock_of owner).raw q × (owed.list.id ≡ (lock_of owner).raw.words.list)
-  ToldAs _ owed q = ⊥
 
   -- how its poll went
   abbrev pub OnOutcome : Stage O → Outcome T → Type 0

@@ -88,7 +88,7 @@ impl<T, R: Wait, O: Owns<T, R>> Drop for Guard<T, R, O> {
         } = self;
         let mutex = owner.lock();
         if let Some(owed) = mutex.raw.give_back(seat, hold) {
-            mutex.raw.notify(&mutex.rt, owed);
+            mutex.raw.words.list().notify_one(&mutex.rt, owed);
         }
         drop(owner);
     }

@@ -10,7 +10,7 @@ use crate::guard::Guard;
 use crate::mutex::Mutex;
 use crate::owns::Owns;
 use crate::stage::{
-    Look, Stage, drop_stage, first_look, first_turn, into_guard, later_turn, no_share,
+    Look, Stage, drop_stage, first_look, first_poll, into_guard, into_turn, later_poll, no_share,
 };
 use async_driver::{Polled, Turn};
 use futures::task::Context;
@@ -83,12 +83,14 @@ impl<T, R: Wait + Clock, O: Owns<T, R>> LockFuture<T, R, O> {
                     Turn::Ready(into_guard(stage, seat, hold))
                 }
                 Look::Vain(vain) => {
-                    first_turn::<T, R, O>(&mut self.stage, cx, vain, &mut self.waiting)
+                    let outcome = first_poll::<T, R, O>(&self.stage, cx, vain, &mut self.waiting);
+                    into_turn::<T, R, O>(&mut self.stage, outcome)
                 }
                 Look::NoShare => Turn::Refused(no_share(&self.stage)),
             };
         }
-        later_turn::<T, R, O>(&mut self.stage, cx, &mut self.waiting)
+        let outcome = later_poll::<T, R, O>(&self.stage, cx, &mut self.waiting);
+        into_turn::<T, R, O>(&mut self.stage, outcome)
     }
 }
 

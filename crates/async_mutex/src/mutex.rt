@@ -4,7 +4,6 @@ ghost use Rattle.std.specs.Prelude.{◌≡◌, IfSome, IfOk, IfErr, None, ◌≤
 ghost use Rattle.std.specs.Arc.{arc_value};
 ghost use Rattle.async_mutex.specs.Stages.{IsFor, is_finished};
 ghost use Rattle.lock_driver.specs.Parties.{IsGivenUp};
-ghost use Rattle.async_mutex.specs.Outcomes.{Waits};
 ghost use Rattle.lock_words.specs.Tries.{Holds};
 ghost use Rattle.lock_program.specs.declared.refusal.Refusal.{Refusal};
 
@@ -15,7 +14,7 @@ use crate::stage::{Stage, first};
 use crate::{MutexGuard, MutexGuardArc};
 use async_driver::Settled;
 use futures::executor::block_on;
-use lock_driver::{RawMutex, Waiting, cancel};
+use lock_driver::RawMutex;
 use lock_program::Refusal;
 use lock_words::{Hold, STARVED_LIMIT, Seat, Words};
 use std::alloc::AllocGlobal;
@@ -117,14 +116,6 @@ impl<T, R: Wait> Mutex<T, R> {
     {
         self.raw.release(&self.rt, seat, hold);
     }
-
-    // Gives back what a future has that is dropped.
-    #[inline(always)]
-    pub(crate) fn cancel(&self, waiting: Waiting<RawMutex<T>>)
-        requires { Waits self.now.raw waiting }
-    {
-        cancel(&self.raw, &self.rt, waiting).rise();
-    }
 }
 
 impl<T: Drop, R: Wait + Drop> Mutex<T, R> {
@@ -171,6 +162,7 @@ impl<T: Drop, R: Wait + Clock + RandomSource + AllocGlobal> Mutex<T, R> {
     }
 
     // As `lock_blocking`, where the lock isn't free. It stands apart, so that the call is short where it is.
+    #[cold]
     #[inline(never)]
     fn lock_held(&self) -> Result<MutexGuard<'_, T, R>, Refusal>
         ensures mutex { IfOk result (λ guard. guard.mutex ≡ self.now) }

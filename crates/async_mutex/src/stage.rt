@@ -1,22 +1,21 @@
 //! How far a future is, one poll of it by who has the mutex, and what a dropped one gives back.
 
-ghost use Rattle.std.specs.Prelude.{◌≡◌, false, IfSome, IfNone, IsSomeAnd, MatchBool, None};
+ghost use Rattle.std.specs.Prelude.{◌≡◌, false, IfSome, IsSomeAnd, MatchBool, None};
 ghost use Rattle.futures.specs.Task.{Keeps};
 ghost use Rattle.async_mutex.specs.Stages.{HasShare, IsFor, IsOf, is_finished};
 ghost use Rattle.lock_program.specs.declared.refusal.Refusal.TheVariants as refusals;
-ghost use Rattle.async_mutex.specs.Futures.{GotAt, HasReceipt, IsAnswer, IsTurn, Looks, OnOutcome, OnPolled, ToldAs, WaitsAs};
-ghost use Rattle.async_driver.specs.Turns.{OnPending};
+ghost use Rattle.async_mutex.specs.Futures.{GotAt, HasReceipt, IsAnswer, IsTurn, Looks, OnOutcome, OnPolled, WaitsAs};
 ghost use Rattle.lock_driver.specs.Waits.{entry_of};
-ghost use Rattle.async_mutex.specs.Outcomes.{OnWaits, Waits};
+ghost use Rattle.async_mutex.specs.Outcomes.{OnWaits};
 ghost use Rattle.async_mutex.specs.declared.mutex.Mutex.{Mutex};
 
 use crate::guard::Guard;
 use crate::mutex::Mutex;
 use crate::outcome::{Outcome, came_to};
 use crate::owns::Owns;
-use async_driver::{Owed, Turn, nothing};
+use async_driver::{Turn, nothing};
 use futures::task::Context;
-use lock_driver::{RawMutex, Vain, Waiting, poll_entry, poll_first, poll_told};
+use lock_driver::{RawMutex, Vain, Waiting, cancel, poll_first, poll_later};
 use lock_program::Refusal;
 use lock_words::{Hold, Seat};
 use std::mem;
@@ -97,75 +96,6 @@ pub(crate) fn into_guard<T, R: Wait, O: Owns<T, R>>(
     }
 }
 
-/// A first poll by who has the mutex, whose look was in vain.
-#[inline(always)]
-pub(crate) fn first_poll<T, R: Wait + Clock, O: Owns<T, R>>(
-    stage: &Stage<O>,
-    cx: &mut Context<'_>,
-    vain: Vain,
-    waiting: &mut Option<Waiting<RawMutex<T>>>,
-) -> Outcome<T>
-    requires none { waiting.old ≡ None }
-    requires share { HasShare stage.now }
-    ensures waiting { IfSome waiting.new (WaitsAs O.lock_of stage.now) }
-    ensures outcome { OnPolled O.lock_of stage.now result waiting.new }
-    ensures receipt { OnWaits result (HasReceipt O.lock_of stage.now cx.new (entry_of waiting.new)) }
-    ensures kept { Keeps cx.old cx.new }
-{
-    match stage {
-        Stage::Waits(owner) => {
-            let mutex = owner.lock();
-            let seat = mutex.raw.words.sit();
-            came_to(poll_first(&mutex.raw, &mutex.rt, cx, seat, vain, waiting))
-        }
-        Stage::Unowned | Stage::Finished => unreachable!(),
-    }
-}
-
-/// Asks for the notification of what waits.
-#[inline(always)]
-fn ask<T, R: Wait, O: Owns<T, R>>(
-    stage: &Stage<O>,
-    cx: &mut Context<'_>,
-    waiting: &mut Option<Waiting<RawMutex<T>>>,
-) -> Option<Owed>
-    requires { IsSomeAnd waiting.old (WaitsAs O.lock_of stage.now) }
-    ensures told { IfSome result (λ owed. IsSomeAnd waiting.new (ToldAs O.lock_of stage.now owed)) }
-    ensures waits { IfNone result (IsSomeAnd waiting.new (WaitsAs O.lock_of stage.now) × HasReceipt O.lock_of stage.now cx.new (entry_of waiting.new)) }
-    ensures kept { Keeps cx.old cx.new }
-{
-    match stage {
-        Stage::Waits(owner) => {
-            let mutex = owner.lock();
-            poll_entry(&mutex.raw, &mutex.rt, cx, waiting)
-        }
-        Stage::Unowned | Stage::Finished => unreachable!(),
-    }
-}
-
-/// Goes on with what was told.
-#[inline(always)]
-pub(crate) fn go_on_told<T, R: Wait + Clock, O: Owns<T, R>>(
-    stage: &Stage<O>,
-    cx: &mut Context<'_>,
-    owed: Owed,
-    waiting: &mut Option<Waiting<RawMutex<T>>>,
-) -> Outcome<T>
-    requires { IsSomeAnd waiting.old (ToldAs O.lock_of stage.now owed) }
-    ensures waiting { IfSome waiting.new (WaitsAs O.lock_of stage.now) }
-    ensures outcome { OnPolled O.lock_of stage.now result waiting.new }
-    ensures receipt { OnWaits result (HasReceipt O.lock_of stage.now cx.new (entry_of waiting.new)) }
-    ensures kept { Keeps cx.old cx.new }
-{
-    match stage {
-        Stage::Waits(owner) => {
-            let mutex = owner.lock();
-            came_to(poll_told(&mutex.raw, &mutex.rt, cx, owed, waiting))
-        }
-        Stage::Unowned | Stage::Finished => unreachable!(),
-    }
-}
-
 /// The answer of a poll that went so. Who has the mutex goes to the guard.
 #[inline(always)]
 pub(crate) fn into_turn<T, R: Wait, O: Owns<T, R>>(
@@ -190,64 +120,52 @@ pub(crate) fn into_turn<T, R: Wait, O: Owns<T, R>>(
 
 /// The rest of a first poll whose look was in vain. It stands apart, since what it takes room for would be cleared at each poll.
 #[inline(never)]
-pub(crate) fn first_turn<T, R: Wait + Clock, O: Owns<T, R>>(
-    stage: &mut Stage<O>,
+pub(crate) fn first_poll<T, R: Wait + Clock, O: Owns<T, R>>(
+    stage: &Stage<O>,
     cx: &mut Context<'_>,
     vain: Vain,
     waiting: &mut Option<Waiting<RawMutex<T>>>,
-) -> Turn<Guard<T, R, O>>
+) -> Outcome<T>
     requires none { waiting.old ≡ None }
-    requires share { HasShare stage.old }
-    ensures turn { IsTurn (λ guard. IsOf O.lock_of stage.old guard.mutex) false result (is_finished stage.new) }
-    ensures share { is_finished stage.new ≡ false → stage.new ≡ stage.old }
-    ensures waiting { IfSome waiting.new (WaitsAs O.lock_of stage.new) }
-    ensures receipt { OnPending result (HasReceipt O.lock_of stage.old cx.new (entry_of waiting.new)) }
+    requires share { HasShare stage.now }
+    ensures waiting { IfSome waiting.new (WaitsAs O.lock_of stage.now) }
+    ensures outcome { OnPolled O.lock_of stage.now result waiting.new }
+    ensures receipt { OnWaits result (HasReceipt O.lock_of stage.now cx.new (entry_of waiting.new)) }
     ensures kept { Keeps cx.old cx.new }
 {
-    let outcome = first_poll::<T, R, O>(stage, cx, vain, waiting);
-    into_turn::<T, R, O>(stage, outcome)
+    match stage {
+        Stage::Waits(owner) => {
+            let mutex = owner.lock();
+            let seat = mutex.raw.words.sit();
+            came_to(poll_first(&mutex.raw, &mutex.rt, cx, seat, vain, waiting))
+        }
+        Stage::Unowned | Stage::Finished => unreachable!(),
+    }
 }
 
 /// A poll of what waits. It stands apart, so that a poll is short where it is called that gets the lock at once.
 #[inline(never)]
-pub(crate) fn later_turn<T, R: Wait + Clock, O: Owns<T, R>>(
-    stage: &mut Stage<O>,
+pub(crate) fn later_poll<T, R: Wait + Clock, O: Owns<T, R>>(
+    stage: &Stage<O>,
     cx: &mut Context<'_>,
     waiting: &mut Option<Waiting<RawMutex<T>>>,
-) -> Turn<Guard<T, R, O>>
-    requires { IsSomeAnd waiting.old (WaitsAs O.lock_of stage.old) }
-    ensures turn { IsTurn (λ guard. IsOf O.lock_of stage.old guard.mutex) (is_finished stage.old) result (is_finished stage.new) }
-    ensures share { is_finished stage.new ≡ false → stage.new ≡ stage.old }
-    ensures waiting { IfSome waiting.new (WaitsAs O.lock_of stage.new) }
-    ensures receipt { OnPending result (HasReceipt O.lock_of stage.old cx.new (entry_of waiting.new)) }
+) -> Outcome<T>
+    requires { IsSomeAnd waiting.old (WaitsAs O.lock_of stage.now) }
+    ensures waiting { IfSome waiting.new (WaitsAs O.lock_of stage.now) }
+    ensures outcome { OnPolled O.lock_of stage.now result waiting.new }
+    ensures receipt { OnWaits result (HasReceipt O.lock_of stage.now cx.new (entry_of waiting.new)) }
     ensures kept { Keeps cx.old cx.new }
 {
-    match ask::<T, R, O>(stage, cx, waiting) {
-        None => Turn::Pending,
-        Some(owed) => told_turn::<T, R, O>(stage, cx, owed, waiting),
+    match stage {
+        Stage::Waits(owner) => {
+            let mutex = owner.lock();
+            came_to(poll_later(&mutex.raw, &mutex.rt, cx, waiting))
+        }
+        Stage::Unowned | Stage::Finished => unreachable!(),
     }
 }
 
-/// The rest of a poll that was told.
-#[inline(always)]
-fn told_turn<T, R: Wait + Clock, O: Owns<T, R>>(
-    stage: &mut Stage<O>,
-    cx: &mut Context<'_>,
-    owed: Owed,
-    waiting: &mut Option<Waiting<RawMutex<T>>>,
-) -> Turn<Guard<T, R, O>>
-    requires { IsSomeAnd waiting.old (ToldAs O.lock_of stage.old owed) }
-    ensures turn { IsTurn (λ guard. IsOf O.lock_of stage.old guard.mutex) false result (is_finished stage.new) }
-    ensures share { is_finished stage.new ≡ false → stage.new ≡ stage.old }
-    ensures waiting { IfSome waiting.new (WaitsAs O.lock_of stage.new) }
-    ensures receipt { OnPending result (HasReceipt O.lock_of stage.old cx.new (entry_of waiting.new)) }
-    ensures kept { Keeps cx.old cx.new }
-{
-    let outcome = go_on_told::<T, R, O>(stage, cx, owed, waiting);
-    into_turn::<T, R, O>(stage, outcome)
-}
-
-/// What a dropped future gives back.
+/// What a dropped future gives back, its share of the mutex last.
 #[inline]
 pub(crate) fn drop_stage<T, R: Wait, O: Owns<T, R>>(
     stage: Stage<O>,
@@ -256,18 +174,13 @@ pub(crate) fn drop_stage<T, R: Wait, O: Owns<T, R>>(
     requires { IfSome waiting (WaitsAs O.lock_of stage) }
 {
     match stage {
-        Stage::Waits(owner) => leave::<T, R, O>(owner, waiting),
+        Stage::Waits(owner) => {
+            if let Some(waiting) = waiting {
+                let mutex = owner.lock();
+                cancel(&mutex.raw, &mutex.rt, waiting).rise();
+            }
+            drop(owner);
+        }
         Stage::Unowned | Stage::Finished => nothing(waiting),
     }
-}
-
-// What a dropped future gives back that hasn't been ready, its share of the mutex last.
-#[inline(always)]
-fn leave<T, R: Wait, O: Owns<T, R>>(owner: O, waiting: Option<Waiting<RawMutex<T>>>)
-    requires { IfSome waiting (Waits (O.lock_of owner).raw) }
-{
-    if let Some(waiting) = waiting {
-        owner.lock().cancel(waiting);
-    }
-    drop(owner);
 }

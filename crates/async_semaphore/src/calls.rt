@@ -21,10 +21,8 @@ use std::sync::{Arc, Wait};
 use std::time::Clock;
 
 impl<R: Wait> Semaphore<R> {
-    /// Attempts to acquire a permit: it does if one is available. It waits for nobody.
-    ///
-    /// Where another party changes the number of permits between its look and its exchange, it looks again. It is `None` too if that
-    /// happens 18,446,744,073,709,551,615 times in a row; the Rust crate looks again without end.
+    /// Attempts to acquire a permit: it does if one is available. It waits for nobody, but looks again where another party changes the
+    /// number of permits between its look and its exchange.
     ///
     /// By the contract a guard that it returns has one permit of this semaphore. That an available one is acquired is tested.
     #[inline]
@@ -37,7 +35,7 @@ impl<R: Wait> Semaphore<R> {
                 self.raw.give_up(seat, 1);
                 return None;
             }
-            Tried::Changed(seat) => self.raw.try_again(seat, 1)?,
+            Tried::Changed(seat) => self.raw.try_again(&self.rt, seat, 1)?,
         };
         Some(PermitGuard::new(self, seat, 1))
     }
@@ -57,7 +55,7 @@ impl<R: Wait> Semaphore<R> {
                 self.raw.give_up(seat, permits);
                 return None;
             }
-            Tried::Changed(seat) => self.raw.try_again(seat, permits)?,
+            Tried::Changed(seat) => self.raw.try_again(&self.rt, seat, permits)?,
         };
         Some(PermitGuard::new(self, seat, permits))
     }
@@ -153,7 +151,7 @@ impl<R: Wait + Drop> Semaphore<R> {
                 owner.raw.give_up(seat, permits);
                 return None;
             }
-            Tried::Changed(seat) => owner.raw.try_again(seat, permits)?,
+            Tried::Changed(seat) => owner.raw.try_again(&owner.rt, seat, permits)?,
         };
         Some(PermitGuard::new(owner, seat, permits))
     }

@@ -1,20 +1,15 @@
 //! A party that has just joined the list: it looks at its lock once more before it asks.
 
-ghost use Rattle.std.specs.Prelude.{◌≡◌, true, false, IfOk, None};
-ghost use Rattle.async_driver.specs.Heard.{IsKept, IsOf, IsTold, OnNotified, OnWaiting};
-ghost use Rattle.futures.specs.Task.{Covers, Keeps};
+ghost use Rattle.std.specs.Prelude.{◌≡◌, true, false, None};
 ghost use Rattle.words_base.specs.Tries.{OnTaking};
 
 use crate::word::MutexWord;
-use async_driver::{Heard, Joined, Listed, nothing};
-use futures::task::Context;
-use lock_event::Memory;
+use async_driver::{Joined, Listed, nothing};
 use lock_words::Taking;
-use std::sync::Wait;
 
 /// An entry that has just joined the list with a waker of its task.
 ///
-/// Whoever gave the lock back before the entry joined didn't notify it. So [`Joining::ask`] wants that its party has looked at the
+/// Whoever gave the lock back before the entry joined didn't notify it. So [`Joining::looked`] wants that its party has looked at the
 /// lock since. It has no `Drop`.
 pub(crate) struct Joining {
     joined: Joined,
@@ -23,23 +18,14 @@ pub(crate) struct Joining {
 }
 
 impl Joining {
-    /// Joins the list of a mutex with a waker of the task of `cx`, which has registered.
+    /// An entry that has just joined: nobody has looked since.
     #[inline(always)]
-    pub(crate) fn join<W: MutexWord, R: Wait>(
-        word: &W,
-        rt: &R,
-        cx: &mut Context<'_>,
-    ) -> Result<Joining, Memory>
-        ensures list { IfOk result (λ joining. joining.joined.entry.list.id ≡ W.list_id word.now) }
-        ensures keeps { IfOk result (λ joining. IsKept cx.new joining.joined.entry.keeps × Covers cx.new (λ s. s ≡ W.source_id word.now)) }
-        ensures kept { Keeps cx.old cx.new }
+    pub(crate) fn of(joined: Joined) -> Joining
+        ensures { result.joined ≡ joined }
     {
-        match word.list().join_with_waker(rt, word.source(), cx) {
-            Ok(joined) => Ok(Joining {
-                joined,
-                has_looked: false,
-            }),
-            Err(memory) => Err(memory),
+        Joining {
+            joined,
+            has_looked: false,
         }
     }
 
@@ -57,20 +43,17 @@ impl Joining {
         look(word, seat)
     }
 
-    /// Asks for the notification of the entry. A notified entry leaves the list, and a waiting one keeps its waker.
+    /// The entry, to be asked for: its party has looked.
     #[inline(always)]
-    pub(crate) fn ask<W: MutexWord, R: Wait>(self, word: &W, rt: &R) -> Heard
-        requires list { self.joined.entry.list.id ≡ W.list_id word.now }
-        requires looked { self.has_looked ≡ true }
-        ensures list { IsOf (W.list_id word.now) result }
-        ensures told { OnNotified result IsTold }
-        ensures waits { OnWaiting result (λ entry. entry.keeps ≡ self.joined.entry.keeps) }
+    pub(crate) fn looked(self) -> Joined
+        requires { self.has_looked ≡ true }
+        ensures { result ≡ self.joined }
     {
         let Joining {
             joined,
             has_looked: _,
         } = self;
-        word.list().ask_joined(rt, joined)
+        joined
     }
 
     /// The entry, which goes on without having asked.

@@ -13,5 +13,5 @@ mod word;
 
 pub use mutex_party::MutexParty;
 pub use raw::{RawMutex, Vain};
-pub use waiting::{Outcome, Waiting, cancel, poll_entry, poll_first, poll_told};
+pub use waiting::{Outcome, Waiting, cancel, poll_first, poll_later};
 pub use word::{Counting, MutexWord};

@@ -153,12 +153,12 @@ impl<T> RawMutex<T> {
         requires starved { seat.starved ≡ false }
     {
         if let Some(owed) = self.give_back(seat, hold) {
-            self.notify(rt, owed);
+            self.words.list().notify_one(rt, owed);
         }
     }
 
     /// Gives the lock back as [`RawMutex::release`] does. It waits for nobody: where somebody may wait for the lock, the duty to
-    /// notify one comes back, and [`RawMutex::notify`] ends it.
+    /// notify one comes back, and the list's [`WaitingList::notify_one`] ends it.
     #[inline]
     pub fn give_back(&self, seat: Seat<T>, hold: Hold<T>) -> Option<Owed>
         requires holds { Holds self.now.words seat hold }
@@ -171,15 +171,6 @@ impl<T> RawMutex<T> {
         let left = self.words.list().unless_listed(owed);
         seat.rise();
         left
-    }
-
-    /// Notifies one who waits for the lock. It stands apart, as does all else that may wait: after each such call the compiled code
-    /// looks at a flag.
-    #[inline(never)]
-    pub fn notify<R: Wait>(&self, rt: &R, owed: Owed)
-        requires { owed.list.id ≡ self.now.words.list }
-    {
-        self.words.list().notify(rt, 1, owed);
     }
 
     /// Releases the lock as [`RawMutex::release`] does, and calls `between` between its two actions. It is for tests.

@@ -1,14 +1,14 @@
 //! A party between two polls, and one poll of it.
 //!
 //! What most polls come to are few rows of the program's table, and their actions stand here in order. Which rows they are,
-//! `first_rows`, `told_rows` and `cancel_rows` say by contract; that they are carried out so, duties and places say in part,
+//! `first_rows`, `later_rows` and `cancel_rows` say by contract; that they are carried out so, duties and places say in part,
 //! and tests for the rest. Whatever else a poll comes to goes on by the driver.
 
-ghost use Rattle.std.specs.Prelude.{◌≡◌, true, false, IfSome, IfNone, IsSomeAnd, Some, None};
+ghost use Rattle.std.specs.Prelude.{◌≡◌, true, false, IfSome, IsSomeAnd, Some, None};
+ghost use Rattle.async_driver.specs.Heard.{HasLeft};
 ghost use Rattle.futures.specs.Task.{Keeps};
 ghost use Rattle.lock_driver.specs.Parties.{CanPoll, EndsAt, EndsPoll, IfPending, IsPolling, IsReceipt, IsSeated, IsTied, Stands, having, having_of};
 ghost use Rattle.lock_driver.specs.Waits.{OnOutcome, OnWaits, Waits, WasTold, asked_at, entry_of};
-ghost use Rattle.words_base.specs.Tries.{OnTaking};
 ghost use Rattle.lock_program.specs.Mutex.{start_of, action_of, next_of};
 ghost use Rattle.lock_program.specs.declared.mutex.Action.TheVariants as does;
 ghost use Rattle.lock_program.specs.declared.end.End.TheVariants as ends;
@@ -34,7 +34,7 @@ use std::time::{Clock, Instant};
 pub struct Waiting<W: MutexWord> {
     /// Its entry in the list.
     pub entry: Listed,
-    /// When it first waited. A clock that couldn't be read is tried again.
+    /// When it first waited. Where the clock couldn't be read it is `None`, and the party doesn't count as one that waits for too long.
     pub since: Option<Instant>,
     /// Whether it is counted as starved.
     pub is_starved: bool,
@@ -78,16 +78,22 @@ pub fn poll_first<W: MutexWord, R: Wait + Clock>(
         Vain::Held => {}
         Vain::Starved => return enters_starved(word, rt, cx, seat, waiting),
     }
-    let mut joining = match Joining::join(word, rt, cx) {
-        Ok(joining) => joining,
+    let mut joining = match word.list().join_with_waker(rt, word.source(), cx) {
+        Ok(joined) => Joining::of(joined),
         Err(_) => return Outcome::Refused(seat, Refusal::Memory),
     };
     match joining.look(word, &mut seat) {
         Taking::Held => {}
-        Taking::Got(right) => return sees_free(word, rt, cx, seat, right, joining, waiting),
-        Taking::Starved => return sees_starved(word, rt, cx, seat, joining, waiting),
+        Taking::Got(right) => {
+            let entry = joining.unasked();
+            return sees_free(word, rt, cx, seat, right, entry, waiting);
+        }
+        Taking::Starved => {
+            let entry = joining.unasked();
+            return sees_starved(word, rt, cx, seat, entry, waiting);
+        }
     }
-    match joining.ask(word, rt) {
+    match word.list().ask_joined(rt, joining.looked()) {
         Heard::Waiting(entry) => {
             let since = now(rt);
             let is_starved = false;
@@ -108,6 +114,7 @@ pub fn poll_first<W: MutexWord, R: Wait + Clock>(
 
 // The rest of a first poll that found others starved when it entered. It joins without a waker: refused, it leaves the list again,
 // and a waker that the list drops wakes its task.
+#[cold]
 #[inline(never)]
 fn enters_starved<W: MutexWord, R: Wait + Clock>(
     word: &W,
@@ -130,6 +137,7 @@ fn enters_starved<W: MutexWord, R: Wait + Clock>(
 
 // The rest of a first poll that joined, looked and got the lock: it leaves the list. It stands apart, as do the others here, so
 // that a poll that waits has no party to lay out in memory.
+#[cold]
 #[inline(never)]
 fn sees_free<W: MutexWord, R: Wait + Clock>(
     word: &W,
@@ -137,12 +145,12 @@ fn sees_free<W: MutexWord, R: Wait + Clock>(
     cx: &mut Context<'_>,
     seat: W::Seat,
     right: W::Right,
-    joining: Joining,
+    entry: Listed,
     waiting: &mut Option<Waiting<W>>,
 ) -> Outcome<W>
     requires of { W.is_of word.now seat }
     requires holds { (W.holds seat ≡ true) × (W.starved seat ≡ false) × W.right_of word.now right }
-    requires listed { joining.joined.entry.list.id ≡ W.list_id word.now }
+    requires listed { entry.list.id ≡ W.list_id word.now }
     requires none { waiting.old ≡ None }
     ensures waiting { IfSome waiting.new (Waits W.MutexWord word.now) }
     ensures outcome { OnOutcome W.MutexWord word.now result waiting.new }
@@ -150,7 +158,7 @@ fn sees_free<W: MutexWord, R: Wait + Clock>(
     ensures kept { Keeps cx.old cx.new }
 {
     let party = MutexParty {
-        entry: Some(joining.unasked()),
+        entry: Some(entry),
         since: None,
         seat,
         hold: Some(right),
@@ -160,18 +168,19 @@ fn sees_free<W: MutexWord, R: Wait + Clock>(
 }
 
 // The rest of a first poll that joined, looked and found others starved: it counts as starved too.
+#[cold]
 #[inline(never)]
 fn sees_starved<W: MutexWord, R: Wait + Clock>(
     word: &W,
     rt: &R,
     cx: &mut Context<'_>,
     seat: W::Seat,
-    joining: Joining,
+    entry: Listed,
     waiting: &mut Option<Waiting<W>>,
 ) -> Outcome<W>
     requires of { W.is_of word.now seat }
     requires idle { (W.holds seat ≡ false) × (W.starved seat ≡ false) }
-    requires listed { joining.joined.entry.list.id ≡ W.list_id word.now }
+    requires listed { entry.list.id ≡ W.list_id word.now }
     requires none { waiting.old ≡ None }
     ensures waiting { IfSome waiting.new (Waits W.MutexWord word.now) }
     ensures outcome { OnOutcome W.MutexWord word.now result waiting.new }
@@ -179,7 +188,7 @@ fn sees_starved<W: MutexWord, R: Wait + Clock>(
     ensures kept { Keeps cx.old cx.new }
 {
     let mut party = MutexParty::new(word, seat);
-    put(&mut party.entry, joining.unasked());
+    put(&mut party.entry, entry);
     let count = Place::Count {
         listed: true,
         told: false,
@@ -188,6 +197,7 @@ fn sees_starved<W: MutexWord, R: Wait + Clock>(
 }
 
 // The rest of a first poll that joined, found the lock held, and was told when it asked.
+#[cold]
 #[inline(never)]
 fn hears<W: MutexWord, R: Wait + Clock>(
     word: &W,
@@ -210,69 +220,37 @@ fn hears<W: MutexWord, R: Wait + Clock>(
     drive(word, rt, cx, party, Place::Retry, waiting)
 }
 
-/// Asks for the notification of a party that waits, where its entry stands. Told, it has its duty, and goes on by
-/// [`poll_told`].
-///
-/// A party that waits on has a receipt of the list (`waits`).
-#[inline(always)]
-pub fn poll_entry<W: MutexWord, R: Wait>(
-    word: &W,
-    rt: &R,
-    cx: &mut Context<'_>,
-    waiting: &mut Option<Waiting<W>>,
-) -> Option<Owed>
-    requires { IsSomeAnd waiting.old (Waits W.MutexWord word.now) }
-    ensures told { IfSome result (λ owed. (owed.list.id ≡ W.list_id word.now) × IsSomeAnd waiting.new (WasTold W.MutexWord word.now)) }
-    ensures waits { IfNone result (IsSomeAnd waiting.new (Waits W.MutexWord word.now) × IsReceipt (W.list_id word.now) (W.source_id word.now) cx.new (entry_of waiting.new)) }
-    ensures kept { Keeps cx.old cx.new }
-{
-    match waiting {
-        Some(inside) => {
-            let source = word.source();
-            word.list().poll_in_place(rt, &mut inside.entry, source, cx)
-        }
-        None => unreachable!(),
-    }
-}
-
-/// Goes on with a party that was told: it takes the lock if it is free, or if it is starved where nobody holds it.
+/// A later poll: it asks, where its entry stands. Told, it takes the lock if it is free, or if it is starved where nobody holds it.
 ///
 /// A party that waits has a receipt of the list (`receipt`).
 #[inline(always)]
-pub fn poll_told<W: MutexWord, R: Wait + Clock>(
+pub fn poll_later<W: MutexWord, R: Wait + Clock>(
     word: &W,
     rt: &R,
     cx: &mut Context<'_>,
-    owed: Owed,
     waiting: &mut Option<Waiting<W>>,
 ) -> Outcome<W>
-    requires was { IsSomeAnd waiting.old (WasTold W.MutexWord word.now) }
-    requires owed { owed.list.id ≡ W.list_id word.now }
+    requires { IsSomeAnd waiting.old (Waits W.MutexWord word.now) }
     ensures waiting { IfSome waiting.new (Waits W.MutexWord word.now) }
     ensures outcome { OnOutcome W.MutexWord word.now result waiting.new }
     ensures receipt { OnWaits result (IsReceipt (W.list_id word.now) (W.source_id word.now) cx.new (entry_of waiting.new)) }
     ensures kept { Keeps cx.old cx.new }
 {
-    told_rows();
-    let Some(
-        Waiting {
-            entry,
-            since,
-            is_starved,
-            seat,
-        },
-    ) = waiting.take()
-    else {
+    later_rows();
+    let Some(inside) = waiting else {
         unreachable!()
     };
-    entry.end();
-    if is_starved {
-        return seizes(word, rt, cx, seat, since, owed, waiting);
+    let source = word.source();
+    let Some(owed) = word.list().poll_in_place(rt, &mut inside.entry, source, cx) else {
+        return Outcome::Waits;
+    };
+    if inside.is_starved {
+        return seizes(word, rt, cx, owed, waiting);
     }
-    let mut seat = seat;
     let mut owed = Some(owed);
-    match word.take(&mut seat, &mut owed) {
+    match word.take(&mut inside.seat, &mut owed) {
         Taking::Got(right) => {
+            let (seat, _) = told_apart(waiting);
             if let Some(owed) = owed {
                 word.put_off(owed, &seat);
             }
@@ -280,81 +258,101 @@ pub fn poll_told<W: MutexWord, R: Wait + Clock>(
         }
         Taking::Held => {
             nothing(owed);
-            finds_held(word, rt, cx, seat, since, waiting)
+            finds_held(word, rt, cx, waiting)
         }
         Taking::Starved => {
             let Some(owed) = owed else { unreachable!() };
-            passes_on(word, rt, cx, seat, since, owed, waiting)
+            passes_on(word, rt, cx, owed, waiting)
         }
     }
 }
 
-// A starved party that was told takes the lock if nobody holds it.
+// Takes a party apart that was told: its seat, and since when it waits.
+#[inline(always)]
+fn told_apart<W: MutexWord>(waiting: &mut Option<Waiting<W>>) -> (W::Seat, Option<Instant>)
+    requires { IsSomeAnd waiting.old (λ q. HasLeft q.entry) }
+    ensures none { waiting.new ≡ None }
+    ensures seat { IfSome waiting.old (λ q. result.0 ≡ q.seat) }
+{
+    let Some(
+        Waiting {
+            entry,
+            since,
+            is_starved: _,
+            seat,
+        },
+    ) = waiting.take()
+    else {
+        unreachable!()
+    };
+    entry.end();
+    (seat, since)
+}
+
+// A starved party that was told takes the lock if nobody holds it. It stands apart, as do the others here, so that a party that got
+// the lock is never laid out in memory.
+#[cold]
 #[inline(never)]
 fn seizes<W: MutexWord, R: Wait + Clock>(
     word: &W,
     rt: &R,
     cx: &mut Context<'_>,
-    seat: W::Seat,
-    since: Option<Instant>,
     owed: Owed,
     waiting: &mut Option<Waiting<W>>,
 ) -> Outcome<W>
-    requires of { W.is_of word.now seat }
-    requires starved { (W.holds seat ≡ false) × (W.starved seat ≡ true) }
+    requires was { IsSomeAnd waiting.old (WasTold W.MutexWord word.now) }
+    requires starved { IsSomeAnd waiting.old (λ q. q.is_starved ≡ true) }
     requires owed { owed.list.id ≡ W.list_id word.now }
-    requires none { waiting.old ≡ None }
     ensures waiting { IfSome waiting.new (Waits W.MutexWord word.now) }
     ensures outcome { OnOutcome W.MutexWord word.now result waiting.new }
     ensures receipt { OnWaits result (IsReceipt (W.list_id word.now) (W.source_id word.now) cx.new (entry_of waiting.new)) }
     ensures kept { Keeps cx.old cx.new }
 {
+    let (seat, since) = told_apart(waiting);
     let party = MutexParty::told(word, seat, since, owed);
     drive(word, rt, cx, party, Place::Seize, waiting)
 }
 
 // A party that was told found others starved: it passes its notification on.
+#[cold]
 #[inline(never)]
 fn passes_on<W: MutexWord, R: Wait + Clock>(
     word: &W,
     rt: &R,
     cx: &mut Context<'_>,
-    seat: W::Seat,
-    since: Option<Instant>,
     owed: Owed,
     waiting: &mut Option<Waiting<W>>,
 ) -> Outcome<W>
-    requires of { W.is_of word.now seat }
-    requires idle { (W.holds seat ≡ false) × (W.starved seat ≡ false) }
+    requires was { IsSomeAnd waiting.old (WasTold W.MutexWord word.now) }
+    requires unstarved { IsSomeAnd waiting.old (λ q. q.is_starved ≡ false) }
     requires owed { owed.list.id ≡ W.list_id word.now }
-    requires none { waiting.old ≡ None }
     ensures waiting { IfSome waiting.new (Waits W.MutexWord word.now) }
     ensures outcome { OnOutcome W.MutexWord word.now result waiting.new }
     ensures receipt { OnWaits result (IsReceipt (W.list_id word.now) (W.source_id word.now) cx.new (entry_of waiting.new)) }
     ensures kept { Keeps cx.old cx.new }
 {
+    let (seat, since) = told_apart(waiting);
     let party = MutexParty::told(word, seat, since, owed);
     drive(word, rt, cx, party, Place::PassOn, waiting)
 }
 
-// A party that was told found the lock held. It stands apart, so that a party that got it is never laid out in memory.
+// A party that was told found the lock held.
+#[cold]
 #[inline(never)]
 fn finds_held<W: MutexWord, R: Wait + Clock>(
     word: &W,
     rt: &R,
     cx: &mut Context<'_>,
-    seat: W::Seat,
-    since: Option<Instant>,
     waiting: &mut Option<Waiting<W>>,
 ) -> Outcome<W>
-    requires of { W.is_of word.now seat }
-    requires idle { (W.holds seat ≡ false) × (W.starved seat ≡ false) }
-    requires none { waiting.old ≡ None }
+    requires was { IsSomeAnd waiting.old (WasTold W.MutexWord word.now) }
+    requires unstarved { IsSomeAnd waiting.old (λ q. q.is_starved ≡ false) }
     ensures waiting { IfSome waiting.new (Waits W.MutexWord word.now) }
     ensures outcome { OnOutcome W.MutexWord word.now result waiting.new }
     ensures receipt { OnWaits result (IsReceipt (W.list_id word.now) (W.source_id word.now) cx.new (entry_of waiting.new)) }
     ensures kept { Keeps cx.old cx.new }
 {
+    let (seat, since) = told_apart(waiting);
     let mut party = MutexParty::new(word, seat);
     party.since = since;
     let place = match party.finds_held(word, rt, true) {
@@ -368,6 +366,7 @@ fn finds_held<W: MutexWord, R: Wait + Clock>(
 }
 
 // Goes on by the driver, from a place of a poll on.
+#[cold]
 #[inline(never)]
 fn drive<W: MutexWord, R: Wait + Clock>(
     word: &W,
@@ -525,9 +524,9 @@ fn first_rows()
     ensures asks { (action_of at.Ask ≡ does.Ask) × (next_of at.Ask finds.No ≡ next.End ends.Pending at.Ask) × (next_of at.Ask finds.Yes ≡ next.Do at.Retry) }
 {}
 
-// The rows of the program's table that `poll_entry` and `poll_told` carries out straight.
+// The rows of the program's table that `poll_later` carries out straight.
 #[inline]
-fn told_rows()
+fn later_rows()
     ensures begins { (start_of calls.Poll at.Ask ≡ Some at.Ask) × (start_of calls.Poll at.AskStarved ≡ Some at.AskStarved) }
     ensures asks { (action_of at.Ask ≡ does.Ask) × (next_of at.Ask finds.No ≡ next.End ends.Pending at.Ask) × (next_of at.Ask finds.Yes ≡ next.Do at.Retry) }
     ensures asks_starved { (action_of at.AskStarved ≡ does.Ask) × (next_of at.AskStarved finds.No ≡ next.End ends.Pending at.AskStarved) × (next_of at.AskStarved finds.Yes ≡ next.Do at.Seize) }

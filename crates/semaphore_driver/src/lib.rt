@@ -7,7 +7,6 @@
 mod carries;
 mod duty;
 mod joining;
-mod looks;
 mod party;
 mod raw;
 mod stock;

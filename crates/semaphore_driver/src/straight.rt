@@ -9,7 +9,7 @@ ghost use Rattle.lock_program.specs.declared.end.Next.TheVariants as next;
 ghost use Rattle.lock_program.specs.declared.refusal.Refusal.{Refusal};
 ghost use Rattle.lock_program.specs.declared.refusal.Refusal.TheVariants as refusals;
 ghost use Rattle.semaphore_driver.specs.Semaphores.{Has, HasUnderWay};
-ghost use Rattle.semaphore_driver.specs.Straight.{IsShort, OnLooked, OnTried, Owes};
+ghost use Rattle.semaphore_driver.specs.Straight.{IsShort, OnTried, Owes};
 ghost use Rattle.sync_program.specs.Permits.{action_of, next_of, start_of};
 ghost use Rattle.sync_program.specs.declared.permits.Action.TheVariants as does;
 ghost use Rattle.sync_program.specs.declared.permits.Found.TheVariants as finds;
@@ -17,7 +17,6 @@ ghost use Rattle.sync_program.specs.declared.permits.Place.TheVariants as at;
 ghost use Rattle.sync_program.specs.declared.permits.Position.TheVariants as stands;
 ghost use Rattle.sync_program.specs.declared.permits.SemaphoreCall.TheVariants as calls;
 
-use crate::looks::Looks;
 use crate::raw::RawSemaphore;
 use crate::stock::{Duty, Given, Lowered};
 use async_driver::nothing;
@@ -34,16 +33,6 @@ pub enum Tried {
     Short(Seat),
     /// The word changed meanwhile: [`RawSemaphore::try_again`] goes on with this seat, and a poll by [`RawSemaphore::look_on`].
     Changed(Seat),
-}
-
-// What a try came to that looked until the word stood still, or as often as it may.
-enum Looked {
-    // The permits, by this seat, which has exactly these.
-    Got(Seat),
-    // Fewer are available, as this seat's last look found.
-    Short(Seat),
-    // So many looks found the word changed.
-    Worn(Seat, Looks),
 }
 
 /// What is left to do of a drop where somebody may wait: [`RawSemaphore::notify`] does it. It has no `Drop`.
@@ -80,61 +69,26 @@ impl RawSemaphore {
         self.stock.rise(seat);
     }
 
-    /// Goes on with a try whose word changed meanwhile, until it stands still. It waits for nobody, and so it ends: at last where as
-    /// many looks as [`Looks`] counts have each found the word changed.
+    /// Goes on with a try whose word changed meanwhile, until it stands still.
     ///
-    /// It stands apart, since a try hardly ever comes here.
+    /// It stands apart, as does all else that may wait: after each such call the compiled code looks at a flag.
+    #[cold]
     #[inline(never)]
-    pub fn try_again(&self, seat: Seat, permits: u64) -> Option<Seat>
+    pub fn try_again<R: Wait>(&self, rt: &R, seat: Seat, permits: u64) -> Option<Seat>
         requires { Has self.now 0 seat }
         ensures { IfSome result (Has self.now permits) }
     {
-        match self.look_often(seat, permits) {
-            Looked::Got(seat) => Some(seat),
-            Looked::Short(seat) => {
-                self.give_up(seat, permits);
-                None
-            }
-            Looked::Worn(seat, looks) => {
-                self.give_up_worn(seat, looks);
-                None
-            }
-        }
-    }
-
-    // Takes this many permits, if as many are available, and looks again where the word changed meanwhile. By the contract it is in
-    // vain only where its last look found fewer, or after all the looks that a try may make.
-    #[inline]
-    fn look_often(&self, seat: Seat, permits: u64) -> Looked
-        requires { Has self.now 0 seat }
-        ensures { OnLooked self.now permits result }
-    {
         let mut seat = seat;
-        let mut looks = Looks::none();
-        while !looks.are_all() {
-            let mut duty = None;
-            let taking = self.stock.take(&mut seat, permits, &mut duty);
-            nothing(duty);
-            match taking {
-                Taking::Left(_) => return Looked::Got(seat),
-                Taking::Short(_) => return Looked::Short(seat),
-                Taking::Changed => looks.again(taking),
-            }
+        if self.take(rt, &mut seat, permits) {
+            return Some(seat);
         }
-        Looked::Worn(seat, looks)
-    }
-
-    // Ends a try that has made all the looks that it may.
-    fn give_up_worn(&self, seat: Seat, looks: Looks)
-        requires seat { Has self.now 0 seat }
-        requires looks { looks.count ≡ 18446744073709551615 }
-    {
-        let _ = looks;
-        self.stock.rise(seat);
+        self.give_up(seat, permits);
+        None
     }
 
     /// Goes on with the first look of a poll whose word changed meanwhile, until it stands still: the seat with the permits, or one that
     /// [`RawSemaphore::poll_first`] goes on with. It stands apart, as [`RawSemaphore::try_again`] does.
+    #[cold]
     #[inline(never)]
     pub fn look_on<R: Wait>(&self, rt: &R, seat: Seat, permits: u64) -> Result<Seat, Seat>
         requires { Has self.now 0 seat }

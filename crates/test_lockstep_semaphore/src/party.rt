@@ -49,14 +49,18 @@ impl Held {
     }
 
     /// So many permits, if they are available.
-    pub(crate) fn try_take(shared: Arc<RawSemaphore>, permits: u64) -> Option<Held> {
+    pub(crate) fn try_take<R: Wait>(
+        shared: Arc<RawSemaphore>,
+        rt: &R,
+        permits: u64,
+    ) -> Option<Held> {
         let seat = match shared.try_take(permits) {
             Tried::Got(seat) => seat,
             Tried::Short(seat) => {
                 shared.give_up(seat, permits);
                 return None;
             }
-            Tried::Changed(seat) => shared.try_again(seat, permits)?,
+            Tried::Changed(seat) => shared.try_again(rt, seat, permits)?,
         };
         Some(Held {
             shared,

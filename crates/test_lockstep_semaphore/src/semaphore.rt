@@ -175,9 +175,9 @@ fn whole<R: Wait>(walker: Party, bench: &Bench<R>, party: usize, call: Call) -> 
 }
 
 // A try of a party that has nothing.
-fn tried(shared: Arc<RawSemaphore>, permits: u64) -> (Having, Dids) {
+fn tried<R: Wait>(shared: Arc<RawSemaphore>, bench: &Bench<R>, permits: u64) -> (Having, Dids) {
     let call = Call::TryAcquire(permits);
-    match Held::try_take(shared, permits) {
+    match Held::try_take(shared, bench, permits) {
         Some(held) => (
             Having::Permits(held),
             began(call, Answer::Granted(Got::Plain)),
@@ -199,7 +199,7 @@ fn taken<R: Wait>(
     let Ok(again) = Arc::try_clone(&shared) else {
         return (Having::Nothing, began(call, Answer::NotPossible));
     };
-    if let Some(held) = Held::try_take(shared, permits) {
+    if let Some(held) = Held::try_take(shared, bench, permits) {
         return (
             Having::Permits(held),
             began(call, Answer::Ready(Got::Plain)),
@@ -287,7 +287,7 @@ impl Member {
             }
             Deed::Take(permits) => taken(shared, bench, party, permits, false),
             Deed::Whole(permits) => taken(shared, bench, party, permits, true),
-            Deed::Try(permits) => tried(shared, permits),
+            Deed::Try(permits) => tried(shared, bench, permits),
             Deed::Add(permits) => {
                 let (having, answer) = begin_addition(table, shared, permits);
                 (having, began(Call::AddPermits(permits), answer))
