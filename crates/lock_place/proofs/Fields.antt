@@ -19,6 +19,7 @@ use Rattle.lock_place.specs.contracts.room.Room as room
 use Rattle.lock_place.specs.contracts.room.Hold as hold
 use Rattle.lock_place.specs.contracts.room.Seen as seen
 use Rattle.lock_place.specs.contracts.room.Parked as parked
+use Rattle.lock_place.specs.contracts.rested.Rested as rested
 use Rattle.lock_place.specs.contracts.spare.Spare as spare
 use Rattle.lock_place.specs.contracts.spare.Ticket as ticket
 
@@ -109,3 +110,12 @@ module _ (R : RattleType) where
 
   pub spare_made : {M : Type 1} {𝓤 : Ura M} (𝓛 : Logic 𝓤) → ent 𝓤 (emp 𝓤) (sem 𝓛 (SpareData.own_val (tt, tt) (token_val ∷ [])))
   spare_made 𝓛 = makes_shadow 𝓛 (SpareData.own_val (tt, tt) (token_val ∷ [])) (λ vss. (tt, ((λ uss. (tt, tt)), tt))) ((vstruct vnil ∷ [], tt), (refl, ((tt, (refl, tt)), tt)))
+
+  abbrev pub RestedData : RattleType
+  RestedData = Struct (shape (rested.the_type R))
+
+  pub rested_told : (vs : List Val) → Is RestedData (tt, tt) vs → vs ≡ token_val ∷ []
+  rested_told vs is = is.1.0 ∙ ap (λ (ws : List Val). vstruct (of_list (ws ++ [])) ∷ []) is.1.1.0.1.0
+
+  pub rested_made : {M : Type 1} {𝓤 : Ura M} (𝓛 : Logic 𝓤) → ent 𝓤 (emp 𝓤) (sem 𝓛 (RestedData.own_val (tt, tt) (token_val ∷ [])))
+  rested_made 𝓛 = makes_shadow 𝓛 (RestedData.own_val (tt, tt) (token_val ∷ [])) (λ vss. (tt, ((λ uss. (tt, tt)), tt))) ((vstruct vnil ∷ [], tt), (refl, ((tt, (refl, tt)), tt)))

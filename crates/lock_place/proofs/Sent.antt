@@ -5,6 +5,7 @@ use denote.RattleType.{RattleType}
 use denote.RawPtr.{Ptr}
 use denote.Param.Send.{IsSend, IsSync, part_keyless}
 use Rattle.lock_place.specs.Held.{RoomId, held, room_owns, hold_owns, seen_owns, age}
+use Rattle.lock_place.specs.Rests.{rested_owns}
 use Rattle.lock_place.specs.Spared.{waits, spare_owns}
 use Rattle.std.specs.Prelude.{ℕ, Option, Some, None}
 use mathlib.Core.Bool.{Bool, true, false}
@@ -29,3 +30,8 @@ waits_keyless R s z d x false = (tt, tt)
 pub spare_keyless : (R : RattleType) → IsSend R → (z : RoomId) (d : ℕ) (v : Option R.Denot) → Keyless (spare_owns R z d v)
 spare_keyless R s z d None = tt
 spare_keyless R s z d (Some x) = waits_keyless R s z d x
+
+pub rested_keyless : (R : RattleType) → IsSend R → (z : RoomId) (v : Option R.Denot) (d : ℕ) (t : Bool) → Keyless (rested_owns R z v d t)
+rested_keyless R s z (Some x) d t = hold_keyless R s z x
+rested_keyless R s z None d true = (tt, tt)
+rested_keyless R s z None d false = tt

@@ -11,13 +11,14 @@ use base.Logic.{SProp, ent, sep, upd, upd_i, id⊢, emp}
 use base.Before.{before}
 use base.Fml.{Lft, GName, Share, Incl-refl, Fml, ftrue, fsep, fbor, flft, finv, fnamed, fobs, fauth}
 use types.Logic.{Logic, sem, lfts}
-use types.Kit.{‵, raw, ◌⊛◌, some, given, later, ◌$◌, ◌∵◌, !, qed, by, move, keep, use0, use1, use2, split, fsplit, fjoin, fpick, fpack, pick, frame, assume, suffices, learn, await, updating, now, done}
+use types.Kit.{‵, raw, ◌⊛◌, some, given, later, ◌$◌, ◌∵◌, !, qed, by, move, keep, rewrite, use0, use1, use2, split, fsplit, fjoin, fpick, fpack, pick, frame, assume, suffices, learn, await, updating, now, done}
 use types.Na.{before-Incl, out_once}
 use denote.RattleType.{RattleType}
 use denote.Sharing.{ShrLaws, beside, ends, always}
 use denote.SharingLaws.{some_shr_laws, beside_shr_laws, ends_shr_laws, always_shr_laws}
 use denote.Struct.Lending.{Lends}
 use Rattle.lock_place.specs.Held.{RoomId, age, hold_owns}
+use Rattle.lock_place.specs.Rests.{rested_owns, IsRightAt}
 use Rattle.lock_place.specs.Spared.{ticket_owns, waits, spare_owns, spare_shares}
 
 pub spare_laws : (R : RattleType) (z : RoomId) (d : ℕ) (v : Option R.Denot) → ShrLaws (spare_shares R z d v)
@@ -50,6 +51,18 @@ module _ {M : Type 1} {𝓤 : Ura M} (𝓛 : Logic 𝓤) (R : RattleType) (z : R
     redeems κ₀ s = let J : Fml = fbor κ₀ P in qed 𝓛 (‵ (finv J) ∷ ‵ (flft κ₀ s) ∷ ‵ (ticket_owns d) ∷ []) ∵ use1 𝓛 (some (λ (n : ℕ). ‵ (fnamed n J))) (𝓛.invs.inv_named J) $ pick ! (λ n.
         suffices ! _ (𝓛.invs.invs_bor_acc n κ₀ s P [] ⟦ hold_owns R z x ⟧ ((λ m. not-mem-nil m), tt)) $ use0 𝓛 (‵ ftrue) (id⊢ 𝓤 (emp 𝓤)) $ move ! (1 ∷ 0 ∷ []) $ fjoin ! $ frame ! $ frame ! $
         assume ! (‵ P ⊛ ‵ ftrue) $ split ! $ keep ! (0 ∷ 2 ∷ []) $ fpick ! (λ y. by ! (swaps y)))
+
+    -- the value of the hold that comes out of where a right rests: the parked one's, or the one that waits in the spare
+    abbrev pub woken : Option R.Denot → R.Denot
+    woken (Some w) = w
+    woken None = x
+
+    -- a parked hold comes out as it is, and a ticket is redeemed
+    pub wakes : (κ₀ : Lft) (s : Share) (z' : RoomId) (v : Option R.Denot) (d' : ℕ) (t : Bool) → IsRightAt z d z' v d' t → ent 𝓤 (sep 𝓤 (A.inv (fbor κ₀ P)) (sep 𝓤 (A.lft κ₀ s) ⟦ rested_owns R z' v d' t ⟧)) (H.⇛ (sep 𝓤 ⟦ hold_owns R z (woken v) ⟧ (A.lft κ₀ s)))
+    wakes κ₀ s z' (Some w) d' t e = qed 𝓛 (‵ (finv (fbor κ₀ P)) ∷ ‵ (flft κ₀ s) ∷ ‵ (hold_owns R z' w) ∷ []) {P = H.⇛ (sep 𝓤 ⟦ hold_owns R z w ⟧ (A.lft κ₀ s))} (move ! (2 ∷ []) $
+        rewrite ! 0 (λ (q : RoomId). ‵ (hold_owns R q w)) e refl $ updating ! $ now ! $ keep ! (0 ∷ 2 ∷ []) $ done !)
+    wakes κ₀ s z' None d' true e = qed 𝓛 (‵ (finv (fbor κ₀ P)) ∷ ‵ (flft κ₀ s) ∷ ‵ (ticket_owns d') ∷ []) ∵ move ! (2 ∷ []) $ rewrite ! 0 (λ (n : ℕ). ‵ (ticket_owns n)) e refl $ move ! (1 ∷ 2 ∷ 0 ∷ []) $ by ! (redeems κ₀ s)
+    wakes κ₀ s z' None d' false e = absurd e
 
 -- two holds of one place are one too many
 module _ {M : Type 1} {𝓤 : Ura M} (𝓛 : Logic 𝓤) (R : RattleType) (z : RoomId) where

@@ -12,6 +12,7 @@
 
 mod lends;
 mod owned;
+mod rested;
 mod room;
 mod send_lease;
 mod spare;
@@ -19,6 +20,7 @@ mod strip;
 mod swap;
 
 pub use owned::{Place, Refused, room_for};
+pub use rested::Rested;
 pub use room::{Hold, Parked, Room, Seen};
 pub use send_lease::SendLease;
 pub use spare::{Spare, Ticket};

@@ -1,7 +1,9 @@
 //! Where a value lies, the rights to it, and what they lend.
 ghost use Rattle.core.specs.Prelude.{◌≡◌, [], ◌∷◌, length};
+ghost use Rattle.std.specs.Prelude.{Some};
 ghost use Rattle.lock_place.specs.Held.{RoomId, room_id_coded, room_owns, room_shares, hold_owns, hold_shares, seen_owns, seen_shares};
 
+use crate::rested::Rested;
 use crate::spare::Spare;
 use crate::strip::Strip;
 use std::marker::{Model, PhantomData};
@@ -115,6 +117,14 @@ impl<T> Parked<T> {
     {
         let Parked { marker } = self;
         Hold { marker }
+    }
+
+    /// The hold, where a right rests.
+    pub fn rest(self) -> Rested<T>
+        ensures { (result.room_id ≡ self.room_id) × (result.value ≡ Some self.value) }
+    {
+        let Parked { marker } = self;
+        Rested { marker }
     }
 }
 

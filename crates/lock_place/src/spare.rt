@@ -1,11 +1,12 @@
 //! A hold that waits for a ticket. A `&mut` to where it waits lends the value for as long as that borrow
 //! lasts, and a `&` is enough to take the hold out.
 
-ghost use Rattle.std.specs.Prelude.{◌≡◌, ℕ, Option, Some, None, IsSome};
+ghost use Rattle.std.specs.Prelude.{◌≡◌, ℕ, Option, Some, None, true, IsSome};
 ghost use Rattle.std.specs.Coded.{coded_option};
 ghost use Rattle.lock_place.specs.Held.{RoomId, room_id_coded};
 ghost use Rattle.lock_place.specs.Spared.{spare_owns, spare_shares, ticket_owns};
 
+use crate::rested::Rested;
 use crate::room::{Hold, Room};
 use std::marker::{Model, PhantomData};
 
@@ -82,6 +83,18 @@ impl Ticket {
         let _ = spare;
         let Self { marker: _ } = self;
         Hold {
+            marker: PhantomData,
+        }
+    }
+}
+
+impl Ticket {
+    /// The ticket, where a right rests.
+    pub fn rest<T>(self) -> Rested<T>
+        ensures { (result.value ≡ None) × (result.deed ≡ self.deed) × (result.is_ticket ≡ true) }
+    {
+        let Self { marker: _ } = self;
+        Rested {
             marker: PhantomData,
         }
     }

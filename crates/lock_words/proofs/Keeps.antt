@@ -6,8 +6,8 @@ use Rattle.atomic_table.specs.Table.{State, Me, step, keeps, takes, gives, stepp
 use Rattle.atomic_table.proofs.Lists.{set_here, at_set, at_snoc}
 use Rattle.lock_place.specs.Held.{RoomId}
 use Rattle.lock_words.specs.declared.seat.View.{View}
-use Rattle.lock_words.specs.declared.rested.Rested.{Rested}
-use Rattle.lock_words.specs.Right.{IsRight}
+use Rattle.lock_place.specs.declared.rested.Rested.{Rested}
+use Rattle.lock_place.specs.Rested.{IsRight}
 use Rattle.lock_words.specs.Rule.{is_holder, is_starved, Ruled}
 use Rattle.lock_words.specs.Steps.{first_view, with_holds, without_holds, with_count, without_count, Got, Kept, Cleared}
 use Rattle.lock_words.specs.Word.{LetsLook, LetsTake, LetsSet, LetsCount, LetsUncount, LetsClear}

@@ -1,5 +1,4 @@
 pub mod Lock
-pub mod Right
 pub mod Rule
 pub mod Seats
 pub mod Steps

@@ -5,8 +5,8 @@ use lib.ListN.{get_elem?}
 use Rattle.atomic_table.specs.Table.{State}
 use Rattle.lock_place.specs.Held.{RoomId}
 use Rattle.lock_words.specs.declared.seat.View.{View}
-use Rattle.lock_words.specs.declared.rested.Rested.{Rested}
-use Rattle.lock_words.specs.Right.{IsRight}
+use Rattle.lock_place.specs.declared.rested.Rested.{Rested}
+use Rattle.lock_place.specs.Rested.{IsRight}
 use Rattle.words_base.specs.Sums.{number}
 use Rattle.words_base.specs.MutexWord.{IsWord}
 

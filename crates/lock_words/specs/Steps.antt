@@ -3,8 +3,8 @@ use Rattle.std.specs.Prelude.{◌≡◌, ℕ, true, false, ◌∷◌}
 use Rattle.atomic_table.specs.Table.{Me, Step, rest}
 use Rattle.lock_place.specs.Held.{RoomId}
 use Rattle.lock_words.specs.declared.seat.View.{View}
-use Rattle.lock_words.specs.declared.rested.Rested.{Rested}
-use Rattle.lock_words.specs.Right.{IsRight}
+use Rattle.lock_place.specs.declared.rested.Rested.{Rested}
+use Rattle.lock_place.specs.Rested.{IsRight}
 
 abbrev pub first_view : RoomId → ℕ → View
 first_view z d = record { holds = false; starved = false; room = z; deed = d; passed = 0 }

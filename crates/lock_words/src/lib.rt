@@ -8,7 +8,6 @@
 mod duty;
 mod found;
 mod look;
-mod rested;
 mod rule;
 mod seat;
 pub mod word;

@@ -8,13 +8,12 @@ ghost use Rattle.lock_words.specs.Steps.{with_count, Got};
 ghost use Rattle.lock_words.specs.Tries.{OnCounting};
 
 use crate::found::Counting;
-use crate::rested::Rested;
 use crate::rule::MutexRule;
 use crate::seat::View;
 use crate::word;
 use crate::word::Tally;
 use atomic_table::{Seat as TableSeat, Shared};
-use lock_place::Spare;
+use lock_place::{Rested, Spare};
 
 /// The tables of locks.
 pub(crate) type Ruled<T> = Shared<Rested<T>, View, Spare<T>, MutexRule>;

@@ -1,10 +1,9 @@
 //! The rule of a mutex's table, and what its steps tell.
 
-use crate::rested::Rested;
 use crate::seat::View;
 use crate::word::WordViews;
 use atomic_table::{Play, TableRule};
-use lock_place::Spare;
+use lock_place::{Rested, Spare};
 
 /// What always holds of a mutex's table. It is told the lock's spare, once.
 pub struct MutexRule;

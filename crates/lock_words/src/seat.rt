@@ -3,8 +3,8 @@
 ghost use Rattle.std.specs.Prelude.{◌≡◌, ℕ, false};
 ghost use Rattle.lock_place.specs.Held.{RoomId, room_id_coded};
 
-use crate::rested::Rested;
 use atomic_table::Seat as TableSeat;
+use lock_place::Rested;
 use std::marker::Model;
 
 /// What a seat knows of itself: whether it holds the lock, whether it is counted as starved, which lock it

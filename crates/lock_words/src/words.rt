@@ -10,15 +10,14 @@ ghost use Rattle.lock_words.specs.Lock.{fresh, holding, cleared, counted, uncoun
 ghost use Rattle.async_driver.specs.Heard.{IsOf, OnWaiting, IsKept, HasLeft};
 ghost use Rattle.lock_words.specs.Tries.{Holds, OnCounting, left_by_taking, left_by_alone};
 ghost use Rattle.words_base.specs.Tries.{OnTaking, OnAlone, OnSetting};
-ghost use Rattle.lock_words.specs.Right.{IsRight};
+ghost use Rattle.lock_place.specs.Rested.{IsRight};
 ghost use Rattle.lock_words.specs.Seats.{HasSlots};
 ghost use Rattle.lock_words.specs.Steps.{with_holds, without_holds};
-ghost use Rattle.lock_words.specs.declared.rested.Rested.{Rested};
+ghost use Rattle.lock_place.specs.declared.rested.Rested.{Rested};
 
 use crate::duty::Key;
 use crate::found::{Counting, WasHeld};
 use crate::look::{Look, Ruled, WORD, count, peek, set_held, take, take_alone};
-use crate::rested::Rested;
 use crate::rule::{Keep, MutexRule};
 use crate::seat::{Seat, View};
 use crate::word;
@@ -26,7 +25,7 @@ use crate::word::{FREE, HELD, STARVED};
 use async_driver::{Heard, Listed, Owed, WaitingList};
 use atomic_table::{Seat as TableSeat, Table};
 use futures::task::{Context, Source, Waker};
-use lock_place::{Hold, Place, Room, Spare, Ticket};
+use lock_place::{Hold, Place, Rested, Room, Spare, Ticket};
 use std::alloc::{AllocError, Global};
 use std::marker::Model;
 use std::sync::Wait;
@@ -362,7 +361,7 @@ impl<T> Words<T> {
         ensures seat { seat.new ≡ cleared seat.old }
         ensures owed { result.list.id ≡ self.now.list }
     {
-        let right = Rested::Present(hold.park());
+        let right = hold.park().rest();
         give_back(&self.table.shared, &mut seat.inner, right);
         Owed::new(self.list.id())
     }
@@ -412,7 +411,7 @@ fn free_table<T>(
     ensures key { IfOk result (λ table. table.shared.key ≡ spare.now) }
 {
     let mut slots = Vec::with_capacity(alloc, 1)?;
-    slots.push_reserved(Rested::Spared(ticket));
+    slots.push_reserved(ticket.rest());
     match Table::new(alloc, &[FREE], slots, spare) {
         Ok((table, _first)) => Ok(table),
         Err(_) => Err(AllocError),
@@ -431,7 +430,9 @@ fn take_right<T>(
     ensures hold { result.room_id ≡ spare.now.room_id }
     ensures seat { (inner.new.table_id ≡ inner.old.table_id) × (inner.new.me.0 ≡ inner.old.me.0) × HasSlots true inner.new.me.1 }
 {
-    shared.exchange(inner, SLOT, Rested::Away).into_hold(spare)
+    shared
+        .exchange(inner, SLOT, Rested::nothing(spare))
+        .into_hold(spare)
 }
 
 // Makes the lock held, and takes its right if it was free, whoever is starved: one step.
@@ -481,6 +482,6 @@ fn regain<T>(
         Err(held) => return Err(held),
     };
     let (hold, ticket) = spare.reissue(hold, place);
-    give_back(shared, &mut inner, Rested::Spared(ticket));
+    give_back(shared, &mut inner, ticket.rest());
     Ok(hold)
 }

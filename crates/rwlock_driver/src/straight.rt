@@ -228,6 +228,7 @@ impl RawRwLock {
     }
 
     /// Does what is left of a try for this aim.
+    #[cold]
     #[inline(never)]
     pub fn try_on<R: Wait>(&self, rt: &R, aim: Aim, rest: TryRest) -> Option<Seat>
         requires { IsRest self.now aim rest }
@@ -411,6 +412,7 @@ impl RawRwLock {
     }
 
     /// Does what is left to do of a drop: notifies those who wait, and gives back the turn where that comes after.
+    #[cold]
     #[inline(never)]
     pub fn notify<R: Wait>(&self, rt: &R, notifies: Notifies)
         requires { Owes self.now notifies }

@@ -141,7 +141,7 @@ impl RawSemaphore {
     }
 
     /// Notifies the first waiter for whom the permits that were given are enough. The receipt of these comes back.
-    #[inline]
+    #[inline(always)]
     pub fn notify<R: Wait>(&self, rt: &R, notifies: Notifies) -> Given
         requires { Owes self.now notifies }
         ensures { result ≡ notifies.given }
@@ -154,6 +154,7 @@ impl RawSemaphore {
 
     // As `Stock::fit`. It stands apart, and is handed the parts of a `Notifies`: these go in registers, and the whole would be
     // written to the stack before the gift, in vain where nobody waits.
+    #[cold]
     #[inline(never)]
     fn tell<R: Wait>(&self, rt: &R, seat: &Seat, available: u64, duty: Duty)
         requires seat { seat.now.inner.table_id ≡ self.now.word.table }

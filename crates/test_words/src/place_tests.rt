@@ -2,7 +2,7 @@
 
 use crate::drops::Counted;
 use crate::same::assert_same;
-use lock_place::{Place, Spare};
+use lock_place::{Place, Rested, Spare};
 use std::alloc::Global;
 use std::mem;
 use std::process::Abort;
@@ -62,6 +62,22 @@ fn redeemed(alloc: Global) -> Option<[u64; 3]> {
     Some([first, second, place.into_inner()])
 }
 
+// What is read by a hold that rested as a ticket once 8 was lent in, by the same once it wrote 9 and rested itself, and at last out of
+// the place.
+fn rested(alloc: Global) -> Option<[u64; 3]> {
+    let (place, hold) = Place::new(alloc, 7u64).ok()?;
+    let (mut spare, ticket) = Spare::new(&place.room);
+    *spare.lend(hold, &place) = 8;
+    drop(Rested::nothing(&spare));
+    let mut hold = ticket.rest().into_hold(&spare);
+    let first = *hold.get(&place.room);
+    *hold.get_mut(&place.room) = 9;
+    let hold = hold.park().rest().into_hold(&spare);
+    let second = *hold.get(&place.room);
+    drop(hold.park());
+    Some([first, second, place.into_inner()])
+}
+
 // How many values were dropped once the first was written over. The place is dropped past a forgotten right.
 fn overwritten(alloc: Global, drops: &AtomicU64) -> Option<u64> {
     let (place, mut hold) = Place::new(alloc, Counted { drops, number: 1 }).ok()?;
@@ -83,6 +99,7 @@ fn a_right_reads_what_was_written_last(rt: HostRuntime) {
     assert_read(&rt, swapped(rt.alloc()), [2, 1]);
     assert_read(&rt, renewed(rt.alloc()), [8, 9]);
     assert_read(&rt, redeemed(rt.alloc()), [8, 9, 9]);
+    assert_read(&rt, rested(rt.alloc()), [8, 9, 9]);
 }
 
 #[test]

@@ -1,6 +1,6 @@
 use Rattle.std.proofs.Common.{arith, ap, sym, subst, ◌∙◌, ◌∷◌}
 use Rattle.atomic_table.specs.Table.{rest}
-use Rattle.lock_words.specs.Right.{IsRight}
+use Rattle.lock_place.specs.Rested.{IsRight}
 use Rattle.lock_words.proofs.Keeps.{cleared}
 use Rattle.lock_words.proofs.words.give_back.Goals as goal
 
