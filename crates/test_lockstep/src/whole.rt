@@ -11,9 +11,7 @@ ghost use Rattle.std.specs.Prelude.{◌≡◌, false, IfSome};
 use crate::party::{Party, end, new_party};
 use async_driver::nothing;
 use futures::task::Context;
-use lock_driver::{
-    MutexParty, Outcome, RawMutex, Waiting, cancel, poll_entry, poll_first, poll_told,
-};
+use lock_driver::{MutexParty, Outcome, RawMutex, Waiting, cancel, poll_first, poll_later};
 use lock_program::End;
 use lock_program::mutex::Place;
 use lock_words::{Hold, Seat};
@@ -151,16 +149,8 @@ fn later<R: Wait>(
     requires { Waits of_mutex (arc_value shared) waiting }
 {
     let mut waiting = Some(waiting);
-    match poll_entry(&*shared, bench, cx, &mut waiting) {
-        Some(owed) => {
-            let outcome = poll_told(&*shared, bench, cx, owed, &mut waiting);
-            came_to(shared, outcome, waiting)
-        }
-        None => match waiting {
-            Some(waiting) => (waits(shared, waiting), Some(End::Pending)),
-            None => unreachable!(),
-        },
-    }
+    let outcome = poll_later(&*shared, bench, cx, &mut waiting);
+    came_to(shared, outcome, waiting)
 }
 
 // What becomes of a party by a whole poll, and how the poll ends.
