@@ -1,10 +1,10 @@
 //! A semaphore's words and its list, and the duty to notify that goes from the one to the other.
 
-ghost use Rattle.std.specs.Prelude.{◌≡◌, ℕ, ◌<◌, ◌≤◌, [], IfOk, IfErr, IfNone, IfSome, Some, None, MatchBool};
+ghost use Rattle.std.specs.Prelude.{◌≡◌, ℕ, ◌+◌, ◌<◌, ◌≤◌, [], IfOk, IfErr, IfNone, IfSome, Some, None, MatchBool};
 ghost use Rattle.async_driver.specs.Heard.{IsKept};
 ghost use Rattle.futures.specs.Task.{Covers, Keeps};
 ghost use Rattle.semaphore_driver.specs.Duties.{IsOf, left, looked, seen_of, unseen};
-ghost use Rattle.words_semaphore.specs.Steps.{first_view, having_taken, having_lowered, having_given, having_given_new, having_raised, having_found};
+ghost use Rattle.words_semaphore.specs.Steps.{first_view, having_taken, having_lowered, having_given, having_given_new, having_raised, having_found, having_found_limit};
 ghost use Rattle.words_semaphore.specs.Tries.{OnTaking, OnRaising};
 
 use crate::duty::Keys;
@@ -211,12 +211,12 @@ impl Stock {
         (Given { permits, available }, self.owes(available))
     }
 
-    /// Raises the limit by this many permits if it stays a number of 64 bits: one try. The seat has the new
-    /// permits under way.
+    /// Raises the limit by this many permits if it stays a number of 64 bits: one try, after a look. The seat has the new
+    /// permits under way. It is refused only where its look found that the limit would pass its greatest value.
     pub fn raise(&self, seat: &mut Seat, permits: u64) -> Raising
         requires table { seat.old.inner.table_id ≡ self.now.word.table }
         ensures same { (seat.new.inner.table_id ≡ seat.old.inner.table_id) × (seat.new.inner.id ≡ seat.old.inner.id) }
-        ensures step { OnRaising result (seat.new.inner.me ≡ (having_raised permits seat.old.inner.me.0, seat.old.inner.me.1)) (seat.new.inner.me ≡ seat.old.inner.me) }
+        ensures step { OnRaising result (seat.new.inner.me ≡ (having_raised permits (having_found_limit seat.new.inner.me.0.limit seat.old.inner.me.0), seat.old.inner.me.1)) ((18446744073709551615 < seat.new.inner.me.0.limit + permits) × (seat.new.inner.me ≡ (having_found_limit seat.new.inner.me.0.limit seat.old.inner.me.0, seat.old.inner.me.1))) (seat.new.inner.me ≡ (having_found_limit seat.new.inner.me.0.limit seat.old.inner.me.0, seat.old.inner.me.1)) }
     {
         self.words.raise(seat, permits)
     }

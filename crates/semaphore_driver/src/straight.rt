@@ -9,7 +9,7 @@ ghost use Rattle.lock_program.specs.declared.end.Next.TheVariants as next;
 ghost use Rattle.lock_program.specs.declared.refusal.Refusal.{Refusal};
 ghost use Rattle.lock_program.specs.declared.refusal.Refusal.TheVariants as refusals;
 ghost use Rattle.semaphore_driver.specs.Semaphores.{Has, HasUnderWay};
-ghost use Rattle.semaphore_driver.specs.Straight.{IsShort, OnTried, Owes};
+ghost use Rattle.semaphore_driver.specs.Straight.{IsPastLimit, IsShort, OnTried, Owes};
 ghost use Rattle.sync_program.specs.Permits.{action_of, next_of, start_of};
 ghost use Rattle.sync_program.specs.declared.permits.Action.TheVariants as does;
 ghost use Rattle.sync_program.specs.declared.permits.Found.TheVariants as finds;
@@ -180,7 +180,8 @@ impl RawSemaphore {
     /// Adds this many permits, and notifies the first waiter for whom those that are then available are enough. It takes no
     /// memory. Its receipt says that they were given.
     ///
-    /// If the limit would pass its greatest value, it returns [`Refusal::Permits`], and nothing has changed.
+    /// If the limit would pass its greatest value, as its last look at the limit found, it returns [`Refusal::Permits`], and
+    /// nothing has changed.
     pub fn add<R: Wait>(&self, rt: &R, permits: u64) -> Result<Given, Refusal>
         ensures given { IfOk result (λ given. given.permits ≡ permits) }
         ensures refused { IfErr result (λ refusal. refusal ≡ Refusal.Permits) }
@@ -188,8 +189,7 @@ impl RawSemaphore {
         add_rows();
         let mut seat = self.stock.sit();
         if !self.raise(rt, &mut seat, permits) {
-            self.stock.rise(seat);
-            return Err(Refusal::Permits);
+            return Err(self.refuse(seat, permits));
         }
         let (given, duty) = self.stock.give_new(&mut seat, permits);
         self.stock.fit(rt, &seat, given.available(), duty);
@@ -197,10 +197,21 @@ impl RawSemaphore {
         Ok(given)
     }
 
-    // Raises the limit by this many, if its greatest value allows it, however often the word changes meanwhile.
+    // Ends an addition that is refused: its last look found a limit that would pass its greatest value.
+    fn refuse(&self, seat: Seat, permits: u64) -> Refusal
+        requires { IsPastLimit self.now permits seat }
+        ensures { result ≡ Refusal.Permits }
+    {
+        let _ = permits;
+        self.stock.rise(seat);
+        Refusal::Permits
+    }
+
+    // Raises the limit by this many, if its greatest value allows it, however often the word changes meanwhile: it is refused only
+    // where its last look found that it doesn't.
     fn raise<R: Wait>(&self, rt: &R, seat: &mut Seat, permits: u64) -> bool
         requires { Has self.now 0 seat.old }
-        ensures { MatchBool result (HasUnderWay self.now permits seat.new) (Has self.now 0 seat.new) }
+        ensures { MatchBool result (HasUnderWay self.now permits seat.new) (IsPastLimit self.now permits seat.new) }
     {
         for _ in rt.forever() {
             match self.stock.raise(seat, permits) {

@@ -11,7 +11,7 @@ use Rattle.words_base.proofs.Sums.{total-set, total-at, total-snoc}
 use Rattle.words_base.proofs.Exchanges.{exchanged}
 use Rattle.words_semaphore.specs.declared.view.View.{View}
 use Rattle.words_semaphore.specs.Rule.{permits_of, under_way_of, added_of, forgotten_of, IsBalanced}
-use Rattle.words_semaphore.specs.Steps.{first_view, having_taken, having_given, having_given_new, having_lowered, having_raised, having_found, Kept, Loads, Takes, Gives, GivesNew, Raises, Lowers}
+use Rattle.words_semaphore.specs.Steps.{first_view, having_taken, having_given, having_given_new, having_lowered, having_raised, having_found, having_found_limit, Kept, Loads, LoadsLimit, Takes, Gives, GivesNew, Raises, Lowers}
 
 abbrev St : Type 0
 St = State Nothing View
@@ -100,6 +100,9 @@ module _ (start slots id : ℕ) (me : M) where
 
   pub loads : Allows (R start) slots id me 0 (λ x. x) (Loads (step slots 0 0 0 none) me)
   loads s r _ at _ = let x : ℕ = get_or s.words 0 0 in (having_found x me.0, keeps, tt, first_word start s id me r at (having_found x me.0) x refl refl refl, refl)
+
+  pub loads_limit : Allows (R start) slots id me 1 (λ x. x) (LoadsLimit (step slots 1 0 0 none) me)
+  loads_limit s r _ at _ = let y : ℕ = get_or s.words 1 0 in (having_found_limit y me.0, keeps, tt, second_word start s id me r at (having_found_limit y me.0) y r.fits refl refl, refl)
 
 -- a new seat has nothing
 pub sits : (start slots i : ℕ) → Enters (R start) slots i (λ n w. Kept (step slots i 0 0 none) (first_view, []) n (w, []))

@@ -6,7 +6,7 @@ use Rattle.words_semaphore.specs.declared.view.View.{View}
 
 -- a seat that has nothing, and has done nothing
 abbrev pub first_view : View
-first_view = record { permits = 0; under_way = 0; found = 0; added = 0; forgotten = 0 }
+first_view = record { permits = 0; under_way = 0; found = 0; limit = 0; added = 0; forgotten = 0 }
 
 -- it has k permits more, and left a
 abbrev pub having_taken : ℕ → ℕ → View → View
@@ -32,6 +32,10 @@ having_raised k v = record v { under_way = v.under_way + k; added = v.added + k 
 abbrev pub having_found : ℕ → View → View
 having_found a v = record v { found = a }
 
+-- it has found the limit n
+abbrev pub having_found_limit : ℕ → View → View
+having_found_limit n v = record v { limit = n }
+
 abbrev pub Seen : Type 0
 Seen = Me Nothing View
 
@@ -43,6 +47,9 @@ Kept step m r m' = m' ≡ m
 
 abbrev pub Loads : Made → Seen → ℕ → Seen → Type 0
 Loads step m r m' = m' ≡ (having_found r m.0, m.1)
+
+abbrev pub LoadsLimit : Made → Seen → ℕ → Seen → Type 0
+LoadsLimit step m r m' = m' ≡ (having_found_limit r m.0, m.1)
 
 -- From the word expected: the permits are those that the word is lower by.
 abbrev pub Takes : Made → Seen → ℕ → Seen → Type 0

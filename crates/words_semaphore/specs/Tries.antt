@@ -10,6 +10,7 @@ OnTaking (taking.Left a) does short not = does a
 OnTaking (taking.Short a) does short not = short a
 OnTaking taking.Changed does short not = not
 
-abbrev pub OnRaising : Raising → Type 0 → Type 0 → Type 0
-OnRaising raising.Raised does not = does
-OnRaising _ does not = not
+abbrev pub OnRaising : Raising → Type 0 → Type 0 → Type 0 → Type 0
+OnRaising raising.Raised does past not = does
+OnRaising raising.PastLimit does past not = past
+OnRaising raising.Changed does past not = not

@@ -32,6 +32,14 @@ impl Play<Nothing, View> for LoadsStep {
     ghost then = { Loads };
 }
 
+pub(crate) struct LoadsLimitStep;
+
+impl Play<Nothing, View> for LoadsLimitStep {
+    ghost use Rattle.words_semaphore.specs.Steps.{LoadsLimit};
+
+    ghost then = { LoadsLimit };
+}
+
 pub(crate) struct TakesStep;
 
 impl Play<Nothing, View> for TakesStep {

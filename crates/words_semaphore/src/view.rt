@@ -14,6 +14,8 @@ pub struct View {
     pub ghost under_way: { ℕ },
     /// How many permits its last step on the first word found available, or left there.
     pub ghost found: { ℕ },
+    /// What its last look at the limit found.
+    pub ghost limit: { ℕ },
     /// By how many it has raised the limit in all.
     pub ghost added: { ℕ },
     /// By how many it has lowered the limit in all.

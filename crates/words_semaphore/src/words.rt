@@ -1,12 +1,13 @@
 //! The words of a semaphore, and the tries on them.
 
 ghost use Rattle.std.specs.Prelude.{◌≡◌, ℕ, ◌+◌, ◌-◌, ◌<◌, ◌≤◌, [], ◌∷◌, IfOk};
-ghost use Rattle.words_semaphore.specs.Steps.{first_view, having_taken, having_lowered, having_given, having_given_new, having_raised, having_found};
+ghost use Rattle.words_semaphore.specs.Steps.{first_view, having_taken, having_lowered, having_given, having_given_new, having_raised, having_found, having_found_limit};
 ghost use Rattle.words_semaphore.specs.Tries.{OnTaking, OnRaising};
 
 use crate::found::{Raising, Taking};
 use crate::rule::{
-    GivesNewStep, GivesStep, KeptStep, LoadsStep, LowersStep, PermitRule, RaisesStep, TakesStep,
+    GivesNewStep, GivesStep, KeptStep, LoadsLimitStep, LoadsStep, LowersStep, PermitRule,
+    RaisesStep, TakesStep,
 };
 use crate::view::{Seat, View};
 use atomic_table::Table;
@@ -150,15 +151,15 @@ impl Words {
         found + permits
     }
 
-    /// Raises the limit by this many permits if it stays a number of 64 bits: one try. The seat has the new
-    /// permits under way.
+    /// Raises the limit by this many permits if it stays a number of 64 bits: one try, after a look. The seat has the new
+    /// permits under way. It is refused only where its look found that the limit would pass its greatest value.
     pub fn raise(&self, seat: &mut Seat, permits: u64) -> Raising
         requires table { seat.old.inner.table_id ≡ self.now.table }
         ensures same { (seat.new.inner.table_id ≡ seat.old.inner.table_id) × (seat.new.inner.id ≡ seat.old.inner.id) }
-        ensures step { OnRaising result (seat.new.inner.me ≡ (having_raised permits seat.old.inner.me.0, seat.old.inner.me.1)) (seat.new.inner.me ≡ seat.old.inner.me) }
+        ensures step { OnRaising result (seat.new.inner.me ≡ (having_raised permits (having_found_limit seat.new.inner.me.0.limit seat.old.inner.me.0), seat.old.inner.me.1)) ((18446744073709551615 < seat.new.inner.me.0.limit + permits) × (seat.new.inner.me ≡ (having_found_limit seat.new.inner.me.0.limit seat.old.inner.me.0, seat.old.inner.me.1))) (seat.new.inner.me ≡ (having_found_limit seat.new.inner.me.0.limit seat.old.inner.me.0, seat.old.inner.me.1)) }
     {
         let shared = &self.table.shared;
-        let found = shared.peek(LIMIT);
+        let found = shared.load::<LoadsLimitStep>(&mut seat.inner, LIMIT);
         if permits > u64::MAX - found {
             return Raising::PastLimit;
         }
