@@ -15,14 +15,14 @@ use std::sync::{Arc, Wait};
 /// Holds a mutex, and lends its value. Dropping it releases the mutex.
 ///
 /// Its type keeps that its seat holds the lock, with the right to the lock's value. Contracts see the mutex, and the value.
-pub struct Guard<T, R: Wait, O: Owns<T, R>> {
+pub struct Guard<T, R: Wait, O: Owns<Value = T, Runtime = R>> {
     pub(crate) owner: O,
     seat: Seat<T>,
     pub(crate) hold: Hold<T>,
     runtime: PhantomData<R>,
 }
 
-impl<T, R: Wait, O: Owns<T, R>> Model for Guard<T, R, O> {
+impl<T, R: Wait, O: Owns<Value = T, Runtime = R>> Model for Guard<T, R, O> {
     ghost use Rattle.std.specs.Prelude.{◌≡◌, false};
     ghost use Rattle.lock_words.specs.Tries.{Holds};
     ghost use Rattle.async_mutex.specs.Guards.{Held};
@@ -34,7 +34,7 @@ impl<T, R: Wait, O: Owns<T, R>> Model for Guard<T, R, O> {
     ghost invariant = { λ g. Holds (O.lock_of g.owner).raw.words g.seat g.hold × (g.seat.starved ≡ false) };
 }
 
-impl<T, R: Wait, O: Owns<T, R>> Guard<T, R, O> {
+impl<T, R: Wait, O: Owns<Value = T, Runtime = R>> Guard<T, R, O> {
     #[inline]
     pub(crate) fn new(owner: O, seat: Seat<T>, hold: Hold<T>) -> Guard<T, R, O>
         requires { Holds (O.lock_of owner).raw.words seat hold × (seat.starved ≡ false) }
@@ -67,7 +67,7 @@ impl<T: Drop, R: Wait + Drop> Guard<T, R, Arc<Mutex<T, R>>> {
     }
 }
 
-impl<T, R: Wait, O: Owns<T, R>> Deref for Guard<T, R, O> {
+impl<T, R: Wait, O: Owns<Value = T, Runtime = R>> Deref for Guard<T, R, O> {
     type Target = T;
 
     ghost deref_gives = { λ guard value. value ≡ guard.value };
@@ -77,7 +77,7 @@ impl<T, R: Wait, O: Owns<T, R>> Deref for Guard<T, R, O> {
     }
 }
 
-impl<T, R: Wait, O: Owns<T, R>> Drop for Guard<T, R, O> {
+impl<T, R: Wait, O: Owns<Value = T, Runtime = R>> Drop for Guard<T, R, O> {
     #[inline]
     fn drop(self) {
         let Self {
@@ -94,14 +94,14 @@ impl<T, R: Wait, O: Owns<T, R>> Drop for Guard<T, R, O> {
     }
 }
 
-impl<T: fmt::Debug, R: Wait, O: Owns<T, R>> fmt::Debug for Guard<T, R, O> {
+impl<T: fmt::Debug, R: Wait, O: Owns<Value = T, Runtime = R>> fmt::Debug for Guard<T, R, O> {
     fn fmt<W: fmt::Write>(&self, f: &mut fmt::Formatter<W>) -> fmt::Result {
         let value: &T = self;
         value.fmt(f)
     }
 }
 
-impl<T: fmt::Display, R: Wait, O: Owns<T, R>> fmt::Display for Guard<T, R, O> {
+impl<T: fmt::Display, R: Wait, O: Owns<Value = T, Runtime = R>> fmt::Display for Guard<T, R, O> {
     fn fmt<W: fmt::Write>(&self, f: &mut fmt::Formatter<W>) -> fmt::Result {
         let value: &T = self;
         value.fmt(f)

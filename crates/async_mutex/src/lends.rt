@@ -13,7 +13,7 @@ use crate::owns::Owns;
 use std::ops::DerefMut;
 use std::sync::Wait;
 
-impl<T, R: Wait, O: Owns<T, R>> DerefMut for Guard<T, R, O> {
+impl<T, R: Wait, O: Owns<Value = T, Runtime = R>> DerefMut for Guard<T, R, O> {
     ghost deref_mut_gives = { λ guard value. value ≡ guard.value };
 
     fn deref_mut(&mut self) -> &mut T

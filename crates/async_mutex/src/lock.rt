@@ -25,14 +25,14 @@ use std::{fmt, mem};
 /// starved.
 ///
 /// Contracts see how far it is (`stage`), and its entry in the mutex's list (`entry`).
-pub struct LockFuture<T, R: Wait, O: Owns<T, R>> {
+pub struct LockFuture<T, R: Wait, O: Owns<Value = T, Runtime = R>> {
     stage: Stage<O>,
     // `None` before the first poll that didn't get the lock, and once it was ready.
     waiting: Option<Waiting<RawMutex<T>>>,
     runtime: PhantomData<R>,
 }
 
-impl<T, R: Wait, O: Owns<T, R>> Model for LockFuture<T, R, O> {
+impl<T, R: Wait, O: Owns<Value = T, Runtime = R>> Model for LockFuture<T, R, O> {
     ghost use Rattle.std.specs.Prelude.{IfSome};
     ghost use Rattle.async_mutex.specs.Futures.{Future, WaitsAs, future};
     ghost use Rattle.lock_driver.specs.Waits.{entry_of};
@@ -44,7 +44,7 @@ impl<T, R: Wait, O: Owns<T, R>> Model for LockFuture<T, R, O> {
     ghost invariant = { λ l. IfSome l.waiting (WaitsAs O.lock_of l.stage) };
 }
 
-impl<T, R: Wait, O: Owns<T, R>> LockFuture<T, R, O> {
+impl<T, R: Wait, O: Owns<Value = T, Runtime = R>> LockFuture<T, R, O> {
     #[inline]
     pub(crate) fn new(stage: Stage<O>) -> LockFuture<T, R, O>
         requires { is_finished stage ≡ false }
@@ -58,7 +58,7 @@ impl<T, R: Wait, O: Owns<T, R>> LockFuture<T, R, O> {
     }
 }
 
-impl<T, R: Wait + Clock, O: Owns<T, R>> LockFuture<T, R, O> {
+impl<T, R: Wait + Clock, O: Owns<Value = T, Runtime = R>> LockFuture<T, R, O> {
     /// Polls once: ready with the guard, or pending.
     ///
     /// It is refused as [`Refusal::Memory`] if memory for its entry was refused, or if no share of the mutex could be had, and as
@@ -94,7 +94,7 @@ impl<T, R: Wait + Clock, O: Owns<T, R>> LockFuture<T, R, O> {
     }
 }
 
-impl<T, R: Wait + Clock, O: Owns<T, R>> Polled for LockFuture<T, R, O> {
+impl<T, R: Wait + Clock, O: Owns<Value = T, Runtime = R>> Polled for LockFuture<T, R, O> {
     type Got = Guard<T, R, O>;
 
     ghost use Rattle.async_mutex.specs.Stages.{IsOf, is_finished};
@@ -109,7 +109,7 @@ impl<T, R: Wait + Clock, O: Owns<T, R>> Polled for LockFuture<T, R, O> {
     }
 }
 
-impl<T, R: Wait, O: Owns<T, R>> Drop for LockFuture<T, R, O> {
+impl<T, R: Wait, O: Owns<Value = T, Runtime = R>> Drop for LockFuture<T, R, O> {
     #[inline]
     fn drop(self) {
         let Self {
@@ -121,7 +121,7 @@ impl<T, R: Wait, O: Owns<T, R>> Drop for LockFuture<T, R, O> {
     }
 }
 
-impl<T, R: Wait, O: Owns<T, R>> fmt::Debug for LockFuture<T, R, O> {
+impl<T, R: Wait, O: Owns<Value = T, Runtime = R>> fmt::Debug for LockFuture<T, R, O> {
     fn fmt<W: fmt::Write>(&self, f: &mut fmt::Formatter<W>) -> fmt::Result {
         if O::is_share() {
             f.write_str("LockArc { .. }")

@@ -8,14 +8,19 @@ use std::sync::Arc;
 /// Who has a lock: by a reference to it, or as one of its owners. Guards and futures are written once, for both.
 ///
 /// It is implemented for `&Mutex` and for `Arc<Mutex>`.
-pub trait Owns<T, R>: Drop {
+pub trait Owns: Drop {
+    /// The value of the lock.
+    type Value;
+    /// The runtime of the lock.
+    type Runtime;
+
     ghost use Rattle.async_mutex.specs.declared.mutex.Mutex.{Mutex};
 
     /// The lock.
-    ghost lock_of: { Self → Mutex T R };
+    ghost lock_of: { Self → Mutex Self.Value Self.Runtime };
 
     /// Returns the lock.
-    fn lock(&self) -> &Mutex<T, R>
+    fn lock(&self) -> &Mutex<Self::Value, Self::Runtime>
         ensures { result.now ≡ lock_of self.now };
 
     /// Returns another of the same, or `None` if no more shares of the lock can be had.
@@ -26,7 +31,11 @@ pub trait Owns<T, R>: Drop {
     fn is_share() -> bool;
 }
 
-impl<'a, T, R> Owns<T, R> for &'a Mutex<T, R> {
+impl<'a, T, R> Owns for &'a Mutex<T, R> {
+    type Value = T;
+
+    type Runtime = R;
+
     ghost lock_of = { λ o. o.now };
 
     fn lock(&self) -> &Mutex<T, R> {
@@ -42,7 +51,11 @@ impl<'a, T, R> Owns<T, R> for &'a Mutex<T, R> {
     }
 }
 
-impl<T: Drop, R: Drop> Owns<T, R> for Arc<Mutex<T, R>> {
+impl<T: Drop, R: Drop> Owns for Arc<Mutex<T, R>> {
+    type Value = T;
+
+    type Runtime = R;
+
     ghost use Rattle.std.specs.Arc.{arc_value};
 
     ghost lock_of = { arc_value };

@@ -35,7 +35,7 @@ pub enum Stage<O> {
 
 /// How far a future is that is new: it waits, if the mutex could be had.
 #[inline]
-pub(crate) fn first<T, R, O: Owns<T, R>>(share: Option<O>) -> Stage<O>
+pub(crate) fn first<T, R, O: Owns<Value = T, Runtime = R>>(share: Option<O>) -> Stage<O>
     ensures new { is_finished result ≡ false }
     ensures mutex { (mutex : Mutex T R) → IfSome share (λ owner. mutex ≡ O.lock_of owner) → IsFor O.lock_of result mutex }
 {
@@ -57,7 +57,7 @@ pub(crate) enum Look<T> {
 
 /// Looks at the lock, and takes it if it is free and nobody is starved.
 #[inline]
-pub(crate) fn first_look<T, R, O: Owns<T, R>>(stage: &Stage<O>) -> Look<T>
+pub(crate) fn first_look<T, R, O: Owns<Value = T, Runtime = R>>(stage: &Stage<O>) -> Look<T>
     ensures { Looks O.lock_of stage.now result }
 {
     match stage {
@@ -82,7 +82,7 @@ pub(crate) fn no_share<O>(stage: &Stage<O>) -> Refusal
 
 /// The guard of a future that got the lock, with who has the mutex.
 #[inline]
-pub(crate) fn into_guard<T, R: Wait, O: Owns<T, R>>(
+pub(crate) fn into_guard<T, R: Wait, O: Owns<Value = T, Runtime = R>>(
     stage: Stage<O>,
     seat: Seat<T>,
     hold: Hold<T>,
@@ -98,7 +98,7 @@ pub(crate) fn into_guard<T, R: Wait, O: Owns<T, R>>(
 
 /// The answer of a poll that went so. Who has the mutex goes to the guard.
 #[inline(always)]
-pub(crate) fn into_turn<T, R: Wait, O: Owns<T, R>>(
+pub(crate) fn into_turn<T, R: Wait, O: Owns<Value = T, Runtime = R>>(
     stage: &mut Stage<O>,
     outcome: Outcome<T>,
 ) -> Turn<Guard<T, R, O>>
@@ -120,7 +120,7 @@ pub(crate) fn into_turn<T, R: Wait, O: Owns<T, R>>(
 
 /// The rest of a first poll whose look was in vain. It stands apart, since what it takes room for would be cleared at each poll.
 #[inline(never)]
-pub(crate) fn first_poll<T, R: Wait + Clock, O: Owns<T, R>>(
+pub(crate) fn first_poll<T, R: Wait + Clock, O: Owns<Value = T, Runtime = R>>(
     stage: &Stage<O>,
     cx: &mut Context<'_>,
     vain: Vain,
@@ -145,7 +145,7 @@ pub(crate) fn first_poll<T, R: Wait + Clock, O: Owns<T, R>>(
 
 /// A poll of what waits. It stands apart, so that a poll is short where it is called that gets the lock at once.
 #[inline(never)]
-pub(crate) fn later_poll<T, R: Wait + Clock, O: Owns<T, R>>(
+pub(crate) fn later_poll<T, R: Wait + Clock, O: Owns<Value = T, Runtime = R>>(
     stage: &Stage<O>,
     cx: &mut Context<'_>,
     waiting: &mut Option<Waiting<RawMutex<T>>>,
@@ -167,7 +167,7 @@ pub(crate) fn later_poll<T, R: Wait + Clock, O: Owns<T, R>>(
 
 /// What a dropped future gives back, its share of the mutex last.
 #[inline]
-pub(crate) fn drop_stage<T, R: Wait, O: Owns<T, R>>(
+pub(crate) fn drop_stage<T, R: Wait, O: Owns<Value = T, Runtime = R>>(
     stage: Stage<O>,
     waiting: Option<Waiting<RawMutex<T>>>,
 )

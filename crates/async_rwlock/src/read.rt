@@ -21,14 +21,14 @@ use std::time::Clock;
 /// to the next.
 ///
 /// Contracts see how far it is (`stage`), and what it has at the lock meanwhile (`waiting`).
-pub struct ReadFuture<T, R: Wait, O: Owns<T, R>> {
+pub struct ReadFuture<T, R: Wait, O: Owns<Value = T, Runtime = R>> {
     stage: Stage<O>,
     // `None` before the first poll, and once it was ready.
     waiting: Option<Resting>,
     lock: PhantomData<(T, R)>,
 }
 
-impl<T, R: Wait, O: Owns<T, R>> Model for ReadFuture<T, R, O> {
+impl<T, R: Wait, O: Owns<Value = T, Runtime = R>> Model for ReadFuture<T, R, O> {
     ghost use Rattle.std.specs.Prelude.{IfSome};
     ghost use Rattle.async_rwlock.specs.Stages.{Future, WaitsAs, future};
     ghost use Rattle.rwlock_driver.specs.declared.aim.Aim.TheVariants as aims;
@@ -40,7 +40,7 @@ impl<T, R: Wait, O: Owns<T, R>> Model for ReadFuture<T, R, O> {
     ghost invariant = { λ l. IfSome l.waiting (WaitsAs O.lock_of aims.Read l.stage) };
 }
 
-impl<T, R: Wait, O: Owns<T, R>> ReadFuture<T, R, O> {
+impl<T, R: Wait, O: Owns<Value = T, Runtime = R>> ReadFuture<T, R, O> {
     #[inline]
     pub(crate) fn new(stage: Stage<O>) -> ReadFuture<T, R, O>
         requires { is_finished stage ≡ false }
@@ -54,7 +54,7 @@ impl<T, R: Wait, O: Owns<T, R>> ReadFuture<T, R, O> {
     }
 }
 
-impl<T, R: Wait + Clock, O: Owns<T, R>> ReadFuture<T, R, O> {
+impl<T, R: Wait + Clock, O: Owns<Value = T, Runtime = R>> ReadFuture<T, R, O> {
     /// Polls once: ready with the guard, or pending.
     ///
     /// It is refused as [`Refusal::Memory`](crate::Refusal::Memory) if memory for its entry was refused, and as
@@ -84,7 +84,7 @@ impl<T, R: Wait + Clock, O: Owns<T, R>> ReadFuture<T, R, O> {
     }
 }
 
-impl<T, R: Wait + Clock, O: Owns<T, R>> Polled for ReadFuture<T, R, O> {
+impl<T, R: Wait + Clock, O: Owns<Value = T, Runtime = R>> Polled for ReadFuture<T, R, O> {
     type Got = ReadGuard<T, R, O>;
 
     ghost use Rattle.async_rwlock.specs.Stages.{CanRefuse, IsOf, is_finished};
@@ -99,7 +99,7 @@ impl<T, R: Wait + Clock, O: Owns<T, R>> Polled for ReadFuture<T, R, O> {
     }
 }
 
-impl<T, R: Wait, O: Owns<T, R>> Drop for ReadFuture<T, R, O> {
+impl<T, R: Wait, O: Owns<Value = T, Runtime = R>> Drop for ReadFuture<T, R, O> {
     #[inline]
     fn drop(self) {
         let Self {
@@ -111,7 +111,7 @@ impl<T, R: Wait, O: Owns<T, R>> Drop for ReadFuture<T, R, O> {
     }
 }
 
-impl<T, R: Wait, O: Owns<T, R>> fmt::Debug for ReadFuture<T, R, O> {
+impl<T, R: Wait, O: Owns<Value = T, Runtime = R>> fmt::Debug for ReadFuture<T, R, O> {
     fn fmt<W: fmt::Write>(&self, f: &mut fmt::Formatter<W>) -> fmt::Result {
         if O::is_share() {
             f.write_str("ReadArc { .. }")

@@ -15,7 +15,7 @@ use words_rwlock::{Pledge, Seat};
 ///
 /// Its type keeps that its seat reads, and that the value is lent against that. Contracts see the lock, the value, and the seat
 /// (`seat`, and what it knows of itself, `view`).
-pub struct ReadGuard<T, R: Wait, O: Owns<T, R>> {
+pub struct ReadGuard<T, R: Wait, O: Owns<Value = T, Runtime = R>> {
     owner: O,
     glance: Glance<T>,
     // The seat, while what it says is lent.
@@ -23,7 +23,7 @@ pub struct ReadGuard<T, R: Wait, O: Owns<T, R>> {
     runtime: PhantomData<R>,
 }
 
-impl<T, R: Wait, O: Owns<T, R>> Model for ReadGuard<T, R, O> {
+impl<T, R: Wait, O: Owns<Value = T, Runtime = R>> Model for ReadGuard<T, R, O> {
     ghost use Rattle.std.specs.Prelude.{◌≡◌, []};
     ghost use Rattle.async_rwlock.specs.Guards.{Held};
     ghost use Rattle.rwlock_driver.specs.Rights.{Shows, reader};
@@ -35,7 +35,7 @@ impl<T, R: Wait, O: Owns<T, R>> Model for ReadGuard<T, R, O> {
     ghost invariant = { λ g. (g.glance.vault_id ≡ (O.lock_of g.owner).vault.vault_id) × Shows g.glance.view reader × (g.pledge.badge.views ≡ []) };
 }
 
-impl<T, R: Wait, O: Owns<T, R>> ReadGuard<T, R, O> {
+impl<T, R: Wait, O: Owns<Value = T, Runtime = R>> ReadGuard<T, R, O> {
     #[inline]
     pub(crate) fn new(owner: O, seat: Seat) -> ReadGuard<T, R, O>
         requires { Has (O.lock_of owner).raw reader seat }
@@ -52,7 +52,7 @@ impl<T, R: Wait, O: Owns<T, R>> ReadGuard<T, R, O> {
     }
 }
 
-impl<T, R: Wait, O: Owns<T, R>> Deref for ReadGuard<T, R, O> {
+impl<T, R: Wait, O: Owns<Value = T, Runtime = R>> Deref for ReadGuard<T, R, O> {
     type Target = T;
 
     ghost deref_gives = { λ guard value. value ≡ guard.value };
@@ -62,7 +62,7 @@ impl<T, R: Wait, O: Owns<T, R>> Deref for ReadGuard<T, R, O> {
     }
 }
 
-impl<T, R: Wait, O: Owns<T, R>> Drop for ReadGuard<T, R, O> {
+impl<T, R: Wait, O: Owns<Value = T, Runtime = R>> Drop for ReadGuard<T, R, O> {
     fn drop(self) {
         let Self {
             owner,
@@ -79,14 +79,15 @@ impl<T, R: Wait, O: Owns<T, R>> Drop for ReadGuard<T, R, O> {
     }
 }
 
-impl<T: fmt::Debug, R: Wait, O: Owns<T, R>> fmt::Debug for ReadGuard<T, R, O> {
+impl<T: fmt::Debug, R: Wait, O: Owns<Value = T, Runtime = R>> fmt::Debug for ReadGuard<T, R, O> {
     fn fmt<W: fmt::Write>(&self, f: &mut fmt::Formatter<W>) -> fmt::Result {
         let value: &T = self;
         value.fmt(f)
     }
 }
 
-impl<T: fmt::Display, R: Wait, O: Owns<T, R>> fmt::Display for ReadGuard<T, R, O> {
+impl<T: fmt::Display, R: Wait, O: Owns<Value = T, Runtime = R>> fmt::Display
+    for ReadGuard<T, R, O> {
     fn fmt<W: fmt::Write>(&self, f: &mut fmt::Formatter<W>) -> fmt::Result {
         let value: &T = self;
         value.fmt(f)

@@ -42,7 +42,7 @@ pub enum Went<O> {
 }
 
 /// How far a future is that is new: it waits, if the lock could be had.
-pub(crate) fn first<T, R, O: Owns<T, R>>(share: Option<O>) -> Stage<O>
+pub(crate) fn first<T, R, O: Owns<Value = T, Runtime = R>>(share: Option<O>) -> Stage<O>
     ensures new { is_finished result ≡ false }
     ensures lock { (lock : RwLock T R) → IfSome share (λ owner. lock ≡ O.lock_of owner) → IsFor O.lock_of result lock }
 {
@@ -62,7 +62,7 @@ pub(crate) enum Start<O> {
 
 /// The straight actions of a first poll. They wait for nobody. Of a future that was polled before there are none.
 #[inline]
-pub(crate) fn begin_poll<T, R, O: Owns<T, R>>(
+pub(crate) fn begin_poll<T, R, O: Owns<Value = T, Runtime = R>>(
     aim: Aim,
     stage: &mut Stage<O>,
     waiting: &Option<Resting>,
@@ -95,7 +95,7 @@ pub(crate) fn begin_poll<T, R, O: Owns<T, R>>(
 
 // One poll by who has the lock. In line, as the next one is: the future need not be in memory then.
 #[inline(always)]
-fn poll_stage<T, R: Wait + Clock, O: Owns<T, R>>(
+fn poll_stage<T, R: Wait + Clock, O: Owns<Value = T, Runtime = R>>(
     aim: Aim,
     way: Option<OnWay>,
     stage: &Stage<O>,
@@ -129,7 +129,7 @@ fn poll_stage<T, R: Wait + Clock, O: Owns<T, R>>(
 
 /// One poll of a future of this aim, or the rest of it, where it has the turn already.
 #[inline(always)]
-pub(crate) fn poll_as<T, R: Wait + Clock, O: Owns<T, R>>(
+pub(crate) fn poll_as<T, R: Wait + Clock, O: Owns<Value = T, Runtime = R>>(
     aim: Aim,
     way: Option<OnWay>,
     stage: &mut Stage<O>,
@@ -163,7 +163,7 @@ pub(crate) fn poll_as<T, R: Wait + Clock, O: Owns<T, R>>(
 
 /// Who has the lock of an upgrade that writes already, with its seat. The future is over.
 #[inline]
-pub(crate) fn into_writer<T, R, O: Owns<T, R>>(
+pub(crate) fn into_writer<T, R, O: Owns<Value = T, Runtime = R>>(
     seat: Seat,
     stage: &mut Stage<O>,
     waiting: &Option<Resting>,
@@ -183,7 +183,7 @@ pub(crate) fn into_writer<T, R, O: Owns<T, R>>(
 
 // The first poll of an upgrade that waits, by who has the lock.
 #[inline]
-fn look_stage<T, R: Wait + Clock, O: Owns<T, R>>(
+fn look_stage<T, R: Wait + Clock, O: Owns<Value = T, Runtime = R>>(
     seat: Seat,
     stage: &Stage<O>,
     waiting: &mut Option<Resting>,
@@ -206,7 +206,7 @@ fn look_stage<T, R: Wait + Clock, O: Owns<T, R>>(
 
 /// The first poll of an upgrade that waits until nobody else reads, whose seat has set the writer's bit.
 #[inline]
-pub(crate) fn poll_begun<T, R: Wait + Clock, O: Owns<T, R>>(
+pub(crate) fn poll_begun<T, R: Wait + Clock, O: Owns<Value = T, Runtime = R>>(
     seat: Seat,
     stage: &mut Stage<O>,
     waiting: &mut Option<Resting>,
@@ -233,7 +233,7 @@ pub(crate) fn poll_begun<T, R: Wait + Clock, O: Owns<T, R>>(
 
 /// What an upgrade gives back that was never polled: the writer's bit and the turn, and its share of the lock last.
 #[inline(never)]
-pub(crate) fn drop_begun<T, R: Wait, O: Owns<T, R>>(
+pub(crate) fn drop_begun<T, R: Wait, O: Owns<Value = T, Runtime = R>>(
     begun: Begun,
     stage: Stage<O>,
     waiting: Option<Resting>,
@@ -258,7 +258,7 @@ pub(crate) fn drop_begun<T, R: Wait, O: Owns<T, R>>(
 
 /// What a dropped future gives back.
 #[inline]
-pub(crate) fn drop_as<T, R: Wait, O: Owns<T, R>>(
+pub(crate) fn drop_as<T, R: Wait, O: Owns<Value = T, Runtime = R>>(
     aim: Aim,
     stage: Stage<O>,
     waiting: Option<Resting>,
@@ -274,7 +274,7 @@ pub(crate) fn drop_as<T, R: Wait, O: Owns<T, R>>(
 // What a dropped future gives back that hasn't been ready, its share of the lock last. It stands apart, so that the drop of
 // one that was ready is short.
 #[inline(never)]
-fn leave<T, R: Wait, O: Owns<T, R>>(aim: Aim, owner: O, waiting: Option<Resting>)
+fn leave<T, R: Wait, O: Owns<Value = T, Runtime = R>>(aim: Aim, owner: O, waiting: Option<Resting>)
     requires { IfSome waiting (WaitsFor (O.lock_of owner).raw aim) }
 {
     if let Some(waiting) = waiting {

@@ -28,7 +28,7 @@ use words_rwlock::{Pledge, Seat};
 ///
 /// Its type keeps that its seat reads and has the lock's turn, and that the value is lent against that. Contracts see the lock,
 /// the value, and the seat (`seat`, and what it knows of itself, `view`).
-pub struct UpgradableGuard<T, R: Wait, O: Owns<T, R>> {
+pub struct UpgradableGuard<T, R: Wait, O: Owns<Value = T, Runtime = R>> {
     owner: O,
     glance: Glance<T>,
     // The seat, while what it says is lent.
@@ -36,7 +36,7 @@ pub struct UpgradableGuard<T, R: Wait, O: Owns<T, R>> {
     runtime: PhantomData<R>,
 }
 
-impl<T, R: Wait, O: Owns<T, R>> Model for UpgradableGuard<T, R, O> {
+impl<T, R: Wait, O: Owns<Value = T, Runtime = R>> Model for UpgradableGuard<T, R, O> {
     ghost use Rattle.std.specs.Prelude.{◌≡◌, []};
     ghost use Rattle.async_rwlock.specs.Guards.{Held};
     ghost use Rattle.rwlock_driver.specs.Rights.{Shows, upgradable};
@@ -48,7 +48,7 @@ impl<T, R: Wait, O: Owns<T, R>> Model for UpgradableGuard<T, R, O> {
     ghost invariant = { λ g. (g.glance.vault_id ≡ (O.lock_of g.owner).vault.vault_id) × Shows g.glance.view upgradable × (g.pledge.badge.views ≡ []) };
 }
 
-impl<T, R: Wait, O: Owns<T, R>> UpgradableGuard<T, R, O> {
+impl<T, R: Wait, O: Owns<Value = T, Runtime = R>> UpgradableGuard<T, R, O> {
     #[inline]
     pub(crate) fn new(owner: O, seat: Seat) -> UpgradableGuard<T, R, O>
         requires { Has (O.lock_of owner).raw upgradable seat }
@@ -119,7 +119,7 @@ impl<T, R: Wait, O: Owns<T, R>> UpgradableGuard<T, R, O> {
     }
 }
 
-impl<T, R: Wait, O: Owns<T, R>> Deref for UpgradableGuard<T, R, O> {
+impl<T, R: Wait, O: Owns<Value = T, Runtime = R>> Deref for UpgradableGuard<T, R, O> {
     type Target = T;
 
     ghost deref_gives = { λ guard value. value ≡ guard.value };
@@ -129,7 +129,7 @@ impl<T, R: Wait, O: Owns<T, R>> Deref for UpgradableGuard<T, R, O> {
     }
 }
 
-impl<T, R: Wait, O: Owns<T, R>> Drop for UpgradableGuard<T, R, O> {
+impl<T, R: Wait, O: Owns<Value = T, Runtime = R>> Drop for UpgradableGuard<T, R, O> {
     fn drop(self) {
         let Self {
             owner,
@@ -146,25 +146,27 @@ impl<T, R: Wait, O: Owns<T, R>> Drop for UpgradableGuard<T, R, O> {
     }
 }
 
-impl<T: fmt::Debug, R: Wait, O: Owns<T, R>> fmt::Debug for UpgradableGuard<T, R, O> {
+impl<T: fmt::Debug, R: Wait, O: Owns<Value = T, Runtime = R>> fmt::Debug
+    for UpgradableGuard<T, R, O> {
     fn fmt<W: fmt::Write>(&self, f: &mut fmt::Formatter<W>) -> fmt::Result {
         let value: &T = self;
         value.fmt(f)
     }
 }
 
-impl<T: fmt::Display, R: Wait, O: Owns<T, R>> fmt::Display for UpgradableGuard<T, R, O> {
+impl<T: fmt::Display, R: Wait, O: Owns<Value = T, Runtime = R>> fmt::Display
+    for UpgradableGuard<T, R, O> {
     fn fmt<W: fmt::Write>(&self, f: &mut fmt::Formatter<W>) -> fmt::Result {
         let value: &T = self;
         value.fmt(f)
     }
 }
 
-impl<T: Drop, R: Wait + Clock + RandomSource + AllocGlobal, O: Owns<T, R>> UpgradableGuard<
-    T,
-    R,
-    O,
-> {
+impl<
+    T: Drop,
+    R: Wait + Clock + RandomSource + AllocGlobal,
+    O: Owns<Value = T, Runtime = R>,
+> UpgradableGuard<T, R, O> {
     /// Writes once nobody else reads, blocking the calling thread until then. It takes no memory where nobody else reads now. If it is
     /// refused, which is for memory alone, the right is given up.
     /// Don't call it in an async context: it blocks the thread that runs the other tasks, and may deadlock.

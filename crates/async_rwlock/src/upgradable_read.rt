@@ -21,14 +21,14 @@ use std::time::Clock;
 /// notification that the entry had, and its count as starved.
 ///
 /// Contracts see how far it is (`stage`), and what it has at the lock meanwhile (`waiting`).
-pub struct UpgradableFuture<T, R: Wait, O: Owns<T, R>> {
+pub struct UpgradableFuture<T, R: Wait, O: Owns<Value = T, Runtime = R>> {
     stage: Stage<O>,
     // `None` before the first poll, and once it was ready.
     waiting: Option<Resting>,
     lock: PhantomData<(T, R)>,
 }
 
-impl<T, R: Wait, O: Owns<T, R>> Model for UpgradableFuture<T, R, O> {
+impl<T, R: Wait, O: Owns<Value = T, Runtime = R>> Model for UpgradableFuture<T, R, O> {
     ghost use Rattle.std.specs.Prelude.{IfSome};
     ghost use Rattle.async_rwlock.specs.Stages.{Future, WaitsAs, future};
     ghost use Rattle.rwlock_driver.specs.declared.aim.Aim.TheVariants as aims;
@@ -40,7 +40,7 @@ impl<T, R: Wait, O: Owns<T, R>> Model for UpgradableFuture<T, R, O> {
     ghost invariant = { λ l. IfSome l.waiting (WaitsAs O.lock_of aims.UpgradableRead l.stage) };
 }
 
-impl<T, R: Wait, O: Owns<T, R>> UpgradableFuture<T, R, O> {
+impl<T, R: Wait, O: Owns<Value = T, Runtime = R>> UpgradableFuture<T, R, O> {
     #[inline]
     pub(crate) fn new(stage: Stage<O>) -> UpgradableFuture<T, R, O>
         requires { is_finished stage ≡ false }
@@ -54,7 +54,7 @@ impl<T, R: Wait, O: Owns<T, R>> UpgradableFuture<T, R, O> {
     }
 }
 
-impl<T, R: Wait + Clock, O: Owns<T, R>> UpgradableFuture<T, R, O> {
+impl<T, R: Wait + Clock, O: Owns<Value = T, Runtime = R>> UpgradableFuture<T, R, O> {
     /// Polls once: ready with the guard, or pending.
     ///
     /// It is refused as [`Refusal::Memory`](crate::Refusal::Memory) if memory for its entry was refused, as
@@ -91,7 +91,7 @@ impl<T, R: Wait + Clock, O: Owns<T, R>> UpgradableFuture<T, R, O> {
     }
 }
 
-impl<T, R: Wait + Clock, O: Owns<T, R>> Polled for UpgradableFuture<T, R, O> {
+impl<T, R: Wait + Clock, O: Owns<Value = T, Runtime = R>> Polled for UpgradableFuture<T, R, O> {
     type Got = UpgradableGuard<T, R, O>;
 
     ghost use Rattle.async_rwlock.specs.Stages.{CanRefuse, IsOf, is_finished};
@@ -106,7 +106,7 @@ impl<T, R: Wait + Clock, O: Owns<T, R>> Polled for UpgradableFuture<T, R, O> {
     }
 }
 
-impl<T, R: Wait, O: Owns<T, R>> Drop for UpgradableFuture<T, R, O> {
+impl<T, R: Wait, O: Owns<Value = T, Runtime = R>> Drop for UpgradableFuture<T, R, O> {
     #[inline]
     fn drop(self) {
         let Self {
@@ -118,7 +118,7 @@ impl<T, R: Wait, O: Owns<T, R>> Drop for UpgradableFuture<T, R, O> {
     }
 }
 
-impl<T, R: Wait, O: Owns<T, R>> fmt::Debug for UpgradableFuture<T, R, O> {
+impl<T, R: Wait, O: Owns<Value = T, Runtime = R>> fmt::Debug for UpgradableFuture<T, R, O> {
     fn fmt<W: fmt::Write>(&self, f: &mut fmt::Formatter<W>) -> fmt::Result {
         if O::is_share() {
             f.write_str("UpgradableReadArc { .. }")

@@ -23,7 +23,7 @@ use std::time::Clock;
 /// notified.
 ///
 /// Contracts see how far it is (`stage`), and what it has at the lock meanwhile (`waiting`).
-pub struct UpgradeFuture<T, R: Wait, O: Owns<T, R>> {
+pub struct UpgradeFuture<T, R: Wait, O: Owns<Value = T, Runtime = R>> {
     stage: Stage<O>,
     // There before the first poll.
     begun: Option<Begun>,
@@ -32,7 +32,7 @@ pub struct UpgradeFuture<T, R: Wait, O: Owns<T, R>> {
     lock: PhantomData<(T, R)>,
 }
 
-impl<T, R: Wait, O: Owns<T, R>> Model for UpgradeFuture<T, R, O> {
+impl<T, R: Wait, O: Owns<Value = T, Runtime = R>> Model for UpgradeFuture<T, R, O> {
     ghost use Rattle.std.specs.Prelude.{IfSome};
     ghost use Rattle.async_rwlock.specs.Stages.{Future, IsUpgrading, WaitsAs, future};
     ghost use Rattle.rwlock_driver.specs.declared.aim.Aim.TheVariants as aims;
@@ -44,7 +44,7 @@ impl<T, R: Wait, O: Owns<T, R>> Model for UpgradeFuture<T, R, O> {
     ghost invariant = { λ l. IfSome l.waiting (WaitsAs O.lock_of aims.Upgrade l.stage) × IsUpgrading O.lock_of l.stage l.begun l.waiting };
 }
 
-impl<T, R: Wait, O: Owns<T, R>> UpgradeFuture<T, R, O> {
+impl<T, R: Wait, O: Owns<Value = T, Runtime = R>> UpgradeFuture<T, R, O> {
     #[inline]
     pub(crate) fn new(owner: O, begun: Begun) -> UpgradeFuture<T, R, O>
         requires { HasBegun (O.lock_of owner).raw begun }
@@ -59,7 +59,7 @@ impl<T, R: Wait, O: Owns<T, R>> UpgradeFuture<T, R, O> {
     }
 }
 
-impl<T, R: Wait + Clock, O: Owns<T, R>> UpgradeFuture<T, R, O> {
+impl<T, R: Wait + Clock, O: Owns<Value = T, Runtime = R>> UpgradeFuture<T, R, O> {
     /// Polls once: ready with the guard, or pending.
     ///
     /// It is refused as [`Refusal::Memory`](crate::Refusal::Memory) if memory for its entry was refused. Then it keeps the right to be
@@ -95,7 +95,7 @@ impl<T, R: Wait + Clock, O: Owns<T, R>> UpgradeFuture<T, R, O> {
     }
 }
 
-impl<T, R: Wait + Clock, O: Owns<T, R>> Polled for UpgradeFuture<T, R, O> {
+impl<T, R: Wait + Clock, O: Owns<Value = T, Runtime = R>> Polled for UpgradeFuture<T, R, O> {
     type Got = WriteGuard<T, R, O>;
 
     ghost use Rattle.async_rwlock.specs.Stages.{CanRefuse, IsOf, is_finished};
@@ -110,7 +110,7 @@ impl<T, R: Wait + Clock, O: Owns<T, R>> Polled for UpgradeFuture<T, R, O> {
     }
 }
 
-impl<T, R: Wait, O: Owns<T, R>> Drop for UpgradeFuture<T, R, O> {
+impl<T, R: Wait, O: Owns<Value = T, Runtime = R>> Drop for UpgradeFuture<T, R, O> {
     #[inline]
     fn drop(self) {
         let Self {
@@ -126,7 +126,7 @@ impl<T, R: Wait, O: Owns<T, R>> Drop for UpgradeFuture<T, R, O> {
     }
 }
 
-impl<T, R: Wait, O: Owns<T, R>> fmt::Debug for UpgradeFuture<T, R, O> {
+impl<T, R: Wait, O: Owns<Value = T, Runtime = R>> fmt::Debug for UpgradeFuture<T, R, O> {
     fn fmt<W: fmt::Write>(&self, f: &mut fmt::Formatter<W>) -> fmt::Result {
         if O::is_share() {
             f.write_str("ArcUpgrade")

@@ -22,14 +22,14 @@ use std::time::Clock;
 /// as starved, and, once it waits for readers, the right to be next, with readers and writers notified.
 ///
 /// Contracts see how far it is (`stage`), and what it has at the lock meanwhile (`waiting`).
-pub struct WriteFuture<T, R: Wait, O: Owns<T, R>> {
+pub struct WriteFuture<T, R: Wait, O: Owns<Value = T, Runtime = R>> {
     stage: Stage<O>,
     // `None` before the first poll, and once it was ready.
     waiting: Option<Resting>,
     lock: PhantomData<(T, R)>,
 }
 
-impl<T, R: Wait, O: Owns<T, R>> Model for WriteFuture<T, R, O> {
+impl<T, R: Wait, O: Owns<Value = T, Runtime = R>> Model for WriteFuture<T, R, O> {
     ghost use Rattle.std.specs.Prelude.{IfSome};
     ghost use Rattle.async_rwlock.specs.Stages.{Future, WaitsAs, future};
     ghost use Rattle.rwlock_driver.specs.declared.aim.Aim.TheVariants as aims;
@@ -41,7 +41,7 @@ impl<T, R: Wait, O: Owns<T, R>> Model for WriteFuture<T, R, O> {
     ghost invariant = { λ l. IfSome l.waiting (WaitsAs O.lock_of aims.Write l.stage) };
 }
 
-impl<T, R: Wait, O: Owns<T, R>> WriteFuture<T, R, O> {
+impl<T, R: Wait, O: Owns<Value = T, Runtime = R>> WriteFuture<T, R, O> {
     #[inline]
     pub(crate) fn new(stage: Stage<O>) -> WriteFuture<T, R, O>
         requires { is_finished stage ≡ false }
@@ -55,7 +55,7 @@ impl<T, R: Wait, O: Owns<T, R>> WriteFuture<T, R, O> {
     }
 }
 
-impl<T, R: Wait + Clock, O: Owns<T, R>> WriteFuture<T, R, O> {
+impl<T, R: Wait + Clock, O: Owns<Value = T, Runtime = R>> WriteFuture<T, R, O> {
     /// Polls once: ready with the guard, or pending.
     ///
     /// It is refused as [`Refusal::Memory`](crate::Refusal::Memory) if memory for its entry was refused, and as
@@ -86,7 +86,7 @@ impl<T, R: Wait + Clock, O: Owns<T, R>> WriteFuture<T, R, O> {
     }
 }
 
-impl<T, R: Wait + Clock, O: Owns<T, R>> Polled for WriteFuture<T, R, O> {
+impl<T, R: Wait + Clock, O: Owns<Value = T, Runtime = R>> Polled for WriteFuture<T, R, O> {
     type Got = WriteGuard<T, R, O>;
 
     ghost use Rattle.async_rwlock.specs.Stages.{CanRefuse, IsOf, is_finished};
@@ -101,7 +101,7 @@ impl<T, R: Wait + Clock, O: Owns<T, R>> Polled for WriteFuture<T, R, O> {
     }
 }
 
-impl<T, R: Wait, O: Owns<T, R>> Drop for WriteFuture<T, R, O> {
+impl<T, R: Wait, O: Owns<Value = T, Runtime = R>> Drop for WriteFuture<T, R, O> {
     #[inline]
     fn drop(self) {
         let Self {
@@ -113,7 +113,7 @@ impl<T, R: Wait, O: Owns<T, R>> Drop for WriteFuture<T, R, O> {
     }
 }
 
-impl<T, R: Wait, O: Owns<T, R>> fmt::Debug for WriteFuture<T, R, O> {
+impl<T, R: Wait, O: Owns<Value = T, Runtime = R>> fmt::Debug for WriteFuture<T, R, O> {
     fn fmt<W: fmt::Write>(&self, f: &mut fmt::Formatter<W>) -> fmt::Result {
         if O::is_share() {
             f.write_str("WriteArc { .. }")

@@ -19,7 +19,7 @@ use words_rwlock::{Pledge, Seat};
 ///
 /// Its type keeps that its seat writes, and that the value is lent against that. Contracts see the lock, the value, and the seat
 /// (`seat`, and what it knows of itself, `view`).
-pub struct WriteGuard<T, R: Wait, O: Owns<T, R>> {
+pub struct WriteGuard<T, R: Wait, O: Owns<Value = T, Runtime = R>> {
     pub(crate) owner: O,
     pub(crate) grip: Grip<T>,
     // The seat, while what it says is lent.
@@ -27,7 +27,7 @@ pub struct WriteGuard<T, R: Wait, O: Owns<T, R>> {
     runtime: PhantomData<R>,
 }
 
-impl<T, R: Wait, O: Owns<T, R>> Model for WriteGuard<T, R, O> {
+impl<T, R: Wait, O: Owns<Value = T, Runtime = R>> Model for WriteGuard<T, R, O> {
     ghost use Rattle.std.specs.Prelude.{◌≡◌, []};
     ghost use Rattle.async_rwlock.specs.Guards.{Held};
     ghost use Rattle.rwlock_driver.specs.Rights.{Shows, writer};
@@ -39,7 +39,7 @@ impl<T, R: Wait, O: Owns<T, R>> Model for WriteGuard<T, R, O> {
     ghost invariant = { λ g. (g.grip.vault_id ≡ (O.lock_of g.owner).vault.vault_id) × Shows g.grip.view writer × (g.pledge.badge.views ≡ []) };
 }
 
-impl<T, R: Wait, O: Owns<T, R>> WriteGuard<T, R, O> {
+impl<T, R: Wait, O: Owns<Value = T, Runtime = R>> WriteGuard<T, R, O> {
     #[inline]
     pub(crate) fn new(owner: O, seat: Seat) -> WriteGuard<T, R, O>
         requires { Has (O.lock_of owner).raw writer seat }
@@ -97,7 +97,7 @@ impl<T, R: Wait, O: Owns<T, R>> WriteGuard<T, R, O> {
     }
 }
 
-impl<T, R: Wait, O: Owns<T, R>> Deref for WriteGuard<T, R, O> {
+impl<T, R: Wait, O: Owns<Value = T, Runtime = R>> Deref for WriteGuard<T, R, O> {
     type Target = T;
 
     ghost deref_gives = { λ guard value. value ≡ guard.value };
@@ -107,7 +107,7 @@ impl<T, R: Wait, O: Owns<T, R>> Deref for WriteGuard<T, R, O> {
     }
 }
 
-impl<T, R: Wait, O: Owns<T, R>> Drop for WriteGuard<T, R, O> {
+impl<T, R: Wait, O: Owns<Value = T, Runtime = R>> Drop for WriteGuard<T, R, O> {
     fn drop(self) {
         let Self {
             owner,
@@ -124,14 +124,15 @@ impl<T, R: Wait, O: Owns<T, R>> Drop for WriteGuard<T, R, O> {
     }
 }
 
-impl<T: fmt::Debug, R: Wait, O: Owns<T, R>> fmt::Debug for WriteGuard<T, R, O> {
+impl<T: fmt::Debug, R: Wait, O: Owns<Value = T, Runtime = R>> fmt::Debug for WriteGuard<T, R, O> {
     fn fmt<W: fmt::Write>(&self, f: &mut fmt::Formatter<W>) -> fmt::Result {
         let value: &T = self;
         value.fmt(f)
     }
 }
 
-impl<T: fmt::Display, R: Wait, O: Owns<T, R>> fmt::Display for WriteGuard<T, R, O> {
+impl<T: fmt::Display, R: Wait, O: Owns<Value = T, Runtime = R>> fmt::Display
+    for WriteGuard<T, R, O> {
     fn fmt<W: fmt::Write>(&self, f: &mut fmt::Formatter<W>) -> fmt::Result {
         let value: &T = self;
         value.fmt(f)

@@ -22,7 +22,7 @@ use std::{fmt, mem};
 ///
 /// Contracts see how far it is (`stage`), for how many permits it is (`permits`), and what it has at the semaphore meanwhile
 /// (`waiting`).
-pub struct AcquireFuture<R: Wait, O: Owns<R>> {
+pub struct AcquireFuture<R: Wait, O: Owns<Runtime = R>> {
     stage: Stage<O>,
     permits: u64,
     // What it has there while it waits, and `None` else.
@@ -30,7 +30,7 @@ pub struct AcquireFuture<R: Wait, O: Owns<R>> {
     runtime: PhantomData<R>,
 }
 
-impl<R: Wait, O: Owns<R>> Model for AcquireFuture<R, O> {
+impl<R: Wait, O: Owns<Runtime = R>> Model for AcquireFuture<R, O> {
     ghost use Rattle.std.specs.Prelude.{IfSome};
     ghost use Rattle.async_semaphore.specs.Stages.{Future, WaitsAs, future};
 
@@ -41,7 +41,7 @@ impl<R: Wait, O: Owns<R>> Model for AcquireFuture<R, O> {
     ghost invariant = { λ f. IfSome f.waiting (WaitsAs O.semaphore_of f.stage f.permits) };
 }
 
-impl<R: Wait, O: Owns<R>> AcquireFuture<R, O> {
+impl<R: Wait, O: Owns<Runtime = R>> AcquireFuture<R, O> {
     #[inline]
     pub(crate) fn new(stage: Stage<O>, permits: u64) -> AcquireFuture<R, O>
         requires { is_finished stage ≡ false }
@@ -63,7 +63,7 @@ impl<R: Wait, O: Owns<R>> AcquireFuture<R, O> {
     }
 }
 
-impl<R: Wait + Clock, O: Owns<R>> AcquireFuture<R, O> {
+impl<R: Wait + Clock, O: Owns<Runtime = R>> AcquireFuture<R, O> {
     /// Polls once: ready with the guard, or pending.
     ///
     /// It is refused as [`Refusal::Memory`] if memory for its entry was refused, or if no share of the semaphore could be had. Then
@@ -144,7 +144,7 @@ impl<R: Wait + Clock, O: Owns<R>> AcquireFuture<R, O> {
     }
 }
 
-impl<R: Wait + Clock, O: Owns<R>> Polled for AcquireFuture<R, O> {
+impl<R: Wait + Clock, O: Owns<Runtime = R>> Polled for AcquireFuture<R, O> {
     type Got = PermitGuard<R, O>;
 
     ghost use Rattle.async_semaphore.specs.Stages.{CanRefuse, Gives, is_finished};
@@ -158,7 +158,7 @@ impl<R: Wait + Clock, O: Owns<R>> Polled for AcquireFuture<R, O> {
     }
 }
 
-impl<R: Wait, O: Owns<R>> Drop for AcquireFuture<R, O> {
+impl<R: Wait, O: Owns<Runtime = R>> Drop for AcquireFuture<R, O> {
     #[inline]
     fn drop(self) {
         let Self {
@@ -171,7 +171,7 @@ impl<R: Wait, O: Owns<R>> Drop for AcquireFuture<R, O> {
     }
 }
 
-impl<R: Wait, O: Owns<R>> fmt::Debug for AcquireFuture<R, O> {
+impl<R: Wait, O: Owns<Runtime = R>> fmt::Debug for AcquireFuture<R, O> {
     fn fmt<W: fmt::Write>(&self, f: &mut fmt::Formatter<W>) -> fmt::Result {
         if O::is_share() {
             f.write_str("AcquireArc { .. }")

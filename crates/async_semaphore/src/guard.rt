@@ -15,14 +15,14 @@ use words_semaphore::Seat;
 ///
 /// Its type keeps that its seat has exactly as many permits as it says, so a drop gives back neither more nor fewer. Contracts see
 /// the semaphore, and how many permits it has.
-pub struct PermitGuard<R: Wait, O: Owns<R>> {
+pub struct PermitGuard<R: Wait, O: Owns<Runtime = R>> {
     owner: O,
     seat: Seat,
     permits: u64,
     runtime: PhantomData<R>,
 }
 
-impl<R: Wait, O: Owns<R>> Model for PermitGuard<R, O> {
+impl<R: Wait, O: Owns<Runtime = R>> Model for PermitGuard<R, O> {
     ghost use Rattle.async_semaphore.specs.Guards.{Held};
     ghost use Rattle.semaphore_driver.specs.Semaphores.{Has};
 
@@ -33,7 +33,7 @@ impl<R: Wait, O: Owns<R>> Model for PermitGuard<R, O> {
     ghost invariant = { λ g. Has (O.semaphore_of g.owner).raw g.permits g.seat };
 }
 
-impl<R: Wait, O: Owns<R>> PermitGuard<R, O> {
+impl<R: Wait, O: Owns<Runtime = R>> PermitGuard<R, O> {
     #[inline]
     pub(crate) fn new(owner: O, seat: Seat, permits: u64) -> PermitGuard<R, O>
         requires { Has (O.semaphore_of owner).raw permits seat }
@@ -73,7 +73,7 @@ impl<R: Wait, O: Owns<R>> PermitGuard<R, O> {
     }
 }
 
-impl<R: Wait, O: Owns<R>> Drop for PermitGuard<R, O> {
+impl<R: Wait, O: Owns<Runtime = R>> Drop for PermitGuard<R, O> {
     // The call that gives the permits back waits for nobody: after one that may, the compiled code looks at a flag.
     #[inline]
     fn drop(self) {
@@ -92,7 +92,7 @@ impl<R: Wait, O: Owns<R>> Drop for PermitGuard<R, O> {
     }
 }
 
-impl<R: Wait, O: Owns<R>> fmt::Debug for PermitGuard<R, O> {
+impl<R: Wait, O: Owns<Runtime = R>> fmt::Debug for PermitGuard<R, O> {
     fn fmt<W: fmt::Write>(&self, f: &mut fmt::Formatter<W>) -> fmt::Result {
         let name = if O::is_share() {
             "SemaphoreGuardArc"

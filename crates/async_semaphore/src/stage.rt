@@ -29,7 +29,7 @@ pub enum Stage<O> {
 
 /// How far a future is that is new: it waits, if the semaphore could be had.
 #[inline]
-pub(crate) fn first<R, O: Owns<R>>(share: Option<O>) -> Stage<O>
+pub(crate) fn first<R, O: Owns<Runtime = R>>(share: Option<O>) -> Stage<O>
     ensures new { is_finished result ≡ false }
     ensures semaphore { (s : Semaphore R) → IfSome share (λ owner. s ≡ O.semaphore_of owner) → IsFor O.semaphore_of result s }
 {
@@ -41,7 +41,7 @@ pub(crate) fn first<R, O: Owns<R>>(share: Option<O>) -> Stage<O>
 
 /// A first try for the permits, by who has the semaphore, if that is still here.
 #[inline]
-pub(crate) fn take<R, O: Owns<R>>(stage: &Stage<O>, permits: u64) -> Option<Tried>
+pub(crate) fn take<R, O: Owns<Runtime = R>>(stage: &Stage<O>, permits: u64) -> Option<Tried>
     ensures tried { IfSome result (OnTriedAt O.semaphore_of stage.now permits) }
     ensures none { IfNone result (HasNoShare stage.now) }
 {
@@ -53,7 +53,7 @@ pub(crate) fn take<R, O: Owns<R>>(stage: &Stage<O>, permits: u64) -> Option<Trie
 
 /// The guard of a future that got its permits, with who has the semaphore.
 #[inline]
-pub(crate) fn into_guard<R: Wait, O: Owns<R>>(
+pub(crate) fn into_guard<R: Wait, O: Owns<Runtime = R>>(
     stage: Stage<O>,
     seat: Seat,
     permits: u64,
@@ -80,7 +80,7 @@ pub(crate) enum FirstPoll {
 /// The rest of a first poll that didn't get its permits at once, by who has the semaphore. It stands apart, as the next one does,
 /// since what it takes room for would be cleared at each poll that is ready without it.
 #[inline(never)]
-pub(crate) fn poll_first<R: Wait + Clock, O: Owns<R>>(
+pub(crate) fn poll_first<R: Wait + Clock, O: Owns<Runtime = R>>(
     stage: &Stage<O>,
     permits: u64,
     tried: Tried,
@@ -122,7 +122,7 @@ pub(crate) fn poll_first<R: Wait + Clock, O: Owns<R>>(
 
 /// A poll of what waits, by who has the semaphore.
 #[inline(never)]
-pub(crate) fn poll_waiting<R: Wait + Clock, O: Owns<R>>(
+pub(crate) fn poll_waiting<R: Wait + Clock, O: Owns<Runtime = R>>(
     stage: &Stage<O>,
     permits: u64,
     waiting: &mut Option<Waiting>,
@@ -144,7 +144,7 @@ pub(crate) fn poll_waiting<R: Wait + Clock, O: Owns<R>>(
 
 /// What a dropped future gives back.
 #[inline]
-pub(crate) fn drop_stage<R: Wait, O: Owns<R>>(
+pub(crate) fn drop_stage<R: Wait, O: Owns<Runtime = R>>(
     stage: Stage<O>,
     permits: u64,
     waiting: Option<Waiting>,
@@ -160,7 +160,7 @@ pub(crate) fn drop_stage<R: Wait, O: Owns<R>>(
 // What a dropped future gives back that hasn't been ready, its share of the semaphore last. It stands apart, so that the drop
 // of one that was ready is short.
 #[inline(never)]
-fn leave<R: Wait, O: Owns<R>>(owner: O, permits: u64, waiting: Option<Waiting>)
+fn leave<R: Wait, O: Owns<Runtime = R>>(owner: O, permits: u64, waiting: Option<Waiting>)
     requires { IfSome waiting (WaitsFor (O.semaphore_of owner).raw permits) }
 {
     if let Some(waiting) = waiting {

@@ -11,7 +11,7 @@ use std::sync::{Arc, Wait};
 use std::time::Clock;
 
 /// A lock of a number, borrowed or owned.
-pub trait Form<R: Wait>: Owns<u64, R> {
+pub trait Form<R: Wait>: Owns<Value = u64, Runtime = R> {
     fn read_now(&self) -> Option<ReadGuard<u64, R, Self>>;
 
     fn upgradable_now(&self) -> Option<UpgradableGuard<u64, R, Self>>;

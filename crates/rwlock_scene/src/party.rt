@@ -12,7 +12,7 @@ use std::time::Clock;
 
 /// What a party has.
 #[derive(Drop)]
-pub enum Party<R: Wait, O: Owns<u64, R>> {
+pub enum Party<R: Wait, O: Owns<Value = u64, Runtime = R>> {
     Nothing,
     Reads(ReadGuard<u64, R, O>),
     Upgradable(UpgradableGuard<u64, R, O>),
@@ -78,7 +78,7 @@ pub enum Answer {
     NotPossible,
 }
 
-fn poll_read<R: Wait + Clock, O: Owns<u64, R>>(
+fn poll_read<R: Wait + Clock, O: Owns<Value = u64, Runtime = R>>(
     mut future: Settled<ReadFuture<u64, R, O>>,
     task: &MockTask,
 ) -> (Party<R, O>, Answer) {
@@ -92,7 +92,7 @@ fn poll_read<R: Wait + Clock, O: Owns<u64, R>>(
     }
 }
 
-fn poll_upgradable<R: Wait + Clock, O: Owns<u64, R>>(
+fn poll_upgradable<R: Wait + Clock, O: Owns<Value = u64, Runtime = R>>(
     mut future: Settled<UpgradableFuture<u64, R, O>>,
     task: &MockTask,
 ) -> (Party<R, O>, Answer) {
@@ -106,7 +106,7 @@ fn poll_upgradable<R: Wait + Clock, O: Owns<u64, R>>(
     }
 }
 
-fn poll_write<R: Wait + Clock, O: Owns<u64, R>>(
+fn poll_write<R: Wait + Clock, O: Owns<Value = u64, Runtime = R>>(
     mut future: Settled<WriteFuture<u64, R, O>>,
     task: &MockTask,
 ) -> (Party<R, O>, Answer) {
@@ -120,7 +120,7 @@ fn poll_write<R: Wait + Clock, O: Owns<u64, R>>(
     }
 }
 
-fn poll_upgrade<R: Wait + Clock, O: Owns<u64, R>>(
+fn poll_upgrade<R: Wait + Clock, O: Owns<Value = u64, Runtime = R>>(
     mut future: Settled<UpgradeFuture<u64, R, O>>,
     task: &MockTask,
 ) -> (Party<R, O>, Answer) {
@@ -134,24 +134,28 @@ fn poll_upgrade<R: Wait + Clock, O: Owns<u64, R>>(
     }
 }
 
-fn reads<R: Wait, O: Owns<u64, R>>(guard: ReadGuard<u64, R, O>) -> (Party<R, O>, Answer) {
+fn reads<R: Wait, O: Owns<Value = u64, Runtime = R>>(
+    guard: ReadGuard<u64, R, O>,
+) -> (Party<R, O>, Answer) {
     let number = *guard;
     (Party::Reads(guard), Answer::Granted(number))
 }
 
-fn reads_upgradably<R: Wait, O: Owns<u64, R>>(
+fn reads_upgradably<R: Wait, O: Owns<Value = u64, Runtime = R>>(
     guard: UpgradableGuard<u64, R, O>,
 ) -> (Party<R, O>, Answer) {
     let number = *guard;
     (Party::Upgradable(guard), Answer::Granted(number))
 }
 
-fn writes<R: Wait, O: Owns<u64, R>>(guard: WriteGuard<u64, R, O>) -> (Party<R, O>, Answer) {
+fn writes<R: Wait, O: Owns<Value = u64, Runtime = R>>(
+    guard: WriteGuard<u64, R, O>,
+) -> (Party<R, O>, Answer) {
     let number = *guard;
     (Party::Writes(guard), Answer::Granted(number))
 }
 
-fn refused<R: Wait, O: Owns<u64, R>>(refusal: Refusal) -> (Party<R, O>, Answer) {
+fn refused<R: Wait, O: Owns<Value = u64, Runtime = R>>(refusal: Refusal) -> (Party<R, O>, Answer) {
     (Party::Nothing, Answer::Refused(refusal))
 }
 

@@ -99,7 +99,7 @@ impl Tasks {
 }
 
 /// A lock with those who want it.
-pub struct Scene<R: Wait, O: Owns<u64, R>> {
+pub struct Scene<R: Wait, O: Owns<Value = u64, Runtime = R>> {
     lock: O,
     one: Party<R, O>,
     two: Party<R, O>,
@@ -108,7 +108,7 @@ pub struct Scene<R: Wait, O: Owns<u64, R>> {
 }
 
 // By hand, as of `Tasks`.
-impl<R: Wait, O: Owns<u64, R>> Drop for Scene<R, O> {
+impl<R: Wait, O: Owns<Value = u64, Runtime = R>> Drop for Scene<R, O> {
     fn drop(self) {
         let Scene {
             lock: _,

@@ -16,7 +16,7 @@ fn read_turn<R, O>(
 ) -> Turn<ReadGuard<u64, R, O>>
 where
     R: Wait + Clock,
-    O: Owns<u64, R>,
+    O: Owns<Value = u64, Runtime = R>,
 {
     task.enter(|cx| future.poll(cx))
 }
@@ -43,7 +43,7 @@ fn upgradable_turn<R, O>(
 ) -> Turn<UpgradableGuard<u64, R, O>>
 where
     R: Wait + Clock,
-    O: Owns<u64, R>,
+    O: Owns<Value = u64, Runtime = R>,
 {
     task.enter(|cx| future.poll(cx))
 }
@@ -70,7 +70,7 @@ fn write_turn<R, O>(
 ) -> Turn<WriteGuard<u64, R, O>>
 where
     R: Wait + Clock,
-    O: Owns<u64, R>,
+    O: Owns<Value = u64, Runtime = R>,
 {
     task.enter(|cx| future.poll(cx))
 }
@@ -97,7 +97,7 @@ fn upgrade_turn<R, O>(
 ) -> Turn<WriteGuard<u64, R, O>>
 where
     R: Wait + Clock,
-    O: Owns<u64, R>,
+    O: Owns<Value = u64, Runtime = R>,
 {
     task.enter(|cx| future.poll(cx))
 }

@@ -11,7 +11,7 @@ use std::sync::{Arc, Wait};
 use std::time::Clock;
 
 /// A semaphore, borrowed or owned.
-pub(crate) trait Form<R: Wait>: Owns<R> {
+pub(crate) trait Form<R: Wait>: Owns<Runtime = R> {
     fn take(&self, permits: usize) -> Option<PermitGuard<R, Self>>;
 
     fn ask(&self, permits: usize) -> AcquireFuture<R, Self>;

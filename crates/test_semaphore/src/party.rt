@@ -12,7 +12,7 @@ use std::time::Clock;
 
 /// What a party has.
 #[derive(Drop)]
-pub(crate) enum Party<R: Wait, O: Owns<R>> {
+pub(crate) enum Party<R: Wait, O: Owns<Runtime = R>> {
     Nothing,
     Holds(PermitGuard<R, O>),
     Waits(Settled<AcquireFuture<R, O>>),
@@ -61,7 +61,7 @@ pub(crate) enum Answer {
     NotPossible,
 }
 
-fn poll<R: Wait + Clock, O: Owns<R>>(
+fn poll<R: Wait + Clock, O: Owns<Runtime = R>>(
     mut future: Settled<AcquireFuture<R, O>>,
     task: &MockTask,
 ) -> (Party<R, O>, Answer) {
@@ -75,7 +75,7 @@ fn poll<R: Wait + Clock, O: Owns<R>>(
     }
 }
 
-fn poll_and_keep<R: Wait + Clock, O: Owns<R>>(
+fn poll_and_keep<R: Wait + Clock, O: Owns<Runtime = R>>(
     mut future: Settled<AcquireFuture<R, O>>,
     task: &MockTask,
 ) -> (Party<R, O>, Answer) {
@@ -90,7 +90,7 @@ fn poll_and_keep<R: Wait + Clock, O: Owns<R>>(
 }
 
 // A future that was ready is polled again, beside its guard.
-fn poll_again<R: Wait + Clock, O: Owns<R>>(
+fn poll_again<R: Wait + Clock, O: Owns<Runtime = R>>(
     mut future: Settled<AcquireFuture<R, O>>,
     guard: PermitGuard<R, O>,
     task: &MockTask,
@@ -103,7 +103,7 @@ fn poll_again<R: Wait + Clock, O: Owns<R>>(
     (Party::Keeps(future, guard), answer)
 }
 
-fn holds<R: Wait, O: Owns<R>>(guard: PermitGuard<R, O>) -> (Party<R, O>, Answer) {
+fn holds<R: Wait, O: Owns<Runtime = R>>(guard: PermitGuard<R, O>) -> (Party<R, O>, Answer) {
     let permits = guard.permits();
     (Party::Holds(guard), Answer::Granted(permits))
 }

@@ -100,7 +100,7 @@ impl Tasks {
 }
 
 /// A semaphore with those who want its permits.
-struct Scene<R: Wait, O: Owns<R>> {
+struct Scene<R: Wait, O: Owns<Runtime = R>> {
     semaphore: O,
     one: Party<R, O>,
     two: Party<R, O>,
@@ -109,7 +109,7 @@ struct Scene<R: Wait, O: Owns<R>> {
 }
 
 // By hand, as of `Tasks`.
-impl<R: Wait, O: Owns<R>> Drop for Scene<R, O> {
+impl<R: Wait, O: Owns<Runtime = R>> Drop for Scene<R, O> {
     fn drop(self) {
         let Scene {
             semaphore: _,
