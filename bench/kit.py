@@ -1,0 +1,57 @@
+"""The toolchain's own command `rt` as a module, for the programs of this folder that call the prover as `rt ci` does."""
+
+import importlib.machinery
+import importlib.util
+import os
+import shutil
+import sys
+
+sys.dont_write_bytecode = True
+
+
+def load(name, path):
+    loader = importlib.machinery.SourceFileLoader(name, path)
+    made = importlib.util.module_from_spec(importlib.util.spec_from_loader(name, loader))
+    sys.modules[name] = made
+    loader.exec_module(made)
+    return made
+
+
+COMMAND = os.path.realpath(shutil.which('rt') or sys.exit('rt is not on the PATH'))
+FOLDER = os.path.dirname(os.path.dirname(COMMAND))
+rt = load('rt_command', COMMAND)
+bodies = load('rt_bodies', f'{FOLDER}/bin/rt-plant-bodies')
+
+
+def crates_of(root):
+    """Returns the crates of the repository at root by name, lowest first, as `rt ci` reads them. The work goes on in that folder."""
+    os.chdir(root)
+    rt.Crate.cuts_libraries = True
+    rt.Crate.allowed = rt.handles_of(root)
+    for name in (rt.rtlib.ALLOW_C, rt.rtlib.BACKEND, 'RT_SECONDS'):
+        os.environ.pop(name, None)
+    rt.rtlib.guarded()
+    return {crate.name: crate for crate in rt.crates_of(root)}
+
+
+def place_library(crate, kept, jobs):
+    """Lays the built library of a crate in its folder: the one that an earlier run on this machine proved, or a new one. Those below it are in place."""
+    os.makedirs(f'{crate.folder}/out', exist_ok=True)
+    key = kept.key(crate)
+    if not kept.give(crate, False, key):
+        if crate.ci(['--jobs', str(jobs)], False):
+            sys.exit(f'{crate.name} is not proved')
+        kept.is_built(crate)
+        kept.keep(crate, False, key)
+    kept.is_built(crate)
+    return key
+
+
+def try_alone(words):
+    """Does what `rt try` does, without the check that it starts beside the program, which only says whether a check would refuse a name."""
+    rt.rtlib.RATTLE = 'true'
+    return rt.main(['try', *words])
+
+
+if __name__ == '__main__':
+    sys.exit(try_alone(sys.argv[1:]))
