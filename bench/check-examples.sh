@@ -40,7 +40,7 @@ if shown not in readme:
     wrong.append(f"README.md: the first example is not {FIRST}")
 for line in unnamed(readme.replace(shown, "", 1)):
     wrong.append(f"README.md: a block of Rust that no file is named for: {line}")
-for page in sorted(glob.glob("docs/*.md") + glob.glob("crates/*/README.md")):
+for page in sorted(glob.glob("docs/*.md") + glob.glob("crates/*/README.md") + glob.glob("tests/*/README.md")):
     text = open(page).read()
     made = text
     for path in re.findall(r"<!-- (crates/\S+\.rt) -->\n", text):

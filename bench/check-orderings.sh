@@ -4,7 +4,7 @@
 # Run it at the top of the repository: bench/check-orderings.sh
 set -eu
 
-if grep -rnE 'Ordering::(Relaxed|Acquire|Release|AcqRel)' crates/*/src; then
+if grep -rnE 'Ordering::(Relaxed|Acquire|Release|AcqRel)' crates/*/src tests; then
     echo "a weaker ordering than SeqCst" >&2
     exit 1
 fi

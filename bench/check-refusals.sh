@@ -3,7 +3,7 @@
 # otherwise, where a call is never refused, or where the numbers below don't fit the calls any more.
 #
 # Which allocation of a run is whose doesn't depend on threads here. The runs are of four kinds:
-# - calls: those of crates/refused_memory that no thread is needed for, with each of their allocations refused in turn. They find what
+# - calls: those of tests/refused_memory that no thread is needed for, with each of their allocations refused in turn. They find what
 #   they find with ample memory, and each call that takes memory is refused once at least, by its name;
 # - held: a blocking call that would wait for ever, with the first and the last allocation refused that it makes before it waits. With
 #   the one after that refused it does wait;
@@ -11,7 +11,7 @@
 #   (A script takes memory for its text and for its Worlds, and for nothing else.)
 # - threads: `lockrun threads 2`, of which one worker holds the lock while the other comes, with each allocation refused in turn.
 #
-# Each run is a test of a copy of crates/refused_memory, which `rt try --test` builds once, and runs in a process of its own. Of each of
+# Each run is a test of a copy of tests/refused_memory, which `rt try --test` builds once, and runs in a process of its own. Of each of
 # them the same allocation is refused: so a test throws some away first. Nothing is proved.
 #
 # Run it at the top of the repository, with `rt` on the PATH: bench/check-refusals.sh. It takes a minute, or two where other work is
@@ -20,7 +20,6 @@ set -eu
 
 python3 - <<'PYTHON'
 import re
-import shutil
 import subprocess
 import sys
 import tempfile
@@ -97,9 +96,8 @@ def tests():
 
 def copy_to(top):
     """Copies the repository, in which the crate refused_memory has the tests, and stands on all that they need."""
-    shutil.copytree("crates", f"{top}/crates", ignore=shutil.ignore_patterns("out"))
-    shutil.copy("HANDLES", top)
-    lines = text_of("crates.txt").splitlines()
+    subprocess.run(["bench/run-tests.py", "--into", top, "refused_memory"], check=True)
+    lines = text_of(f"{top}/crates.txt").splitlines()
     lockrun = next(line.split(":")[1] for line in lines if line.startswith("lockrun:"))
     with open(f"{top}/crates.txt", "w") as file:
         for line in lines:
@@ -143,7 +141,7 @@ def amiss(name, number, line, wanted):
 def judge_calls():
     first, last = CALLS
     beside = ("two threads:", "waits:")
-    found = [line for line in text_of("crates/refused_memory/stdout").splitlines() if not line.startswith(beside)]
+    found = [line for line in text_of("tests/refused_memory/stdout").splitlines() if not line.startswith(beside)]
     told = {}
     for number in range(first - 1, last + 1):
         lines = seen("calls", number)

@@ -1,33 +1,31 @@
 #!/bin/sh
-# Compares what the built `lockrun script` prints for each scripts/NAME.script with scripts/NAME.answers, and
-# its status with 0; the same texts have to stand in the tests' rows. It ends at the first difference, with
-# status 1. It builds nothing.
+# Looks that each scripts/NAME.script with its scripts/NAME.answers stands in the rows of the tests, word for word: these run them.
 #
-# Run it at the top of the repository, after `rt run` in crates/lockrun has built the program:
-# bench/check-rows.sh [PROGRAM]. PROGRAM is crates/lockrun/out/lockrun if left out.
+# With a built `lockrun` as its argument it compares what that prints for each script with the answers too, and its status with 0. It
+# ends at the first difference, with status 1.
+#
+# Run it at the top of the repository: bench/check-rows.sh [PROGRAM]. `rt run` in crates/lockrun makes crates/lockrun/out/lockrun.
 set -eu
 
-program=${1:-crates/lockrun/out/lockrun}
-if [ ! -x "$program" ]; then
-    echo "there is no program $program: run 'rt run' in crates/lockrun first" >&2
-    exit 2
-fi
-rows='crates/lockrun_rows/src/rows.rt crates/lockrun_rows/src/more_rows.rt'
+program=${1:-}
+rows='tests/lockrun_rows/rows.rattle tests/lockrun_rows/more_rows.rattle'
 work=$(mktemp -d)
 trap 'rm -rf "$work"' EXIT
 
 count=0
 for script in scripts/*.script; do
     answers=${script%.script}.answers
-    status=0
-    "$program" script <"$script" >"$work/printed" || status=$?
-    if [ "$status" != 0 ]; then
-        echo "$script: the status is $status" >&2
-        exit 1
-    fi
-    if ! diff "$answers" "$work/printed" >&2; then
-        echo "$script: other answers" >&2
-        exit 1
+    if [ -n "$program" ]; then
+        status=0
+        "$program" script <"$script" >"$work/printed" || status=$?
+        if [ "$status" != 0 ]; then
+            echo "$script: the status is $status" >&2
+            exit 1
+        fi
+        if ! diff "$answers" "$work/printed" >&2; then
+            echo "$script: other answers" >&2
+            exit 1
+        fi
     fi
     name=${script#scripts/}
     { printf '== %s\n' "${name%.script}"; cat "$script"; echo '=>'; cat "$answers"; } >>"$work/rows"
@@ -40,4 +38,4 @@ if ! diff "$work/rows" "$work/stored" >&2; then
     echo "$rows: other rows" >&2
     exit 1
 fi
-echo "$count scripts give their answers"
+echo "$count scripts and answers are the rows of the tests${program:+, and the program gives the answers}"

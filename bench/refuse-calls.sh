@@ -1,5 +1,5 @@
 #!/bin/sh
-# Refuses each allocation of crates/refused_memory in turn, which makes the public calls of the five locks that take memory, and
+# Refuses each allocation of tests/refused_memory in turn, which makes the public calls of the five locks that take memory, and
 # checks that each run prints what the program prints with ample memory: the call that was refused said so by name, lost nothing, and
 # went on when it was repeated. Prints how often each call was refused. Status 1 at a run that does otherwise, or where a call that
 # takes memory was never refused.
@@ -12,11 +12,12 @@ set -eu
 
 # More allocations than the program makes before its threads start, and some of those that its threads make.
 most=500
-crate=$(cd crates/refused_memory && pwd)
 calls=$(pwd)/bench/refused-calls.txt
 work=$(mktemp -d)
 trap 'rm -rf "$work"' EXIT
 mkdir "$work/cases"
+bench/run-tests.py --into "$work/copy" refused_memory
+crate=$work/copy/crates/refused_memory
 # The run named N throws away so many allocations first that the one that is refused is its Nth.
 count=1
 while [ "$count" -le "$most" ]; do

@@ -1,0 +1,226 @@
+#!/usr/bin/env python3
+"""Builds and runs every test and every program, and proves nothing.
+
+usage: bench/run-tests.py [--whole] [--jobs N] [--minutes FILE] [--into FOLDER] [NAME..]
+
+The tests stand in tests/NAME as *.rattle files: what the toolchain proves is each .rt file of crates/, and of a test the run is
+what tells. tests/tests.txt says what each stands on, as crates.txt does. They are laid out as modules of a few crates in a copy of the
+repository, since to build a crate costs more than to run its tests, and `rt try --test` builds and runs these with checks of each
+address. A folder of tests/ with a main.rattle is a program. It is run as the programs of crates/ are: on its files stdin and args, and
+what it prints is compared with its file stdout, and its status with its file status.
+
+A test or program has one line if it fails; those that pass are counted. The last line is 'N passed, M failed', and the status is 1 if
+any failed.
+
+The walks of the lockstep tests are cut short, after some thousand states; with --whole they go through all, which takes some ten minutes
+more. NAME..: these alone. --jobs: how many are built at a time; one for each processor, as memory allows. --into lays the copy out in this
+folder, and leaves it there for `rt try --test` or `rt check` by hand. --minutes appends what each took of a processor.
+"""
+
+import argparse
+import os
+import re
+import shutil
+import subprocess
+import sys
+import tempfile
+import time
+from concurrent.futures import ThreadPoolExecutor
+
+# What a build takes of memory, in bytes, and for how long what was built may run, in seconds.
+MEMORY = 4_500_000_000
+SECONDS = 900
+# What cuts the walks short, in tests/walks.
+SHORT = {'IS_SHORT: bool = false': 'IS_SHORT: bool = true', 'usize = 10_000_000': 'usize = 5_000', 'u64 = 1000': 'u64 = 50'}
+# The walks take as long as all other tests.
+GROUPS = {'walks': lambda name: name.startswith('test_lockstep'), 'stories': lambda name: True}
+# `rt try`, by itself.
+TRY = [sys.executable, f'{os.path.dirname(os.path.realpath(__file__))}/kit.py']
+RAN = re.compile(r'test (\S+) \.\.\. (\w+)')
+TEST = re.compile(r'(?m)^\s*#\[test\]')
+
+
+def text_of(path):
+    with open(path, encoding='utf-8') as file:
+        return file.read()
+
+
+def listed(path):
+    """Returns what each name of such a file stands on."""
+    lines = [line.partition('#')[0] for line in text_of(path).split('\n')]
+    return {line.split(':')[0].split()[0]: line.split(':')[1].split() for line in lines if ':' in line}
+
+
+def sources(folder):
+    """Yields the *.rattle files of a folder, each by its path there without that ending."""
+    for at, _, names in os.walk(folder):
+        for name in sorted(names):
+            if name.endswith('.rattle'):
+                yield os.path.relpath(f'{at}/{name}', folder)[: -len('.rattle')]
+
+
+def write(path, text):
+    os.makedirs(os.path.dirname(path), exist_ok=True)
+    with open(path, 'w', encoding='utf-8') as file:
+        file.write(text)
+
+
+def shortened(text):
+    """Returns the text of tests/walks with which the walks are short."""
+    for whole, short in SHORT.items():
+        assert text.count(whole) == 1, whole
+        text = text.replace(whole, short)
+    return text
+
+
+class Layout:
+    """A copy of the repository in which the tests are crates."""
+
+    def __init__(self, top, folder, wanted, is_whole):
+        self.top, self.folder, self.wanted, self.is_whole = top, folder, wanted, is_whole
+        self.needs, self.crates = listed(f'{top}/tests/tests.txt'), listed(f'{top}/crates.txt')
+        self.programs, self.groups = [], {}
+        shutil.copytree(f'{top}/crates', f'{folder}/crates', ignore=shutil.ignore_patterns('out', 'wrong'))
+        shutil.copy(f'{top}/HANDLES', folder)
+        lines = [text_of(f'{top}/crates.txt')]
+        self.divide()
+        for name in self.programs:
+            if name in self.needs:
+                self.lay_program(name)
+                lines.append(f'{name}: {" ".join(self.needs[name])}\n')
+        for group, names in self.groups.items():
+            self.lay_group(group, names)
+            needs = dict.fromkeys(it for name in names for it in self.needs[name] if it not in self.needs)
+            lines.append(f'{group}: {" ".join(needs)}\n')
+        write(f'{folder}/crates.txt', ''.join(lines))
+
+    def divide(self):
+        """Sorts what is wanted into programs and groups of tests. What tests share comes with each of them."""
+        is_wanted = lambda name: not self.wanted or name in self.wanted
+        tests = f'{self.top}/tests'
+        own = [name for name in self.needs if os.path.isfile(f'{tests}/{name}/main.rattle')]
+        kept = [name for name in self.crates if os.path.isfile(f'{self.top}/crates/{name}/src/main.rt')]
+        self.programs = [name for name in [*kept, *own] if is_wanted(name)]
+        for name in self.needs:
+            if name in own or not is_wanted(name):
+                continue
+            if not any(TEST.search(text_of(f'{tests}/{name}/{it}.rattle')) for it in sources(f'{tests}/{name}')):
+                continue
+            group = next(it for it, takes in GROUPS.items() if takes(name))
+            shared = [it for it in self.needs[name] if it in self.needs]
+            some = self.groups.setdefault(group, [])
+            some += [it for it in [*shared, name] if it not in some]
+
+    def lay_program(self, name):
+        own, crate = f'{self.top}/tests/{name}', f'{self.folder}/crates/{name}'
+        for path in sources(own):
+            write(f'{crate}/src/{path}.rt', text_of(f'{own}/{path}.rattle'))
+        for part in ('stdin', 'stdout', 'args', 'status'):
+            if os.path.isfile(f'{own}/{part}'):
+                shutil.copy(f'{own}/{part}', crate)
+
+    def lay_group(self, group, names):
+        shared = '|'.join(self.needs)
+        for name in names:
+            own = f'{self.top}/tests/{name}'
+            for path in sources(own):
+                text = re.sub(r'\bcrate::', f'crate::{name}::', text_of(f'{own}/{path}.rattle'))
+                text = re.sub(rf'(?<![\w:])({shared})::', r'crate::\1::', text)
+                text = re.sub(r'(?m)^#!\[tactic\(.*\)\]\n', '', text)
+                if name == 'walks' and not self.is_whole:
+                    text = shortened(text)
+                to = name if path == 'lib' else f'{name}/{path}'
+                write(f'{self.folder}/crates/{group}/src/{to}.rt', text)
+        root = '//! Tests of several crates.\n#![tactic(auto)]\n'
+        root += ''.join(f'\n#[cfg(test)]\nmod {name};\n' for name in names)
+        write(f'{self.folder}/crates/{group}/src/lib.rt', root)
+
+    def count(self, group):
+        """Returns how many tests a group has by its text."""
+        return sum(len(TEST.findall(text_of(f'{at}/{it}'))) for at, _, files in os.walk(f'{self.folder}/crates/{group}/src') for it in files)
+
+
+def call(words, folder, given=b''):
+    """Runs a command, and returns its status, what it wrote, and the seconds of a processor that it took."""
+    with tempfile.TemporaryFile() as entry, tempfile.TemporaryFile() as out, tempfile.TemporaryFile() as errors:
+        entry.write(given)
+        entry.seek(0)
+        running = subprocess.Popen(words, cwd=folder, stdin=entry, stdout=out, stderr=errors)
+        _, status, took = os.wait4(running.pid, 0)
+        out.seek(0)
+        errors.seek(0)
+        return os.waitstatus_to_exitcode(status), out.read(), errors.read(), took.ru_utime + took.ru_stime
+
+
+def run_group(layout, group):
+    """Runs the tests of a group, and returns how many passed, what failed, and the seconds."""
+    status, out, errors, seconds = call([*TRY, '--test', '--seconds', str(SECONDS)], f'{layout.folder}/crates/{group}')
+    said = (out + errors).decode(errors='replace')
+    found = RAN.findall(said)
+    failed = [f'test {name}: {what}' for name, what in found if what != 'ok']
+    wanted = layout.count(group)
+    if status or len(found) != wanted or failed:
+        failed += [f'{group}: {len(found)} of {wanted} tests were run, and the status is {status}'] * (not failed)
+        print(said[-6000:])
+    return len(found) - len([it for it in failed if it.startswith('test ')]), failed, seconds
+
+
+def run_program(layout, name):
+    """Runs a program, and returns how many passed, what failed, and the seconds."""
+    folder = f'{layout.folder}/crates/{name}'
+
+    def part(it, otherwise):
+        if not os.path.isfile(f'{folder}/{it}'):
+            return otherwise
+        with open(f'{folder}/{it}', 'rb') as file:
+            return file.read()
+
+    words = part('args', b'').decode().split('\n')
+    words = words[:-1] if words[-1:] == [''] else words
+    status, out, errors, seconds = call([*TRY, '--seconds', str(SECONDS), '--', *words], folder, part('stdin', b''))
+    failed = []
+    if status != int(part('status', b'0')):
+        failed.append(f'program {name}: it ended with status {status}')
+    elif out != part('stdout', b''):
+        failed.append(f'program {name}: what it printed is not what its file stdout has')
+    if failed:
+        print((out + errors).decode(errors='replace')[-3000:])
+    return 1 - len(failed), failed, seconds
+
+
+def free():
+    found = re.search(r'MemAvailable:\s+(\d+)', text_of('/proc/meminfo'))
+    return int(found[1]) * 1024
+
+
+def main():
+    parser = argparse.ArgumentParser(usage=__doc__)
+    parser.add_argument('--whole', action='store_true')
+    parser.add_argument('--jobs', type=int)
+    parser.add_argument('--minutes')
+    parser.add_argument('--into')
+    parser.add_argument('names', nargs='*')
+    given, began = parser.parse_args(), time.monotonic()
+    jobs = given.jobs or max(1, min(len(os.sched_getaffinity(0)), int(free() * 0.85 // MEMORY)))
+    with tempfile.TemporaryDirectory(prefix='run-tests-') as room:
+        layout = Layout(os.getcwd(), given.into or f'{room}/copy', given.names, given.whole)
+        if given.into:
+            return
+        with ThreadPoolExecutor(jobs) as pool:
+            running = [(it, pool.submit(run_group, layout, it)) for it in layout.groups]
+            running += [(it, pool.submit(run_program, layout, it)) for it in layout.programs]
+            results = [(it, *one.result()) for it, one in running]
+    if given.minutes:
+        with open(given.minutes, 'a', encoding='utf-8') as file:
+            file.writelines(f'{name}\ttests\t{seconds:.0f}\n' for name, _, _, seconds in results)
+    failed = [it for _, _, some, _ in results for it in some]
+    print('\n'.join(failed + [f'{name}: {passed} passed' for name, passed, _, _ in results]))
+    passed, took = sum(it[1] for it in results), sum(it[3] for it in results) / 60
+    walks = 'the walks whole' if given.whole else 'the walks cut short'
+    print(f'tests and programs were run, {walks}, and nothing was proved: {took:.0f} minutes of a processor, {(time.monotonic() - began) / 60:.0f} in all')
+    print(f'{passed} passed, {len(failed)} failed')
+    sys.exit(1 if failed else 0)
+
+
+if __name__ == '__main__':
+    main()

@@ -1,6 +1,0 @@
--- One party fewer is left.
-use Rattle.std.proofs.Common.{length}
-use Rattle.test_lockstep_barrier.proofs.barrier.end_all.Given as goal
-
-abbrev pub decreases-loop-member : goal.decreases-loop-member
-decreases-loop-member g l = length l.members.items
