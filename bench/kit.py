@@ -5,6 +5,7 @@ import importlib.util
 import os
 import shutil
 import sys
+import tempfile
 
 sys.dont_write_bytecode = True
 
@@ -48,9 +49,37 @@ def place_library(crate, kept, jobs):
 
 
 def try_alone(words):
-    """Does what `rt try` does, without the check that it starts beside the program, which only says whether a check would refuse a name."""
-    rt.rtlib.RATTLE = 'true'
-    return rt.main(['try', *words])
+    """Does what `rt try` does, but that what is built is optimised, and that no check is started beside it, which gives a hint alone.
+
+    `rt try` compiles with checks of each address, and without optimisation; the walks of the lockstep tests then take ten times as long.
+    So the compiler is reached through a folder of links, by a script that asks it for -O1 in the place of -O0.
+    """
+    with tempfile.TemporaryDirectory(prefix='kit-') as room:
+        linked(FOLDER, room, 'toolchain')
+        linked(f'{FOLDER}/toolchain', f'{room}/toolchain', 'bin')
+        linked(f'{FOLDER}/toolchain/bin', f'{room}/toolchain/bin', 'clang')
+        with open(f'{room}/toolchain/bin/clang', 'w', encoding='utf-8') as file:
+            file.write(OPTIMISED.format(FOLDER))
+        os.chmod(f'{room}/toolchain/bin/clang', 0o755)
+        rt.rtlib.RATTLE, rt.rtlib.KIT = 'true', room
+        return rt.main(['try', *words])
+
+
+OPTIMISED = """#!/bin/bash
+for word; do
+    [ "$word" = -O0 ] && word=-O1
+    words+=("$word")
+done
+exec {}/toolchain/bin/clang "${{words[@]}}"
+"""
+
+
+def linked(folder, to, apart):
+    """Makes a folder with a link to each thing in another one, but for one."""
+    os.makedirs(to, exist_ok=True)
+    for name in os.listdir(folder):
+        if name != apart:
+            os.symlink(f'{folder}/{name}', f'{to}/{name}')
 
 
 if __name__ == '__main__':
