@@ -12,12 +12,12 @@ itself. A line that begins with '#' is a note.
 
 Each edit has one line, with what it came to:
 - refused: a goal of the function fails;
+- refused at a limit: a goal of the function isn't proved, but the search for its proof gave up at a limit of its own, which says less;
 - SURVIVES: its function is still proved;
-- NO GOAL: its function isn't proved, but no goal of its own fails: the borrow checker doesn't cover it, say, a measure is missing, or
-  a search gave up at its limit;
+- NO GOAL: its function isn't proved, but no goal of its own fails: the borrow checker doesn't cover it, say, or a measure is missing;
 - BAD: it can't be applied, or what it makes can't be read or compiled;
 - NOT TRIED: the check ended without a verdict.
-Only the first passes. The last line is 'N passed, M failed', and the status is 1 if any failed.
+Only the first two pass. The last line is 'N passed, M failed', and the status is 1 if any failed.
 
 What was refused is kept on this machine beside what `rt ci` keeps, by the checksums of all that it rests on: --anew tries it again.
 --jobs: how many checks run at a time; one for each processor, as memory allows. --minutes appends what each crate's edits took.
@@ -40,7 +40,8 @@ HERE = os.path.dirname(os.path.realpath(__file__))
 sys.path.insert(0, HERE)
 from kit import bodies, crates_of, place_library, rt  # noqa: E402
 
-REFUSED, SURVIVES, NO_GOAL, BAD, NOT_TRIED = 'refused', 'SURVIVES', 'NO GOAL', 'BAD', 'NOT TRIED'
+REFUSED, AT_LIMIT, SURVIVES, NO_GOAL, BAD, NOT_TRIED = 'refused', 'refused at a limit', 'SURVIVES', 'NO GOAL', 'BAD', 'NOT TRIED'
+PASSES = REFUSED, AT_LIMIT
 # What one check takes of memory, in bytes.
 MEMORY = 3_000_000_000
 # The check's words for a goal that fails, in the source and in a file of answers.
@@ -229,15 +230,17 @@ class Round:
             if edit.stands_alone:
                 own += [(f'{it[1]}:{it[2]}', it[3]) for it in unproved]
             failed = [it for it in edit.symbols if not states.get(it, 'proved').startswith('proved')]
-            sharp = [it for it in own if not GAVE_UP.search(it[1]) and not LOST_NAME.search(it[1])]
+            own = [it for it in own if not LOST_NAME.search(it[1])]
+            sharp = [it for it in own if not GAVE_UP.search(it[1])]
             if failed and not own and all(states[it].startswith('no proof: it calls') for it in failed) and len(self.edits) > 1:
                 # (what it calls is turned in this round: it is tried by itself)
                 continue
             if failed and sharp:
                 edit.end(REFUSED, f'{sharp[0][0]}: {sharp[0][1].strip()}'[:200])
+            elif failed and own:
+                edit.end(AT_LIMIT, f'{own[0][0]}: {own[0][1].strip()}'[:200])
             elif failed:
-                blamed = own[0][1] if own else states[failed[0]]
-                edit.end(NO_GOAL, blamed.strip()[:300])
+                edit.end(NO_GOAL, states[failed[0]].strip()[:300])
             elif status in (0, 1) and all(it in states for it in edit.symbols):
                 edit.end(SURVIVES, 'its function is proved')
 
@@ -293,7 +296,7 @@ def try_crate(crate, edits, kept, keys):
             continue
         told = kept.tried(name_of(edit, keys))
         if told:
-            edit.end(REFUSED, told[1])
+            edit.end(*told[1].split('\n'))
         else:
             left.append(edit)
     seconds = 0.0
@@ -309,9 +312,9 @@ def try_crate(crate, edits, kept, keys):
     for edit in left:
         edit.end(NOT_TRIED, 'the check says nothing of its function')
     for edit in edits:
-        if edit.verdict == REFUSED:
-            kept.keep_tried(name_of(edit, keys), rt.REFUSED, edit.said)
-    refused = sum(it.verdict == REFUSED for it in edits)
+        if edit.verdict in PASSES:
+            kept.keep_tried(name_of(edit, keys), rt.REFUSED, f'{edit.verdict}\n{edit.said}')
+    refused = sum(it.verdict in PASSES for it in edits)
     lines = [it.line() for it in edits]
     print('\n'.join([*lines, f'{crate.name}: {refused} of {len(edits)} refused, {seconds:.0f} seconds of a processor']), flush=True)
     return seconds
@@ -365,11 +368,12 @@ def main():
         with open(minutes, 'a', encoding='utf-8') as file:
             file.writelines(f'{name}\tedits\t{took:.0f}\n' for name, took in seconds.items())
     every = [it for some in tried.values() for it in some]
-    failed = [it for it in every if it.verdict != REFUSED]
+    failed = [it for it in every if it.verdict not in PASSES]
+    limited = sum(it.verdict == AT_LIMIT for it in every)
     for edit in failed:
         print(edit.line())
     took = f'{sum(seconds.values()) / 60:.0f} minutes of a processor, {(time.monotonic() - began) / 60:.0f} in all'
-    print(f'edits: {len(every)} tried, {len(every) - len(failed)} refused at a goal of their own; {took}')
+    print(f'edits: {len(every)} tried, {len(every) - len(failed)} refused at a goal of their own, {limited} of these at a limit; {took}')
     print(f'{len(every) - len(failed)} passed, {len(failed)} failed')
     sys.exit(1 if failed else 0)
 

@@ -5,11 +5,17 @@
 //! Each is made with a runtime, which it keeps, and its guards and futures reach the runtime through it. A future is polled for a
 //! [`Turn`]; [`Settled`] makes it a `Future` of the kit's `futures`, and the blocking forms wait in the calling thread.
 //!
+//! The types stand in `async_mutex`, `async_rwlock`, `async_semaphore`, `async_once_cell` and `async_barrier`, and this crate hands them on: who
+//! wants one lock alone names its crate. [`Runtime`] has what they ask of the runtime, and [`wait_for`] waits for any of their
+//! futures in the calling thread.
+//!
 //! Each lock carries out a program, a table of single actions, and the theorems about all interleavings are proved
-//! of the same table: [`lock_core`] has the Worlds in which parties move by it, and [`lock_audit`] a book of one.
-//! This crate has no code of its own: the types stand in `async_mutex`, `async_rwlock`, `async_semaphore`, `async_once_cell` and
-//! `async_barrier`.
+//! of the same table: `lock_core` has the Worlds in which parties move by it, and `lock_audit` a book of one. No type here
+//! stands on them.
 #![tactic(auto)]
+
+mod runtime;
+mod wait;
 
 /// The futures of the locks.
 pub mod lock_futures {
@@ -30,7 +36,5 @@ pub use async_rwlock::{
     RwLockUpgradableReadGuardArc, RwLockWriteGuard, RwLockWriteGuardArc,
 };
 pub use async_semaphore::{Given, Lowered, Semaphore, SemaphoreGuard, SemaphoreGuardArc};
-pub use lock_audit;
-pub use lock_core;
-pub use lock_event;
-pub use lock_words;
+pub use runtime::Runtime;
+pub use wait::wait_for;

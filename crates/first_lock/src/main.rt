@@ -1,13 +1,10 @@
 //! Takes a lock in the two plainest ways.
 #![tactic(auto)]
 
-use async_lock::{Mutex, Refusal};
+use async_lock::{Mutex, Refusal, Runtime};
 use std::process::ExitCode;
-use std::random::RandomSource;
-use std::sync::Wait;
-use std::time::Clock;
 
-fn count<R: Wait + Clock + RandomSource + AllocGlobal + Drop>(rt: R) -> Result<u64, Refusal> {
+fn count<R: Runtime>(rt: R) -> Result<u64, Refusal> {
     let mutex = Mutex::new(rt, 40_u64)?;
     let mut guard = mutex.lock_blocking()?;
     *guard = guard.saturating_add(1);

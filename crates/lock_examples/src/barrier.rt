@@ -4,15 +4,12 @@
 mod executor;
 mod threads;
 
-use async_lock::Refusal;
-use std::random::RandomSource;
-use std::sync::Wait;
+use async_lock::{Refusal, Runtime};
 use std::thread::Threads;
-use std::time::Clock;
 
 fn run_all<R>(rt: R) -> Result<(u64, bool), Refusal>
 where
-    R: Wait + Clock + RandomSource + AllocGlobal + Threads + Sync + Copy + Drop,
+    R: Runtime + Threads + Sync + Copy,
 {
     let leaders = threads::run(rt)?;
     let leads = executor::leads(rt)?;
@@ -22,7 +19,7 @@ where
 /// Runs each example, and prints a line for each. Returns whether each was run and printed.
 pub(crate) fn print_all<R>(rt: R) -> bool
 where
-    R: Wait + Clock + RandomSource + AllocGlobal + Threads + Print + Sync + Copy + Drop,
+    R: Runtime + Threads + Print + Sync + Copy,
 {
     let Ok((leaders, leads)) = run_all(rt) else {
         return false;

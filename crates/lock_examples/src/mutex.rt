@@ -7,12 +7,9 @@ mod executor;
 mod owned;
 mod two_threads;
 
-use async_lock::{Mutex, Refusal};
+use async_lock::{Mutex, Refusal, Runtime};
 use futures::test::MockTask;
-use std::random::RandomSource;
-use std::sync::Wait;
 use std::thread::Threads;
-use std::time::Clock;
 
 // What each example returns, in order.
 struct Results {
@@ -25,7 +22,7 @@ struct Results {
 
 fn run_all<R>(rt: R) -> Result<Results, Refusal>
 where
-    R: Wait + Clock + RandomSource + AllocGlobal + Threads + Sync + Copy + Drop,
+    R: Runtime + Threads + Sync + Copy,
 {
     let sum = two_threads::run(rt)?;
     let mutex = Mutex::new(rt, 7_u64)?;
@@ -50,7 +47,7 @@ where
 /// Runs each example, and prints a line for each. Returns whether each was run and printed.
 pub(crate) fn print_all<R>(rt: R) -> bool
 where
-    R: Wait + Clock + RandomSource + AllocGlobal + Threads + Print + Sync + Copy + Drop,
+    R: Runtime + Threads + Print + Sync + Copy,
 {
     let Ok(
         Results {

@@ -5,12 +5,9 @@ mod calls;
 mod made_once;
 mod set_once;
 
-use async_lock::Refusal;
+use async_lock::{Refusal, Runtime};
 use std::alloc::AllocGlobal;
-use std::random::RandomSource;
-use std::sync::Wait;
 use std::thread::Threads;
-use std::time::Clock;
 
 /// What the examples found.
 #[derive(Drop)]
@@ -23,7 +20,7 @@ struct Found {
 
 fn run_all<R>(rt: R) -> Result<Found, Refusal>
 where
-    R: Wait + Clock + RandomSource + AllocGlobal + Threads + Sync + Copy + Drop,
+    R: Runtime + Threads + Sync + Copy,
 {
     let sum = made_once::run(rt)?;
     let is_first = set_once::is_first_kept(rt)?;
@@ -40,7 +37,7 @@ where
 /// Runs each example, and prints a line for each. Returns whether each was run and printed.
 pub(crate) fn print_all<R>(rt: R) -> bool
 where
-    R: Wait + Clock + RandomSource + AllocGlobal + Threads + Print + Sync + Copy + Drop,
+    R: Runtime + Threads + Print + Sync + Copy,
 {
     let Ok(found) = run_all(rt) else {
         return false;

@@ -9,12 +9,9 @@ mod owned;
 mod two_readers;
 mod upgraded;
 
-use async_lock::{Refusal, RwLock};
+use async_lock::{Refusal, Runtime, RwLock};
 use std::alloc::AllocGlobal;
-use std::random::RandomSource;
-use std::sync::Wait;
 use std::thread::Threads;
-use std::time::Clock;
 
 // What each example returns, in order.
 struct Results {
@@ -29,7 +26,7 @@ struct Results {
 
 fn run_all<R>(rt: R) -> Result<Results, Refusal>
 where
-    R: Wait + Clock + RandomSource + AllocGlobal + Threads + Sync + Copy + Drop,
+    R: Runtime + Threads + Sync + Copy,
 {
     let sum = two_readers::run(rt)?;
     let lock = RwLock::new(rt, 40_u64)?;
@@ -53,7 +50,7 @@ where
 /// Runs each example, and prints a line for each. Returns whether each was run and printed.
 pub(crate) fn print_all<R>(rt: R) -> bool
 where
-    R: Wait + Clock + RandomSource + AllocGlobal + Threads + Print + Sync + Copy + Drop,
+    R: Runtime + Threads + Print + Sync + Copy,
 {
     let Ok(
         Results {

@@ -5,16 +5,13 @@ mod at_most_two;
 mod calls;
 mod several_at_once;
 
-use async_lock::Refusal;
+use async_lock::{Refusal, Runtime};
 use std::alloc::AllocGlobal;
-use std::random::RandomSource;
-use std::sync::Wait;
 use std::thread::Threads;
-use std::time::Clock;
 
 fn run_all<R>(rt: R) -> Result<(u64, bool, usize, bool), Refusal>
 where
-    R: Wait + Clock + RandomSource + AllocGlobal + Threads + Sync + Copy + Drop,
+    R: Runtime + Threads + Sync + Copy,
 {
     let most = at_most_two::run(rt)?;
     let (three_more, left) = several_at_once::run(rt)?;
@@ -25,7 +22,7 @@ where
 /// Runs each example, and prints a line for each. Returns whether each was run and printed.
 pub(crate) fn print_all<R>(rt: R) -> bool
 where
-    R: Wait + Clock + RandomSource + AllocGlobal + Threads + Print + Sync + Copy + Drop,
+    R: Runtime + Threads + Print + Sync + Copy,
 {
     let Ok((most, three_more, left, is_as_shown)) = run_all(rt) else {
         return false;

@@ -1,20 +1,14 @@
-//! A wait on an executor.
+//! A wait by a future, in the calling thread.
 
-use async_lock::{Barrier, Refusal, Settled};
-use futures::executor::block_on;
+use async_lock::{Barrier, Refusal, Runtime, wait_for};
 use std::alloc::AllocGlobal;
-use std::random::RandomSource;
-use std::sync::Wait;
-use std::time::Clock;
 
 /// Waits at a barrier for one, and says whether the wait led.
 pub(crate) fn leads<R>(rt: R) -> Result<bool, Refusal>
 where
-    R: Wait + Clock + RandomSource + AllocGlobal + Copy + Drop,
+    R: Runtime + Copy,
 {
     let barrier = Barrier::new(rt, 1)?;
-    match block_on(&rt, Settled(barrier.wait())) {
-        Ok(settled) => Ok(settled?.is_leader()),
-        Err(_) => Err(Refusal::Memory),
-    }
+    let result = wait_for(&rt, barrier.wait())?;
+    Ok(result.is_leader())
 }

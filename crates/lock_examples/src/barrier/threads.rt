@@ -1,16 +1,13 @@
 //! Two threads meet twice at a barrier.
 
-use async_lock::{Barrier, Refusal};
+use async_lock::{Barrier, Refusal, Runtime};
 use std::alloc::AllocGlobal;
-use std::random::RandomSource;
-use std::sync::Wait;
 use std::thread::{self, Threads};
-use std::time::Clock;
 
 // What each thread does: it meets the other one, does its part of the second round, and meets it again. How often it led.
 fn meet_twice<R>(barrier: &Barrier<R>) -> Result<u64, Refusal>
 where
-    R: Wait + Clock + RandomSource + AllocGlobal,
+    R: Runtime,
 {
     let first = barrier.wait_blocking()?.is_leader();
     let second = barrier.wait_blocking()?.is_leader();
@@ -20,7 +17,7 @@ where
 // The threads are started in a function of their own, which is handed the barrier.
 fn meet_in_two_threads<'a, R>(rt: &'a R, barrier: &'a Barrier<R>) -> Result<u64, Refusal>
 where
-    R: Wait + Clock + RandomSource + AllocGlobal + Threads + Sync,
+    R: Runtime + Threads + Sync,
 {
     let (one, two) = thread::join(rt, || meet_twice(barrier), || meet_twice(barrier));
     Ok(one?.saturating_add(two?))
@@ -29,7 +26,7 @@ where
 /// How many leaders there were in two rounds.
 pub(crate) fn run<R>(rt: R) -> Result<u64, Refusal>
 where
-    R: Wait + Clock + RandomSource + AllocGlobal + Threads + Sync + Copy + Drop,
+    R: Runtime + Threads + Sync + Copy,
 {
     let barrier = Barrier::new(rt, 2)?;
     meet_in_two_threads(&rt, &barrier)

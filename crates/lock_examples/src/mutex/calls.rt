@@ -2,12 +2,11 @@
 //! holds, and a mutex that nobody else can have.
 
 use async_lock::lock_futures::Lock;
-use async_lock::{Mutex, MutexGuard, MutexGuardArc, Refusal, Settled, Turn};
+use async_lock::{Mutex, MutexGuard, MutexGuardArc, Refusal, Runtime, Settled, Turn};
 use futures::executor::block_on;
 use futures::task::Context;
 use futures::test::MockTask;
 use std::alloc::AllocGlobal;
-use std::random::RandomSource;
 use std::sync::{Arc, Wait};
 use std::time::Clock;
 
@@ -41,7 +40,7 @@ fn poll_once<R: Wait + Clock>(
 /// list, and ready once the guard was dropped, which wakes the task.
 fn by_polls<R>(rt: R) -> Result<bool, Refusal>
 where
-    R: Wait + Clock + RandomSource + AllocGlobal + Drop,
+    R: Runtime,
 {
     let Ok(task) = MockTask::new(&rt) else {
         return Err(Refusal::Memory);
@@ -72,7 +71,7 @@ where
 /// By a try and a future that own their share of the mutex.
 fn owned<R>(rt: R) -> Result<bool, Refusal>
 where
-    R: Wait + Clock + RandomSource + AllocGlobal + Copy + Drop,
+    R: Runtime + Copy,
 {
     let Ok(mutex) = Arc::new(rt.alloc(), Mutex::new(rt, 1_u64)?) else {
         return Err(Refusal::Memory);
@@ -90,7 +89,7 @@ where
 /// Whether each call does as its comment here says.
 pub(crate) fn run<R>(rt: R) -> Result<bool, Refusal>
 where
-    R: Wait + Clock + RandomSource + AllocGlobal + Copy + Drop,
+    R: Runtime + Copy,
 {
     Ok(by_tries(rt)? && by_polls(rt)? && alone(rt)? && owned(rt)?)
 }

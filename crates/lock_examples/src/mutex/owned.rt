@@ -1,15 +1,13 @@
 //! A guard that owns its share of the mutex, and outlives the function that locked it.
 
-use async_lock::{Mutex, MutexGuardArc, Refusal};
+use async_lock::{Mutex, MutexGuardArc, Refusal, Runtime};
 use std::alloc::AllocGlobal;
-use std::random::RandomSource;
-use std::sync::{Arc, Wait};
-use std::time::Clock;
+use std::sync::Arc;
 
 /// Makes a mutex, locks it, and returns the guard alone: the guard is the mutex's last owner.
 pub(crate) fn locked<R>(rt: R, value: u64) -> Result<MutexGuardArc<u64, R>, Refusal>
 where
-    R: Wait + Clock + RandomSource + AllocGlobal + Drop,
+    R: Runtime,
 {
     let alloc = rt.alloc();
     let mutex = Mutex::new(rt, value)?;

@@ -1,14 +1,11 @@
 //! Two threads share a mutex by reference.
 
-use async_lock::{Mutex, Refusal};
+use async_lock::{Mutex, Refusal, Runtime};
 use std::alloc::AllocGlobal;
-use std::random::RandomSource;
-use std::sync::Wait;
 use std::thread::{self, Threads};
-use std::time::Clock;
 
 // What each thread does: it waits for the mutex, and adds one.
-fn add<R: Wait + Clock + RandomSource + AllocGlobal>(mutex: &Mutex<u64, R>) -> Result<(), Refusal> {
+fn add<R: Runtime>(mutex: &Mutex<u64, R>) -> Result<(), Refusal> {
     let mut guard = mutex.lock_blocking()?;
     *guard = guard.saturating_add(1);
     Ok(())
@@ -18,7 +15,7 @@ fn add<R: Wait + Clock + RandomSource + AllocGlobal>(mutex: &Mutex<u64, R>) -> R
 // that starts them gets no proof.
 fn add_in_two_threads<'a, R>(rt: &'a R, mutex: &'a Mutex<u64, R>) -> Result<(), Refusal>
 where
-    R: Wait + Clock + RandomSource + AllocGlobal + Threads + Sync,
+    R: Runtime + Threads + Sync,
 {
     let (one, two) = thread::join(rt, || add(mutex), || add(mutex));
     one?;
@@ -28,7 +25,7 @@ where
 /// Adds one in each of two threads, and returns the sum.
 pub(crate) fn run<R>(rt: R) -> Result<u64, Refusal>
 where
-    R: Wait + Clock + RandomSource + AllocGlobal + Threads + Sync + Copy + Drop,
+    R: Runtime + Threads + Sync + Copy,
 {
     let mutex = Mutex::new(rt, 0_u64)?;
     add_in_two_threads(&rt, &mutex)?;

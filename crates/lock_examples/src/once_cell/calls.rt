@@ -1,12 +1,9 @@
-//! The other calls of a cell: by blocking, and by futures on an executor.
+//! The other calls of a cell: by blocking, and by futures.
 
-use async_lock::{InitFault, OnceCell, Refusal, SetFault, Settled};
-use futures::executor::block_on;
+use async_lock::{InitFault, OnceCell, Refusal, Runtime, SetFault, wait_for};
 use futures::future;
 use std::alloc::AllocGlobal;
-use std::random::RandomSource;
 use std::sync::Wait;
-use std::time::Clock;
 
 /// A cell that has a value from the beginning, by who has it alone: it is written, taken out, and the cell is empty then.
 fn alone<R>(rt: R) -> Result<bool, Refusal>
@@ -26,7 +23,7 @@ where
 /// By blocking calls: a closure that fails leaves the cell empty, a set fills it, and a second one has its value back.
 fn by_blocking<R>(rt: R) -> Result<bool, Refusal>
 where
-    R: Wait + Clock + RandomSource + AllocGlobal + Drop,
+    R: Runtime,
 {
     let cell = OnceCell::new(rt)?;
     let failed = cell.get_or_try_init_blocking(|| Err::<u64, &str>("no number"));
@@ -42,29 +39,17 @@ where
     Ok(has_failed && is_set && is_taken && waited && found)
 }
 
-/// By futures on an executor, each `Settled`: whoever comes first makes the value, and the others find it.
+/// By futures, each waited for in the calling thread: whoever comes first makes the value, and the others find it.
 fn by_futures<R>(rt: R) -> Result<bool, Refusal>
 where
-    R: Wait + Clock + RandomSource + AllocGlobal + Copy + Drop,
+    R: Runtime + Copy,
 {
     let cell = OnceCell::new(rt)?;
     let failing = cell.get_or_try_init(|| future::ready(Err::<u64, &str>("no number")));
-    let has_failed = match block_on(&rt, Settled(failing)) {
-        Ok(settled) => settled? == Err("no number"),
-        Err(_) => return Err(Refusal::Memory),
-    };
-    let made = match block_on(&rt, Settled(cell.get_or_init(|| future::ready(5_u64)))) {
-        Ok(settled) => *settled?,
-        Err(_) => return Err(Refusal::Memory),
-    };
-    let came_back = match block_on(&rt, Settled(cell.set(6))) {
-        Ok(settled) => settled? == Err(6),
-        Err(_) => return Err(Refusal::Memory),
-    };
-    let waited = match block_on(&rt, Settled(cell.wait())) {
-        Ok(settled) => *settled?,
-        Err(_) => return Err(Refusal::Memory),
-    };
+    let has_failed = wait_for(&rt, failing)? == Err("no number");
+    let made = *wait_for(&rt, cell.get_or_init(|| future::ready(5_u64)))?;
+    let came_back = wait_for(&rt, cell.set(6))? == Err(6);
+    let waited = *wait_for(&rt, cell.wait())?;
     // A set that is ended before it was ready has its value back.
     let has_ended = cell.set(7).into_value() == Some(7);
     Ok(has_failed && made == 5 && came_back && waited == 5 && has_ended)
@@ -73,7 +58,7 @@ where
 /// Whether each call does as its comment here says.
 pub(crate) fn run<R>(rt: R) -> Result<bool, Refusal>
 where
-    R: Wait + Clock + RandomSource + AllocGlobal + Copy + Drop,
+    R: Runtime + Copy,
 {
     Ok(alone(rt)? && by_blocking(rt)? && by_futures(rt)?)
 }

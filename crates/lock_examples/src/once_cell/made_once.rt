@@ -1,16 +1,13 @@
 //! Two threads ask for a value that is made once.
 
-use async_lock::{OnceCell, Refusal};
+use async_lock::{OnceCell, Refusal, Runtime};
 use std::alloc::AllocGlobal;
-use std::random::RandomSource;
-use std::sync::Wait;
 use std::thread::{self, Threads};
-use std::time::Clock;
 
 // Whoever comes first makes the value, and the other one waits for it.
 fn value<R>(cell: &OnceCell<u64, R>) -> Result<u64, Refusal>
 where
-    R: Wait + Clock + RandomSource + AllocGlobal,
+    R: Runtime,
 {
     let value = cell.get_or_init_blocking(|| 21u64)?;
     Ok(*value)
@@ -20,7 +17,7 @@ where
 // starts them gets no proof.
 fn in_two_threads<'a, R>(rt: &'a R, cell: &'a OnceCell<u64, R>) -> Result<u64, Refusal>
 where
-    R: Wait + Clock + RandomSource + AllocGlobal + Threads + Sync,
+    R: Runtime + Threads + Sync,
 {
     let (one, two) = thread::join(rt, || value(cell), || value(cell));
     Ok(one?.saturating_add(two?))
@@ -29,7 +26,7 @@ where
 /// The sum of what both threads find.
 pub(crate) fn run<R>(rt: R) -> Result<u64, Refusal>
 where
-    R: Wait + Clock + RandomSource + AllocGlobal + Threads + Sync + Copy + Drop,
+    R: Runtime + Threads + Sync + Copy,
 {
     let cell = OnceCell::new(rt)?;
     in_two_threads(&rt, &cell)

@@ -1,12 +1,9 @@
 //! A cache that many read, and that one refreshes.
 
-use async_lock::{Refusal, RwLock, RwLockUpgradableReadGuard, RwLockWriteGuard};
+use async_lock::{Refusal, Runtime, RwLock, RwLockUpgradableReadGuard, RwLockWriteGuard};
 use std::alloc::AllocGlobal;
-use std::random::RandomSource;
-use std::sync::Wait;
 use std::sync::atomic::{AtomicU64, Ordering};
 use std::thread::{self, Threads};
-use std::time::Clock;
 
 /// What is kept, and of which day it is.
 #[derive(Clone, Copy, Drop)]
@@ -23,9 +20,7 @@ fn ask(day: u64, asked: &AtomicU64) -> Entry {
 
 // What is kept. The guard is dropped here: a task that still had a read guard while it upgrades would wait for that guard,
 // which it holds itself.
-fn kept<R: Wait + Clock + RandomSource + AllocGlobal>(
-    cache: &RwLock<Entry, R>,
-) -> Result<Entry, Refusal> {
+fn kept<R: Runtime>(cache: &RwLock<Entry, R>) -> Result<Entry, Refusal> {
     let guard = cache.read_blocking()?;
     Ok(*guard)
 }
@@ -34,7 +29,7 @@ fn kept<R: Wait + Clock + RandomSource + AllocGlobal>(
 // time: the next one finds it refreshed.
 fn degrees<R>(cache: &RwLock<Entry, R>, day: u64, asked: &AtomicU64) -> Result<u64, Refusal>
 where
-    R: Wait + Clock + RandomSource + AllocGlobal,
+    R: Runtime,
 {
     let entry = kept(cache)?;
     if entry.day == day {
@@ -60,7 +55,7 @@ fn in_four_threads<'a, R>(
     asked: &'a AtomicU64,
 ) -> Result<u64, Refusal>
 where
-    R: Wait + Clock + RandomSource + AllocGlobal + Threads + Sync,
+    R: Runtime + Threads + Sync,
 {
     let reads = || degrees(cache, 2, asked);
     let two = || thread::join(rt, &reads, &reads);
@@ -71,7 +66,7 @@ where
 /// Four threads read a cache that is a day old. Returns what they read, and how often that was asked for.
 pub(crate) fn run<R>(rt: R) -> Result<(u64, u64), Refusal>
 where
-    R: Wait + Clock + RandomSource + AllocGlobal + Threads + Sync + Copy + Drop,
+    R: Runtime + Threads + Sync + Copy,
 {
     let old = Entry {
         day: 1,

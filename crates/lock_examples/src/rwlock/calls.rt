@@ -1,11 +1,9 @@
 //! The other calls of a read-write lock: tries, futures on an executor, and the forms that own their share of the lock.
 
-use async_lock::{Refusal, RwLock, RwLockUpgradableReadGuard, RwLockWriteGuard, Settled};
+use async_lock::{Refusal, Runtime, RwLock, RwLockUpgradableReadGuard, RwLockWriteGuard, Settled};
 use futures::executor::block_on;
 use std::alloc::AllocGlobal;
-use std::random::RandomSource;
 use std::sync::{Arc, Wait};
-use std::time::Clock;
 
 /// By tries, which answer at once: an upgrade fails beside another reader, and a writer that becomes a reader lets others read again.
 fn by_tries<R>(rt: R) -> Result<bool, Refusal>
@@ -38,7 +36,7 @@ where
 /// By futures on an executor, each `Settled`.
 fn by_futures<R>(rt: R) -> Result<bool, Refusal>
 where
-    R: Wait + Clock + RandomSource + AllocGlobal + Copy + Drop,
+    R: Runtime + Copy,
 {
     let lock = RwLock::new(rt, 5_u64)?;
     let read = match block_on(&rt, Settled(lock.read())) {
@@ -68,7 +66,7 @@ where
 /// By guards that own their share of the lock, which try or block.
 fn owned<R>(rt: R) -> Result<bool, Refusal>
 where
-    R: Wait + Clock + RandomSource + AllocGlobal + Copy + Drop,
+    R: Runtime + Copy,
 {
     let Ok(lock) = Arc::new(rt.alloc(), RwLock::new(rt, 1_u64)?) else {
         return Err(Refusal::Memory);
@@ -86,7 +84,7 @@ where
 /// By futures that own their share of the lock and give it to their guards.
 fn owned_futures<R>(rt: R) -> Result<bool, Refusal>
 where
-    R: Wait + Clock + RandomSource + AllocGlobal + Copy + Drop,
+    R: Runtime + Copy,
 {
     let Ok(lock) = Arc::new(rt.alloc(), RwLock::new(rt, 1_u64)?) else {
         return Err(Refusal::Memory);
@@ -111,7 +109,7 @@ where
 /// Whether each call does as its comment here says.
 pub(crate) fn run<R>(rt: R) -> Result<bool, Refusal>
 where
-    R: Wait + Clock + RandomSource + AllocGlobal + Copy + Drop,
+    R: Runtime + Copy,
 {
     Ok(by_tries(rt)? && by_futures(rt)? && owned(rt)? && owned_futures(rt)?)
 }

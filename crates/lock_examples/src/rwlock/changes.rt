@@ -1,19 +1,17 @@
 //! How one guard of a read-write lock becomes another without letting a writer in between, and a lock that nobody else can have.
 
 use async_lock::{
-    Refusal, RwLock, RwLockUpgradableReadGuard, RwLockUpgradableReadGuardArc, RwLockWriteGuard,
-    RwLockWriteGuardArc, Settled,
+    Refusal, Runtime, RwLock, RwLockUpgradableReadGuard, RwLockUpgradableReadGuardArc,
+    RwLockWriteGuard, RwLockWriteGuardArc, Settled,
 };
 use futures::executor::block_on;
 use std::alloc::AllocGlobal;
-use std::random::RandomSource;
 use std::sync::{Arc, Wait};
-use std::time::Clock;
 
 /// Writes, reads on, and lets others write again.
 fn downgraded<R>(rt: R) -> Result<bool, Refusal>
 where
-    R: Wait + Clock + RandomSource + AllocGlobal + Copy + Drop,
+    R: Runtime + Copy,
 {
     let lock = RwLock::new(rt, 1_u64)?;
     let mut writer = lock.write_blocking()?;
@@ -31,7 +29,7 @@ where
 /// The same by guards that own their share of the lock.
 fn owned_downgraded<R>(rt: R) -> Result<bool, Refusal>
 where
-    R: Wait + Clock + RandomSource + AllocGlobal + Copy + Drop,
+    R: Runtime + Copy,
 {
     let Ok(lock) = Arc::new(rt.alloc(), RwLock::new(rt, 1_u64)?) else {
         return Err(Refusal::Memory);
@@ -52,7 +50,7 @@ where
 /// By upgrades of guards that own their share of the lock: one that is tried, one that blocks, and one on an executor.
 fn owned_upgraded<R>(rt: R) -> Result<bool, Refusal>
 where
-    R: Wait + Clock + RandomSource + AllocGlobal + Copy + Drop,
+    R: Runtime + Copy,
 {
     let Ok(lock) = Arc::new(rt.alloc(), RwLock::new(rt, 1_u64)?) else {
         return Err(Refusal::Memory);
@@ -89,7 +87,7 @@ where
 /// Whether each call does as its comment here says.
 pub(crate) fn run<R>(rt: R) -> Result<bool, Refusal>
 where
-    R: Wait + Clock + RandomSource + AllocGlobal + Copy + Drop,
+    R: Runtime + Copy,
 {
     Ok(downgraded(rt)? && owned_downgraded(rt)? && owned_upgraded(rt)? && alone(rt)?)
 }

@@ -1,15 +1,13 @@
 //! A guard that owns its lock.
 
-use async_lock::{Refusal, RwLock, RwLockReadGuardArc};
+use async_lock::{Refusal, Runtime, RwLock, RwLockReadGuardArc};
 use std::alloc::AllocGlobal;
-use std::random::RandomSource;
-use std::sync::{Arc, Wait};
-use std::time::Clock;
+use std::sync::Arc;
 
 /// Makes a lock of this number, and returns a guard that reads it. The lock lives as long as the guard.
 pub(crate) fn read<R>(rt: R, number: u64) -> Result<RwLockReadGuardArc<u64, R>, Refusal>
 where
-    R: Wait + Clock + RandomSource + AllocGlobal + Copy + Drop,
+    R: Runtime + Copy,
 {
     let Ok(lock) = Arc::new(rt.alloc(), RwLock::new(rt, number)?) else {
         return Err(Refusal::Memory);

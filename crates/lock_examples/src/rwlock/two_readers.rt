@@ -1,16 +1,11 @@
 //! Two threads that read the same value.
 
-use async_lock::{Refusal, RwLock};
+use async_lock::{Refusal, Runtime, RwLock};
 use std::alloc::AllocGlobal;
-use std::random::RandomSource;
-use std::sync::Wait;
 use std::thread::{self, Threads};
-use std::time::Clock;
 
 // What one thread reads.
-fn read<R: Wait + Clock + RandomSource + AllocGlobal>(
-    lock: &RwLock<u64, R>,
-) -> Result<u64, Refusal> {
+fn read<R: Runtime>(lock: &RwLock<u64, R>) -> Result<u64, Refusal> {
     let guard = lock.read_blocking()?;
     Ok(*guard)
 }
@@ -19,7 +14,7 @@ fn read<R: Wait + Clock + RandomSource + AllocGlobal>(
 // starts them gets no proof.
 fn read_in_two_threads<'a, R>(rt: &'a R, lock: &'a RwLock<u64, R>) -> Result<u64, Refusal>
 where
-    R: Wait + Clock + RandomSource + AllocGlobal + Threads + Sync,
+    R: Runtime + Threads + Sync,
 {
     let (one, two) = thread::join(rt, || read(lock), || read(lock));
     Ok(one?.saturating_add(two?))
@@ -28,7 +23,7 @@ where
 /// Returns the sum of what two threads read.
 pub(crate) fn run<R>(rt: R) -> Result<u64, Refusal>
 where
-    R: Wait + Clock + RandomSource + AllocGlobal + Threads + Sync + Copy + Drop,
+    R: Runtime + Threads + Sync + Copy,
 {
     let lock = RwLock::new(rt, 21_u64)?;
     read_in_two_threads(&rt, &lock)

@@ -1,17 +1,14 @@
 //! Four threads work, of which two at a time may.
 
-use async_lock::{Refusal, Semaphore};
+use async_lock::{Refusal, Runtime, Semaphore};
 use std::alloc::AllocGlobal;
-use std::random::RandomSource;
-use std::sync::Wait;
 use std::sync::atomic::{AtomicU64, Ordering};
 use std::thread::{self, Threads};
-use std::time::Clock;
 
 // Works with a permit: how many were at work then.
 fn work<R>(semaphore: &Semaphore<R>, at_work: &AtomicU64) -> Result<u64, Refusal>
 where
-    R: Wait + Clock + RandomSource + AllocGlobal,
+    R: Runtime,
 {
     let permit = semaphore.acquire_blocking()?;
     let others = at_work.fetch_add(1, Ordering::SeqCst);
@@ -29,7 +26,7 @@ fn in_four_threads<'a, R>(
     at_work: &'a AtomicU64,
 ) -> Result<u64, Refusal>
 where
-    R: Wait + Clock + RandomSource + AllocGlobal + Threads + Sync,
+    R: Runtime + Threads + Sync,
 {
     let works = || work(semaphore, at_work);
     let two = || thread::join(rt, &works, &works);
@@ -40,7 +37,7 @@ where
 /// The most that were at work at a time.
 pub(crate) fn run<R>(rt: R) -> Result<u64, Refusal>
 where
-    R: Wait + Clock + RandomSource + AllocGlobal + Threads + Sync + Copy + Drop,
+    R: Runtime + Threads + Sync + Copy,
 {
     let semaphore = Semaphore::new(rt, 2)?;
     let at_work = AtomicU64::new(0);

@@ -1,11 +1,9 @@
 //! The other calls of a semaphore: tries, futures on an executor, and the forms that own their share of the semaphore.
 
-use async_lock::{Refusal, Semaphore, Settled};
+use async_lock::{Refusal, Runtime, Semaphore, Settled};
 use futures::executor::block_on;
 use std::alloc::AllocGlobal;
-use std::random::RandomSource;
 use std::sync::{Arc, Wait};
-use std::time::Clock;
 
 /// By tries, which answer at once: of no permit none is had, and of two that are added one is left.
 fn by_tries<R>(rt: R) -> Result<bool, Refusal>
@@ -29,7 +27,7 @@ where
 /// By futures on an executor, each `Settled`.
 fn by_futures<R>(rt: R) -> Result<bool, Refusal>
 where
-    R: Wait + Clock + RandomSource + AllocGlobal + Copy + Drop,
+    R: Runtime + Copy,
 {
     let semaphore = Semaphore::new(rt, 3)?;
     let one = match block_on(&rt, Settled(semaphore.acquire())) {
@@ -49,7 +47,7 @@ where
 /// By guards that own their share of the semaphore, which try or block.
 fn owned<R>(rt: R) -> Result<bool, Refusal>
 where
-    R: Wait + Clock + RandomSource + AllocGlobal + Copy + Drop,
+    R: Runtime + Copy,
 {
     let Ok(semaphore) = Arc::new(rt.alloc(), Semaphore::new(rt, 3)?) else {
         return Err(Refusal::Memory);
@@ -64,7 +62,7 @@ where
 /// By futures that own their share of the semaphore and give it to their guards.
 fn owned_futures<R>(rt: R) -> Result<bool, Refusal>
 where
-    R: Wait + Clock + RandomSource + AllocGlobal + Copy + Drop,
+    R: Runtime + Copy,
 {
     let Ok(semaphore) = Arc::new(rt.alloc(), Semaphore::new(rt, 3)?) else {
         return Err(Refusal::Memory);
@@ -83,7 +81,7 @@ where
 /// Whether each call does as its comment here says.
 pub(crate) fn run<R>(rt: R) -> Result<bool, Refusal>
 where
-    R: Wait + Clock + RandomSource + AllocGlobal + Copy + Drop,
+    R: Runtime + Copy,
 {
     Ok(by_tries(rt)? && by_futures(rt)? && owned(rt)? && owned_futures(rt)?)
 }

@@ -1,15 +1,12 @@
 //! Permits that are acquired several at once, given back, and forgotten.
 
-use async_lock::{Refusal, Semaphore};
+use async_lock::{Refusal, Runtime, Semaphore};
 use std::alloc::AllocGlobal;
-use std::random::RandomSource;
-use std::sync::Wait;
-use std::time::Clock;
 
 /// Whether three more of five permits could be had beside three, and how many are left in the end.
 pub(crate) fn run<R>(rt: R) -> Result<(bool, usize), Refusal>
 where
-    R: Wait + Clock + RandomSource + AllocGlobal + Drop,
+    R: Runtime,
 {
     let semaphore = Semaphore::new(rt, 5)?;
     let three = semaphore.acquire_many_blocking(3)?;
