@@ -8,7 +8,7 @@
 set -eu
 
 program=${1:-}
-rows='tests/lockrun_rows/rows.rattle tests/lockrun_rows/more_rows.rattle'
+rows='tests/lockrun_rows/rows.rattle tests/lockrun_rows/dropped_rows.rattle tests/lockrun_rows/more_dropped_rows.rattle tests/lockrun_rows/more_rows.rattle'
 work=$(mktemp -d)
 trap 'rm -rf "$work"' EXIT
 
