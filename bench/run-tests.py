@@ -9,7 +9,7 @@ repository, since to build a crate costs more than to run its tests, and `rt try
 address. A folder of tests/ with a main.rattle is a program. It is run as the programs of crates/ are: on its files stdin and args, and
 what it prints is compared with its file stdout, and its status with its file status.
 
-A test or program has one line if it fails; those that pass are counted. The last line is 'N passed, M failed', and the status is 1 if
+Each test has a line, and each is counted, as each program is. The last line is 'N passed, M failed', and the status is 1 if
 any failed.
 
 The walks of the lockstep tests are cut short, after some thousand states; with --whole they go through all, which takes some ten minutes
@@ -162,6 +162,7 @@ def run_group(layout, group):
     if status or len(found) != wanted or failed:
         failed += [f'{group}: {len(found)} of {wanted} tests were run, and the status is {status}'] * (not failed)
         print(said[-6000:])
+    print('\n'.join(f'test {name} ... {what}' for name, what in found), flush=True)
     return len(found) - len([it for it in failed if it.startswith('test ')]), failed, seconds
 
 
