@@ -15,7 +15,7 @@
 # them the same allocation is refused: so a test throws some away first. Nothing is proved.
 #
 # Run it at the top of the repository, with `rt` on the PATH: bench/check-refusals.sh. It takes a minute, or two where other work is
-# done beside it. bench/refuse-calls.sh and bench/refuse-allocations.sh try more, and take longer.
+# done beside it. The last line has the figures. bench/refuse-all.sh tries more, and takes longer.
 set -eu
 
 python3 - <<'PYTHON'
@@ -186,7 +186,7 @@ if ["refused: no memory", "1 held the lock"] not in printed.values():
 
 for row in wrong:
     print(row, file=sys.stderr)
-if not wrong:
-    print(f"in {len(printed)} runs refused memory is told of as such")
+told = [lines for lines in printed.values() if any(line.startswith("refused: ") for line in lines)]
+print(f"{len(printed)} runs of calls, {len(told)} allocations refused, {len(wrong)} differences")
 sys.exit(1 if wrong else 0)
 PYTHON

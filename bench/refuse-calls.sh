@@ -7,7 +7,8 @@
 # Its calls that need no thread are tried by bench/check-refusals.sh too. Which call of a thread an allocation is made by differs from run
 # to run, so it is no check of .ci/run.
 #
-# Run it at the top of the repository, with `rt` on the PATH: bench/refuse-calls.sh. It takes some five minutes.
+# Run it at the top of the repository, with `rt` on the PATH: bench/refuse-calls.sh. It takes some five minutes. The last line has the
+# figures.
 set -eu
 
 # More allocations than the program makes before its threads start, and some of those that its threads make.
@@ -49,3 +50,5 @@ grep -v '^#\|^$' "$calls" | while read -r call; do
         exit 1
     }
 done
+refused=$(grep -c '^refused: ' "$work/log") || true
+echo "$most runs of calls and threads, $refused allocations refused, 0 differences"
