@@ -7,7 +7,8 @@ The tests stand in tests/NAME as *.rattle files: what the toolchain proves is ea
 what tells. tests/tests.txt says what each stands on, as crates.txt does. They are laid out as modules of a few crates in a copy of the
 repository, since to build a crate costs more than to run its tests, and `rt try --test` builds and runs these with checks of each
 address. A folder of tests/ with a main.rattle is a program. It is run as the programs of crates/ are: on its files stdin and args, and
-what it prints is compared with its file stdout, and its status with its file status.
+what it prints is compared with its file stdout, and its status with its file status. Or it has a folder cases, and is run on each file NAME there
+with the arguments in NAME.args; it has to end with status 0, and prints what NAME.stdout has, if that is there.
 
 Each test has a line, and each is counted, as each program is. The last line is 'N passed, M failed', and the status is 1 if
 any failed.
@@ -86,12 +87,9 @@ class Layout:
         self.divide()
         for name in self.programs:
             if name in self.needs:
-                self.lay_program(name)
-                lines.append(f'{name}: {" ".join(self.needs[name])}\n')
+                lines.append(f'{name}: {" ".join(self.lay_program(name))}\n')
         for group, names in self.groups.items():
-            self.lay_group(group, names)
-            needs = dict.fromkeys(it for name in names for it in self.needs[name] if it not in self.needs)
-            lines.append(f'{group}: {" ".join(needs)}\n')
+            lines.append(f'{group}: {" ".join(self.lay_group(group, names))}\n')
         write(f'{folder}/crates.txt', ''.join(lines))
 
     def divide(self):
@@ -112,28 +110,48 @@ class Layout:
             some += [it for it in [*shared, name] if it not in some]
 
     def lay_program(self, name):
+        """Lays a program of tests/ out as a crate, with what it shares with tests as its modules, and returns what it stands on."""
         own, crate = f'{self.top}/tests/{name}', f'{self.folder}/crates/{name}'
+        shared = [it for it in self.needs[name] if it in self.needs]
         for path in sources(own):
-            write(f'{crate}/src/{path}.rt', text_of(f'{own}/{path}.rattle'))
+            text = self.among(shared, text_of(f'{own}/{path}.rattle'))
+            if path == 'main' and shared:
+                mark = '#![tactic(auto)]\n'
+                text = text.replace(mark, mark + '\n' + ''.join(f'mod {it};\n' for it in shared), 1)
+            write(f'{crate}/src/{path}.rt', text)
+        self.lay_modules(crate, shared, shared)
         for part in ('stdin', 'stdout', 'args', 'status'):
             if os.path.isfile(f'{own}/{part}'):
                 shutil.copy(f'{own}/{part}', crate)
+        if os.path.isdir(f'{own}/cases'):
+            shutil.copytree(f'{own}/cases', f'{crate}/cases')
+        return self.crates_below([name, *shared])
 
     def lay_group(self, group, names):
-        shared = '|'.join(self.needs)
+        """Lays tests out as the modules of one crate, and returns what it stands on."""
+        crate = f'{self.folder}/crates/{group}'
+        self.lay_modules(crate, names, [*self.needs])
+        root = '//! Tests of several crates.\n#![tactic(auto)]\n'
+        root += ''.join(f'\n#[cfg(test)]\nmod {name};\n' for name in names)
+        write(f'{crate}/src/lib.rt', root)
+        return self.crates_below(names)
+
+    def lay_modules(self, crate, names, shared):
         for name in names:
             own = f'{self.top}/tests/{name}'
             for path in sources(own):
                 text = re.sub(r'\bcrate::', f'crate::{name}::', text_of(f'{own}/{path}.rattle'))
-                text = re.sub(rf'(?<![\w:])({shared})::', r'crate::\1::', text)
-                text = re.sub(r'(?m)^#!\[tactic\(.*\)\]\n', '', text)
+                text = re.sub(r'(?m)^#!\[tactic\(.*\)\]\n', '', self.among(shared, text))
                 if name == 'walks' and not self.is_whole:
                     text = shortened(text)
-                to = name if path == 'lib' else f'{name}/{path}'
-                write(f'{self.folder}/crates/{group}/src/{to}.rt', text)
-        root = '//! Tests of several crates.\n#![tactic(auto)]\n'
-        root += ''.join(f'\n#[cfg(test)]\nmod {name};\n' for name in names)
-        write(f'{self.folder}/crates/{group}/src/lib.rt', root)
+                write(f'{crate}/src/{name if path == "lib" else f"{name}/{path}"}.rt', text)
+
+    def among(self, shared, text):
+        """Returns a text with these names of tests as modules of its crate."""
+        return re.sub(rf'(?<![\w:])({"|".join(shared)})::', r'crate::\1::', text) if shared else text
+
+    def crates_below(self, names):
+        return [*dict.fromkeys(it for name in names for it in self.needs[name] if it not in self.needs)]
 
     def count(self, group):
         """Returns how many tests a group has by its text."""
@@ -176,6 +194,8 @@ def run_program(layout, name):
         with open(f'{folder}/{it}', 'rb') as file:
             return file.read()
 
+    if os.path.isdir(f'{folder}/cases'):
+        return run_cases(folder, name)
     words = part('args', b'').decode().split('\n')
     words = words[:-1] if words[-1:] == [''] else words
     status, out, errors, seconds = call([*TRY, '--seconds', str(SECONDS), '--', *words], folder, part('stdin', b''))
@@ -187,6 +207,17 @@ def run_program(layout, name):
     if failed:
         print((out + errors).decode(errors='replace')[-3000:])
     return 1 - len(failed), failed, seconds
+
+
+def run_cases(folder, name):
+    """Runs a program once for each of its cases, as `rt try --cases` does, and returns how many passed, what failed, and the seconds."""
+    cases = sorted(it for it in os.listdir(f'{folder}/cases') if '.' not in it)
+    status, out, errors, seconds = call([*TRY, '--seconds', str(SECONDS), '--cases', 'cases'], folder)
+    said = (out + errors).decode(errors='replace')
+    failed = [f'program {name}: its case {it} ended otherwise' for it in cases if not re.search(rf'(?m)^case={it} run=ended status=0\b', said)]
+    failed += [f'program {name}: a case printed something else'] * (status != 0 and not failed)
+    print(said[-3000:], flush=True)
+    return len(cases) - len(failed), failed, seconds
 
 
 def free():
