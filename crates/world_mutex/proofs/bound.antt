@@ -3,3 +3,6 @@ pub mod Alone
 pub mod AloneSeen
 pub mod Sure
 pub mod Bound
+pub mod Counted
+pub mod Behind
+pub mod Overtaking

@@ -3,4 +3,6 @@ pub mod Whole
 pub mod Patient
 pub mod Ring
 pub mod FirstPolls
+pub mod Newcomers
+pub mod Takers
 pub mod Promises

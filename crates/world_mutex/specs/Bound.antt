@@ -48,6 +48,19 @@ pub record SoloPoll (w : World) (p : ℕ) (a : Answer) (v : World) : Type 0 wher
   pub takes_or_gives_way : how_many w.state.starved < w.limit → Takes w p a v ⊎ GivesWay w p a v
   pub takes : (is_starved w.state p ≡ true) ⊎ (how_many w.state.starved ≡ 0) → Takes w p a v
 
+-- What a whole call promises those that wait for too long.
+pub record ServesStarved (w : World) (p : ℕ) (c : Call) (inputs : Inputs) (a : Answer) (v : World) : Type 0 where
+  -- A notified party that has waited for too long, or beside whom somebody is starved, has the lock at its poll's end or is starved, if it finds memory and fewer are than may be.
+  pub counted : c ≡ call.Poll → IsSolo w p inputs → (inputs.starving ≡ true) ⊎ (0 < how_many w.state.starved) → how_many w.state.starved < w.limit → (v.state.holder ≡ Some p) ⊎ (is_starved v.state p ≡ true)
+  -- It is starved, where it found the lock held.
+  pub held : c ≡ call.Poll → IsSolo w p inputs → (inputs.starving ≡ true) ⊎ (0 < how_many w.state.starved) → how_many w.state.starved < w.limit → w.state.holder ≢ None → is_starved v.state p ≡ true
+  -- At rest it doesn't take the lock while another is starved and it isn't.
+  pub behind : c ≡ call.Poll → IsNotified w p → is_at_rest w ≡ true → is_starved w.state p ≡ false → 0 < how_many w.state.starved → v.state.holder ≢ Some p
+  -- A first poll never takes the lock while somebody is starved: it is pending, and its party is starved from then on; or it is refused.
+  pub newcomer : is_first_poll (standing_of w p) (Begin c inputs) (entries_of p w.entries) ≡ true → 0 < how_many w.state.starved → ((a ≡ answer.Pending) × (is_starved v.state p ≡ true)) ⊎ (is_refusal a ≡ true)
+  -- So while somebody is starved nobody takes the lock but in a poll for which it was notified.
+  pub only_told : 0 < how_many w.state.starved → w.state.holder ≢ Some p → (c ≡ call.Poll → IsNotified w p → ⊥) → v.state.holder ≢ Some p
+
 -- What a whole call promises beside its end.
 pub record Promises (w : World) (p : ℕ) (c : Call) (inputs : Inputs) (a : Answer) (v : World) : Type 0 where
   -- A first poll of a free lock where nobody is starved is ready.
@@ -64,8 +77,12 @@ pub record Promises (w : World) (p : ℕ) (c : Call) (inputs : Inputs) (a : Answ
   pub patient : inputs.starving ≡ false → how_many w.state.starved ≡ 0 → a ≢ refused Starved
   -- Nor is a first poll, whatever the clock says: it hasn't waited.
   pub first_patient : is_first_poll (standing_of w p) (Begin c inputs) (entries_of p w.entries) ≡ true → how_many w.state.starved ≡ 0 → a ≢ refused Starved
+  -- Nor is its party starved at its end: it hasn't waited.
+  pub first_unstarved : is_first_poll (standing_of w p) (Begin c inputs) (entries_of p w.entries) ≡ true → how_many w.state.starved ≡ 0 → is_starved v.state p ≡ false
   -- A refused poll of a party that stood in the list hands on what it was told: some entry is marked, if there is any.
   pub hands_on : c ≡ call.Poll → standing_of w p ≡ outside Pending → 0 < entries_of p w.entries → is_refusal a ≡ true → 0 < length v.entries → 0 < marked_count v.entries
+  -- Whoever has waited for too long is counted as starved, and nobody new comes before the starved.
+  pub serves_starved : ServesStarved w p c inputs a v
 
 -- A whole solo poll that doesn't take the lock, while fewer parties are starved than may be.
 pub record PassesOver (w : World) (p : ℕ) (inputs : Inputs) (a : Answer) (v : World) : Type 0 where

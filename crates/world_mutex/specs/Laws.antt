@@ -54,6 +54,8 @@ pub record IsSound (w : World) : Type 0 where
   -- No party stands in the list twice, and the marked entries stand before the waiting ones.
   pub once : (p : ℕ) → entries_of p w.entries ≤ 1
   pub in_order : IsMarkedFirst w.entries
+  -- One entry at most is marked: a mutex wakes one party at a time.
+  pub one_told : marked_count w.entries ≤ 1
 
 -- Nobody is inside a call.
 abbrev pub is_at_rest : World → Bool

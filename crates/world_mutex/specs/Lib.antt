@@ -10,5 +10,6 @@ pub mod Steps
 pub mod Runs
 pub mod Whole
 pub mod Bound
+pub mod Overtaking
 pub mod Openings
 pub mod Lending

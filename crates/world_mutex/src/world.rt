@@ -11,6 +11,7 @@ ghost use Rattle.world_mutex.specs.State.{new_world};
 ghost use Rattle.world_mutex.specs.Steps.{Steps};
 ghost use Rattle.world_mutex.specs.Laws.{IsSound, IsAwake, IsFreeAndWanted, is_at_rest};
 ghost use Rattle.world_mutex.specs.Bound.{IsBounded};
+ghost use Rattle.world_mutex.specs.Overtaking.{IsOvertakenSeldom};
 
 use crate::guarded::Guarded;
 use lock_event::Entry;
@@ -133,6 +134,14 @@ impl World {
     /// forgotten.
     pub fn solo_polls(&self)
         ensures bounded { is_at_rest self.now ≡ true → IsFreeAndWanted self.now → IsBounded self.now }
+    {
+        self.laws();
+    }
+
+    /// How often a starved party that waits in the list may be overtaken: by whole calls of others, however many and however
+    /// long, at most as often as entries stand before its own. It does nothing.
+    pub fn overtakings(&self)
+        ensures seldom { IsOvertakenSeldom self.now }
     {
         self.laws();
     }

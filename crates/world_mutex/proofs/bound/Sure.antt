@@ -36,7 +36,7 @@ record Begins (l : Lock) (p : ℕ) (from : Place) : Type 0 where
   pub free : holders l ≡ 0
   pub why : IsStarved l p ⊎ (starved l ≡ 0)
 
-told_yes : (memory : Bool) (p : ℕ) (f : Found) (l : Lock) (es ms : List (Entry ℕ)) → Finds memory Action.Ask f l → OnParties p Action.Ask f es ms → is_marked_at (is_party p) es ≡ true → f ≡ Yes
+pub told_yes : (memory : Bool) (p : ℕ) (f : Found) (l : Lock) (es ms : List (Entry ℕ)) → Finds memory Action.Ask f l → OnParties p Action.Ask f es ms → is_marked_at (is_party p) es ≡ true → f ≡ Yes
 told_yes memory p Yes l es ms e o marked = refl
 told_yes memory p No l es ms e o marked = absurd (true≢false (sym marked ∙ o.0))
 told_yes memory p _ l es ms e o marked = absurd e
@@ -68,11 +68,11 @@ begins_sure memory p Place.AskStarved n l k at there b marked acts =
 begins_sure memory p _ n l k at there b marked acts = absurd (elim b.asks as (λ _. ⊥) [ inl e ↦ cc | inr e ↦ cc ])
 
 -- a poll of a party that waits begins where it stands
-record Asks (x from : Place) : Type 0 where
+pub record Asks (x from : Place) : Type 0 where
   pub same : x ≡ from
   pub asks : (from ≡ Place.Ask) ⊎ (from ≡ Place.AskStarved)
 
-asks_from : (x from : Place) → is_waiting x ≡ true → start_of LockCall.Poll x ≡ Some from → Asks x from
+pub asks_from : (x from : Place) → is_waiting x ≡ true → start_of LockCall.Poll x ≡ Some from → Asks x from
 asks_from Place.Ask from w e = record { same = some_eq e; asks = inl (sym (some_eq e)) }
 asks_from Place.AskStarved from w e = record { same = some_eq e; asks = inr (sym (some_eq e)) }
 asks_from _ from w e = absurd (cc (w))
@@ -152,7 +152,7 @@ module _ (p : ℕ) (i : Inputs) (n : ℕ) where
 -- ---- as callers see it
 
 module _ (t : Table Guarded) (p : ℕ) (tm : IsMutex t.machine.lock) (tf : IsMutexTable t) (told : IsNotified (view_of t) p) where
-  at_stage : stage_at t.stages p ≡ Outside Rest.Pending
+  pub at_stage : stage_at t.stages p ≡ Outside Rest.Pending
   at_stage = outside_stage (verdict t.machine p) (stage_at t.stages p) Rest.Pending (sym (seen.stands_seen t p) ∙ told.pending)
 
   fits : goes_with (Outside Rest.Pending) (place_of t.machine p) ≡ true
@@ -160,7 +160,7 @@ module _ (t : Table Guarded) (p : ℕ) (tm : IsMutex t.machine.lock) (tf : IsMut
       (λ past. absurd (cc (sym past ∙ at_stage)))
       (λ inside. ap (λ s. goes_with s (place_of t.machine p)) (sym at_stage) ∙ tf.stands p inside)
 
-  waits : is_waiting (place_of t.machine p) ≡ true
+  pub waits : is_waiting (place_of t.machine p) ≡ true
   waits = let some : 0 < listed (place_of t.machine p) = omega (arith, tm.owners p, marked_listed p t.machine.lock.entries told.marked) in waits_listed (place_of t.machine p) fits some
 
   why : (is_starved (view_of t).state p ≡ true) ⊎ (how_many (view_of t).state.starved ≡ 0) → IsStarved t.machine.lock p ⊎ (starved t.machine.lock ≡ 0)

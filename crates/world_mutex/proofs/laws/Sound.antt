@@ -80,6 +80,7 @@ module _ (t : Table Guarded) (laws : IsMutex t.machine.lock) (fits : IsMutexTabl
     told_or_due = told_or_due;
     once = λ p. rw (laws.owners p) (once (place_of t.machine p));
     in_order = laws.in_order;
+    one_told = laws.one_told;
   }
 
   module _ (rests : is_at_rest (view_of t) ≡ true) where

@@ -9,3 +9,4 @@ pub mod Owners
 pub mod Starts
 pub mod Laws
 pub mod Seen
+pub mod Marks

@@ -6,4 +6,6 @@ pub mod Legal
 pub mod Promised
 pub mod Sights
 pub mod Asked
+pub mod Untold
 pub mod Clauses
+pub mod Told

@@ -1,4 +1,4 @@
--- A first poll isn't refused for the number of starved parties, where nobody is starved.
+-- A first poll isn't refused for the number of starved parties, where nobody is starved, nor is its party starved then.
 use Rattle.world_mutex.proofs.Prelude.{◌≡◌, ℕ, Bool, true, false, List, refl, arith, ap, sym, ◌∙◌, subst, get_or-set_same, true≢false, Entry, is_marked_at, is_party, entries_of, Answer, Call, Inputs, Move, What, Begin, Go, Within, inputs_of, going_on, joined_unmarked, beginning, Onward, stage_at, Table, End, Found, Done, Free, Held, SomeStarved, Yes, Next, Place, Out, Enter, Join, Look, Ask, Leave, action_of, next_of, place_after, listed, Finds, starved, is_counting, HeedsClock, Lock, place_at, OnParties, Guarded, place_of, answer_by, is_try_kind, is_first_poll, World, standing_of, Steps, view_of}
 use Rattle.world_mutex.proofs.of_machine.legal.Promised.{none_counted}
 use Rattle.world_mutex.proofs.step.Acting.{Acting}
@@ -64,7 +64,7 @@ module _ (p : ℕ) (i : Inputs) where
     pub fresh : FreshAt (place_of t.machine p) p t.machine.lock.entries
 
   abbrev pub Unrefused : Answer → Table Guarded → Type 0
-  Unrefused b t = refuses_many b ≡ false
+  Unrefused b t = (refuses_many b ≡ false) × (starved t.machine.lock ≡ 0)
 
   abbrev OnTo : Answer → Table Guarded → Type 0
   OnTo = Onward Fresh Unrefused
@@ -72,9 +72,9 @@ module _ (p : ℕ) (i : Inputs) where
   answered : (trying : Bool) (v : ℕ) (from : Place) (n : Next) (a : Answer) (u : Table Guarded) → a ≡ answer_by trying v n → place_of u.machine p ≡ place_after from n → starved u.machine.lock ≡ 0 → FreshThen n p u.machine.lock.entries → OnTo a u
   answered trying v from (Next.Do b x) a u is to none h = (
       let F : Place → Type 0 = λ y. FreshAt y p u.machine.lock.entries in
-      record { going = λ e. record { unstarved = none; fresh = subst F (sym to) h }; ended = λ e. ap refuses_many is }
+      record { going = λ e. record { unstarved = none; fresh = subst F (sym to) h }; ended = λ e. (ap refuses_many is, none) }
       )
-  answered trying v from (Next.End e) a u is to none h = record { going = λ s. absurd (ends_not trying v e (sym is ∙ s)); ended = λ s. ap refuses_many is ∙ h trying v }
+  answered trying v from (Next.End e) a u is to none h = record { going = λ s. absurd (ends_not trying v e (sym is ∙ s)); ended = λ s. (ap refuses_many is ∙ h trying v, none) }
 
   acted : (t u : Table Guarded) (what : What) (a : Answer) (w : Within) (k : Acting t u (record { party = p; what = what }) a w) → starved t.machine.lock ≡ 0 → FreshAt k.carries.from p t.machine.lock.entries → OnTo a u
   acted t u what a w k none fresh =
@@ -90,14 +90,14 @@ module _ (p : ℕ) (i : Inputs) where
       let lands : place_of u.machine p ≡ place_after from k.carries.next = ap (λ ps. place_at ps p) did.places ∙ get_or-set_same t.machine.lock.places p (place_after from k.carries.next) Out (acting.there t u m a w k) in
       answered (is_try_kind w.kind) t.machine.value from k.carries.next a u k.carries.answer lands it.0 (subst N (sym did.next_is) on)
 
-  ends_so : (b : Answer) (x : Table Guarded) → (b ≡ Answer.Stepped → ⊥) → refuses_many b ≡ false → OnTo b x
-  ends_so b x f g = record { going = λ s. absurd (f s); ended = λ s. g }
+  ends_so : (b : Answer) (x : Table Guarded) → (b ≡ Answer.Stepped → ⊥) → refuses_many b ≡ false → starved x.machine.lock ≡ 0 → OnTo b x
+  ends_so b x f g none = record { going = λ s. absurd (f s); ended = λ s. (g, none) }
 
   steps : (x : World) (what : What) (a : Answer) (v : World) → starved x.behind.machine.lock ≡ 0 → ((w : Within) (k : Acting x.behind v.behind (record { party = p; what = what }) a w) → FreshAt k.carries.from p x.behind.machine.lock.entries)
       → Steps x (record { party = p; what = what }) a v → Onward (λ y. Fresh y.behind) (λ b y. Unrefused b y.behind) a v
   steps x what a v none fresh s =
       let o = by_step x.behind v.behind (record { party = p; what = what }) a s.did.stood.laws s.did.stood.fits s.did.stands.laws s.did.stands.fits OnTo
-      (ends_so _ x.behind (λ e. cc e) refl) (ends_so _ x.behind (λ e. cc e) refl) (λ n e. ends_so _ v.behind (λ y. cc y) refl)
+      (ends_so _ x.behind (λ e. cc e) refl none) (ends_so _ x.behind (λ e. cc e) refl none) (λ n e. ends_so _ v.behind (λ y. cc y) refl (ap (λ (g : Guarded). starved g.lock) e ∙ none))
       (λ w k. acted x.behind v.behind what a w k none (fresh w k)) s.did.step in
       record { going = o.going; ended = o.ended }
 

@@ -10,6 +10,10 @@ use Rattle.world_mutex.proofs.bound.AloneSeen.{waits_listed, poll_seen}
 use Rattle.world_mutex.proofs.bound.Sure.{notified_takes}
 use Rattle.world_mutex.proofs.step.Here.{BeginsOrGoes, same_roles}
 use Rattle.world_mutex.proofs.table.Seen as seen
+use Rattle.world_mutex.proofs.bound.Counted.{has_or_starved, starved_if_held}
+use Rattle.world_mutex.proofs.bound.Behind.{waits_behind}
+use Rattle.world_mutex.proofs.whole.Newcomers.{newcomer}
+use Rattle.world_mutex.proofs.whole.Takers.{only_told}
 use Rattle.world_mutex.proofs.whole.Patient.{is_too_many, refuses_many, calm, begins_calm}
 use Rattle.world_mutex.proofs.whole.Whole.{from_turn, by_step}
 
@@ -152,12 +156,17 @@ module _ (known : ℕ → Account) (w : World) (p : ℕ) (c : Call) (i : Inputs)
       let Left : World → Type 0 = λ x. M x v in
       subst Left (sym stood.seen) (subst (M (view_of w.behind)) (sym stands.seen) kept)
 
-  first_patient : is_first_poll (standing_of w p) (Begin c i) (entries_of p w.entries) ≡ true → how_many w.state.starved ≡ 0 → a ≢ refused Refusal.Starved
-  first_patient is none refused_so =
+  fresh_so : is_first_poll (standing_of w p) (Begin c i) (entries_of p w.entries) ≡ true → how_many w.state.starved ≡ 0 → fresh.Unrefused p i a v.behind
+  fresh_so is none =
       let zero : starved w.behind.machine.lock ≡ 0 = sym (starved_behind w stood) ∙ none in
       let F : World → Type 0 = λ x. is_first_poll (standing_of x p) (Begin c i) (entries_of p x.entries) ≡ true in
-      let kept = along Steps accounts_after HoldsWell p i (λ y. fresh.Fresh p i y.behind) (λ b y. fresh.Unrefused p i b y.behind) (fresh.onward p i) known n w (beginning p c i) a v (fresh.first p i c w zero (subst F stood.seen is)) ended runs in
-      true≢false (sym (ap refuses_many refused_so) ∙ kept)
+      along Steps accounts_after HoldsWell p i (λ y. fresh.Fresh p i y.behind) (λ b y. fresh.Unrefused p i b y.behind) (fresh.onward p i) known n w (beginning p c i) a v (fresh.first p i c w zero (subst F stood.seen is)) ended runs
+
+  first_patient : is_first_poll (standing_of w p) (Begin c i) (entries_of p w.entries) ≡ true → how_many w.state.starved ≡ 0 → a ≢ refused Refusal.Starved
+  first_patient is none refused_so = true≢false (sym (ap refuses_many refused_so) ∙ (fresh_so is none).0)
+
+  plain_at_first : is_first_poll (standing_of w p) (Begin c i) (entries_of p w.entries) ≡ true → how_many w.state.starved ≡ 0 → is_starved v.state p ≡ false
+  plain_at_first is none = not_counted v p stands (fresh_so is none).1
 
   hands_on : c ≡ Call.Poll → standing_of w p ≡ outside Rest.Pending → 0 < entries_of p w.entries → is_refusal a ≡ true → 0 < length v.entries → 0 < marked_count v.entries
   hands_on is pending some refused there =
@@ -174,5 +183,13 @@ module _ (known : ℕ → Account) (w : World) (p : ℕ) (c : Call) (i : Inputs)
     tells_nobody = tells_nobody;
     patient = patient;
     first_patient = first_patient;
+    first_unstarved = plain_at_first;
     hands_on = hands_on;
+    serves_starved = record {
+      counted = λ is solo why below. (let R : Call → Type 0 = λ x. Runs known w (moves_of p x i n) (answers_of n a) v in has_or_starved known w p i n a v stood stands (subst R is runs) ended solo why below);
+      held = λ is solo why below busy. (let R : Call → Type 0 = λ x. Runs known w (moves_of p x i n) (answers_of n a) v in starved_if_held known w p i n a v stood stands (subst R is runs) ended solo why below busy);
+      behind = λ is told rests plain some. (let R : Call → Type 0 = λ x. Runs known w (moves_of p x i n) (answers_of n a) v in waits_behind known w p i n a v stood stands (subst R is runs) ended told rests plain some);
+      newcomer = newcomer known w p c i n a v stood stands runs ended;
+      only_told = only_told known w p c i n a v stood stands runs ended;
+    };
   }

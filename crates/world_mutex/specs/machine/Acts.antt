@@ -76,6 +76,7 @@ pub record IsMutex (l : Lock) : Type 0 where
   -- a party's places in the list are told by where it stands
   pub owners : (p : ℕ) → entries_of p l.entries ≡ listed (place_at l.places p)
   pub in_order : IsMarkedFirst l.entries
+  pub one_told : marked_count l.entries ≤ 1
   -- where the lock is free and a party waits in the list, some entry is marked or some party has still to notify or to look
   pub told_or_due : holders l ≡ 0 → (p : ℕ) → is_waiting (place_at l.places p) ≡ true → (0 < marked_count l.entries) ⊎ ((q : ℕ) × (is_due (place_at l.places q) ≡ true))
   -- at rest, a list that waits for a free lock has a marked entry

@@ -13,7 +13,7 @@ use Rattle.lock_program.specs.declared.end.End.{End}
 use Rattle.lock_program.specs.declared.end.End.TheVariants.{Got, Pending, NotFree, GivenBack, Refused}
 use Rattle.lock_program.specs.declared.mutex.Step.{Step}
 use Rattle.lock_program.specs.declared.mutex.Step.TheVariants as step
-use Rattle.world_mutex.specs.machine.Course.{Course, counted, decision, is_waiting, is_called, is_counting, is_told}
+use Rattle.world_mutex.specs.machine.Course.{Course, waiting, counted, decision, is_waiting, is_called, is_counting, is_told, is_untold}
 use Rattle.world_mutex.specs.machine.Deeds.{Change, takes, releases, starves, recovers, ListName, holder_after, starved_after, entries_after, gives_back, gives_up, is_release, is_fresh}
 use Rattle.world_mutex.specs.machine.Mutex.{Mutex, course_at, holders, starved, Holds, IsStarved, holder_of, starved_of}
 use Rattle.world_base.specs.Steps.{notifies, notifies_additionally}
@@ -21,7 +21,7 @@ use Rattle.world_mutex.specs.machine.Course.{listed, may_tell, is_releasing}
 use Rattle.world_mutex.specs.machine.Deeds.{for_the_lock}
 use Rattle.lock_event.specs.Lists.{is_marked_at}
 use Rattle.world_base.specs.Steps.{asked}
-use Rattle.std.specs.Prelude.{if◌then◌else◌}
+use Rattle.std.specs.Prelude.{if◌then◌else◌, nat_lt}
 
 -- The end on which a call is decided once a step has led here.
 abbrev pub decided_then : Step → Course → Option End
@@ -78,10 +78,11 @@ pub record Asks (p : ℕ) (s : Step) (old new : Mutex) : Type 0 where
   pub holder : holder_of new ≡ holder_of old
   pub starved : starved_of new ≡ starved_of old
 
--- A first poll, a try, and a poll of a party that stands in no list take the lock at once exactly where nobody holds it and nobody is starved, and their call is over then. A poll of a party that stands in the list asks there.
+-- A first poll, a try, and a poll of a party that stands in no list take the lock at once exactly where nobody holds it and nobody is starved, and their call is over then; they do nothing else. A poll of a party that stands in the list asks there.
 pub record TakesAtOnce (c : LockCall) (p : ℕ) (s : Step) (old new : Mutex) : Type 0 where
   pub takes : is_fresh c (entries_of p old.entries) ≡ true → (holder_of new ≡ Some p) ↔ ((holders old ≡ 0) × (starved old ≡ 0))
   pub ends : is_fresh c (entries_of p old.entries) ≡ true → holders old ≡ 0 → starved old ≡ 0 → s ≡ step.End Got
+  pub looks : is_fresh c (entries_of p old.entries) ≡ true → (new.entries ≡ old.entries) × (starved_of new ≡ starved_of old)
   pub listed : c ≡ call.Poll → 0 < entries_of p old.entries → Asks p s old new
 
 -- A party that was notified and finds the lock held, where nobody is starved, is about to be counted exactly if it has waited for too long.
@@ -102,3 +103,19 @@ HandsOn (step.End e) to l = Unit {0}
 abbrev pub BeginsToHandOn : LockCall → Course → Step → Course → List (Entry ℕ) → Type 0
 BeginsToHandOn call.Poll from s to l = is_waiting from ≡ true → HandsOn s to l
 BeginsToHandOn _ from s to l = Unit {0}
+
+-- Whether some party is starved.
+abbrev pub is_some_starved : Mutex → Bool
+is_some_starved m = nat_lt 0 (starved m)
+
+-- The party is in a poll that took no notification, and isn't marked.
+abbrev pub IsUntold : ℕ → Bool → Mutex → Type 0
+IsUntold p beside m = (is_untold beside (course_at m.courses p) ≡ true) × (is_marked_at (is_party p) m.entries ≡ false)
+
+-- What becomes of such a poll, and of a call that takes the lock at once where it may. Beside starved parties it waits as one of them or is refused, and a try is in vain; where there are none it isn't refused for their number, and doesn't wait as one.
+abbrev pub StaysUntold : ℕ → Bool → Step → Mutex → Type 0
+StaysUntold p beside step.More m = IsUntold p beside m × (is_some_starved m ≡ beside)
+StaysUntold p beside (step.End Got) m = beside ≡ false
+StaysUntold p beside (step.End Pending) m = course_at m.courses p ≡ waiting beside
+StaysUntold p beside (step.End (Refused Starved)) m = beside ≡ true
+StaysUntold p beside (step.End e) m = Unit {0}

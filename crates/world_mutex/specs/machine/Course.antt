@@ -9,7 +9,7 @@ use Rattle.lock_program.specs.declared.end.End.{End}
 use Rattle.lock_program.specs.declared.end.End.TheVariants.{Got, Pending, NotFree, GivenBack, Refused}
 use Rattle.lock_program.specs.declared.mutex.Step.{Step}
 use Rattle.lock_program.specs.declared.mutex.Step.TheVariants as step
-use Rattle.std.specs.Prelude.{◌&&◌, if◌then◌else◌}
+use Rattle.std.specs.Prelude.{◌&&◌, if◌then◌else◌, not}
 
 -- How far a poll is: nothing is decided yet; its party was notified, and looks at the lock next; it is about to be counted as starved; it has the lock; or it gives up for this reason.
 pub data Progress : Type 0 where
@@ -76,6 +76,15 @@ abbrev pub is_told : Course → Bool
 is_told (waiting starved) = true
 is_told (taking progress starved listed told) = told
 is_told _ = false
+
+-- It is in a poll that took no notification, as a newcomer's: beside starved parties it hasn't the lock, and asks in the list as one of them; where there are none it isn't counted, nor about to be.
+abbrev pub is_untold : Bool → Course → Bool
+is_untold beside (waiting starved) = if beside then starved else not starved
+is_untold beside (taking undecided starved listed told) = not told && not starved
+is_untold beside (taking counting starved listed told) = beside && listed && not told
+is_untold beside (taking (gives_up refusal) starved listed told) = beside && not told
+is_untold beside (taking has_lock starved listed told) = not beside && not starved
+is_untold beside _ = false
 
 -- It notifies next: it gives way to a starved party, is refused, or has released the lock.
 abbrev pub may_tell : Course → Bool

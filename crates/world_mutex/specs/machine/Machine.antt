@@ -1,6 +1,7 @@
 -- A mutex: where each party stands, and who waits in its list.
-use Rattle.std.specs.Prelude.{◌≡◌, ℕ, List, [], length, slice_index_or, replicate}
+use Rattle.std.specs.Prelude.{◌≡◌, ℕ, ◌≤◌, List, [], length, slice_index_or, replicate}
 use Rattle.lock_event.specs.declared.event.Entry.{Entry}
+use Rattle.lock_event.specs.Lists.{marked_count}
 use Rattle.lock_program.specs.declared.mutex.Place.{Place}
 use Rattle.lock_program.specs.declared.mutex.Place.TheVariants.{Out}
 use Rattle.world_mutex.specs.declared.program.word.Word.{Word}
@@ -39,3 +40,5 @@ pub record IsLock (w : Word) (places : List Place) (list : Queue) : Type 0 where
   -- each listed party has one entry, and no other party has one
   pub owners : (p : ℕ) → entries_of p list.entries ≡ listed (place_at places p)
   pub as_many : list.parties ≡ length places
+  -- one entry at most is marked
+  pub one_told : marked_count list.entries ≤ 1

@@ -84,6 +84,7 @@ pub record IsMutex (m : Mutex) : Type 0 where
   -- a party's places in the list are told by its course
   pub owners : (p : ℕ) → entries_of p m.entries ≡ listed (course_at m.courses p)
   pub in_order : IsMarkedFirst m.entries
+  pub one_told : marked_count m.entries ≤ 1
   -- where the lock is free and a party waits in the list, pending or about to ask there, some entry is marked or some party has still to notify or to look
   pub told_or_due : holders m ≡ 0 → (p : ℕ) → is_waiting (course_at m.courses p) ≡ true → (0 < marked_count m.entries) ⊎ ((q : ℕ) × (is_due (course_at m.courses q) ≡ true))
   -- at rest, a list that waits for a free lock has a marked entry

@@ -77,6 +77,7 @@ impl Mutex {
         requires known { party < length self.old.courses }
         ensures { LockGoesOn memory starving party result self.old self.new }
     {
+        self.machine.laws();
         step_after(self.machine.go(party, memory, starving))
     }
 

@@ -68,6 +68,7 @@ module _ (w : Word) (places : List Place) (list : Queue) where
         few_starved = omega (arith, lock.sound.starved, lock.sound.limited);
         owners = lock.owners;
         in_order = ordered;
+        one_told = lock.one_told;
         told_or_due = λ free p waiting. told_or_due lock (omega (arith, free, lock.sound.held)) p waiting;
         wakes = λ rest free some. paid_at_rest roles (bit w.held ≡ 0) places (length list.entries) (marked_count list.entries) (nothing_owed is_resting roles rests places rest) lock.sound.in_list lock.sound.owed (omega (arith, lock.sound.held)) some;
         starved_listed = λ rest p counts. lock.owners p ∙ starved_rests (place_at places p) (one_at_rest is_resting Out refl places rest p) counts;

@@ -6,6 +6,7 @@ use Rattle.world_mutex.proofs.of_machine.laws.Steps.{Effect, Moves}
 use Rattle.world_mutex.proofs.of_machine.laws.Effects.{numbers}
 use Rattle.world_mutex.proofs.of_machine.laws.Parties.{moves, counted_all}
 use Rattle.world_mutex.proofs.of_machine.laws.Kept.{kept, follows, after}
+use Rattle.world_mutex.proofs.of_machine.laws.Marks.{one_marked}
 
 module _ (p : ℕ) (v w : Word) (places : List Place) (list new : Queue) (memory : Bool) where
   pub locked : (from : Place) (f : Found) → IsLock v places list → p < length places → SameRoles from (place_at places p)
@@ -28,5 +29,6 @@ module _ (p : ℕ) (v w : Word) (places : List Place) (list new : Queue) (memory
           | no apart ↦ rw (get_or-set_other places p j to Out apart) (others_by p list.entries new.entries one j apart ∙ lock.owners j)
         ];
         sound = kept (tally_of v list.entries) (tally_of w new.entries) (counts_of places) (counts_of (set places p to)) from f effect lock.sound (counted_all places) (counted_all (set places p to)) move;
+        one_told = one_marked p (action_of from) f list.entries new.entries parties lock.one_told;
         as_many = parties_kept p memory list new (action_of from) f list_did ∙ (lock.as_many ∙ sym (length-set places p to));
       }

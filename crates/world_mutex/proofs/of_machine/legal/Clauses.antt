@@ -13,7 +13,7 @@ use Rattle.world_mutex.proofs.of_machine.legal.Legal.{begins_fresh}
 use Rattle.world_mutex.proofs.of_machine.legal.Promised.{HandsOn as HandsOnThere, begins_uncounted, begins_heedless, none_counted, told_on, begins_told}
 use Rattle.world_mutex.proofs.of_machine.laws.Starts.{start_same}
 use Rattle.world_mutex.proofs.of_machine.legal.Sights.{begins_so, goes_so, may_start, holds_same, counted_same, listed_same, waiting_same, told_same, counting_same, due_same, telling_same, releasing_same, decision_same, rests_there, rests_here, looks, at_seen, length_seen, holders_seen, starved_seen, holder_seen, roster_seen, steps_seen, some_left}
-use Rattle.world_mutex.proofs.of_machine.legal.Asked.{asks_here}
+use Rattle.world_mutex.proofs.of_machine.legal.Asked.{asks_here, looks_here}
 
 pub same_place : (x : Place) → SameRoles x x
 same_place x = record { holding = refl; starving = refl; standing = refl; waiting = refl; owing = refl; counting = refl; telling = refl; releasing = refl }
@@ -64,6 +64,7 @@ module _ (l : Lock) where
     few_starved = rw (starved_seen l.places) m.few_starved;
     owners = λ p. m.owners p ∙ (sym (listed_same (place_at l.places p)) ∙ ap (λ c. Rattle.world_mutex.specs.machine.Course.listed c) (sym (here p)));
     in_order = m.in_order;
+    one_told = m.one_told;
     told_or_due = λ free p waiting. elim (m.told_or_due (sym (holders_seen l.places) ∙ free) p (sym (waiting_seen p) ∙ waiting)) as (λ _. (0 < marked_count l.entries) ⊎ ((q : ℕ) × (is_due (course_at (seen l).courses q) ≡ true))) [ inl some ↦ inl some | inr one ↦ inr (one.0, due_seen one.0 ∙ one.1) ];
     wakes = λ rest free some. m.wakes (all_rest l.places kept rest) (sym (holders_seen l.places) ∙ free) some;
     starved_listed = λ rest p own. m.starved_listed (all_rest l.places kept rest) p (sym (counted_here p) ∙ own);
@@ -77,6 +78,7 @@ module _ (l : Lock) where
     few_starved = rw (← starved_seen l.places) m.few_starved;
     owners = λ p. m.owners p ∙ (ap (λ c. Rattle.world_mutex.specs.machine.Course.listed c) (here p) ∙ listed_same (place_at l.places p));
     in_order = m.in_order;
+    one_told = m.one_told;
     told_or_due = λ free p waiting. elim (m.told_or_due (holders_seen l.places ∙ free) p (waiting_seen p ∙ waiting)) as (λ _. (0 < marked_count l.entries) ⊎ ((q : ℕ) × (way.is_due (place_at l.places q) ≡ true))) [ inl some ↦ inl some | inr one ↦ inr (one.0, sym (due_seen one.0) ∙ one.1) ];
     wakes = λ rest free some. m.wakes (rest_all l.places rest) (holders_seen l.places ∙ free) some;
     starved_listed = λ rest p own. m.starved_listed (rest_all l.places rest) p (counted_here p ∙ own);
@@ -203,6 +205,7 @@ module _ (l k : Lock) where
         (λ free. holder_seen 0 k.places ∙ b.1 (sym (holders_seen l.places) ∙ free.0, sym (starved_seen l.places) ∙ free.1)),
       );
       ends = λ fresh free none. ap step_of (did.next_is ∙ got from did.found did.finds (begins_fresh c (place_at l.places p) from (entries_of p l.entries) own starts fresh) (sym (holders_seen l.places) ∙ free) (sym (starved_seen l.places) ∙ none));
+      looks = λ fresh. looks_here l k memory p from n did (start_same c (place_at l.places p) from starts).starving (begins_fresh c (place_at l.places p) from (entries_of p l.entries) own starts fresh);
       listed = λ polls some. asks_here l k memory p from n did c starts polls (omega (arith, own, some));
     }
 

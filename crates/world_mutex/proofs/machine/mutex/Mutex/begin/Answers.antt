@@ -1,9 +1,12 @@
 -- What the machine did, said of the mutex.
-use Rattle.world_mutex.proofs.Prelude.{subst, LockCall, start_of, step_of, HasBegun, Lock, place_at, Acts, seen, witness}
+use Rattle.world_mutex.proofs.Prelude.{subst, entries_of, LockCall, start_of, step_of, HasBegun, Lock, place_at, Acts, seen, witness}
 use Rattle.world_mutex.proofs.of_machine.callers.Begun.{lock_goes}
 use Rattle.world_mutex.proofs.of_machine.callers.Released.{release_goes}
 use Rattle.world_mutex.proofs.of_machine.legal.Clauses.{known_there, can_there, begins_here, is_legal, is_unrefused, fairly, left_seen, is_done, at_once, begins_told_on, begins_patient}
 use Rattle.world_mutex.proofs.of_machine.legal.Sights.{begins_kept}
+use Rattle.world_mutex.proofs.of_machine.laws.Starts.{start_same}
+use Rattle.world_mutex.proofs.of_machine.legal.Legal.{begins_fresh}
+use Rattle.world_mutex.proofs.of_machine.legal.Untold.{begins_untold}
 use Rattle.world_mutex.proofs.machine.mutex.Mutex.begin.Goals as goal
 
 pub begin-requires-clause-known : goal.begin-requires-clause-known
@@ -35,5 +38,6 @@ returns c =
       hands_on = begins_told_on l k c.args.memory p b.0 c.begin.result known b.2 c.args.call b.1;
       first = λ is. lock_goes c.args.memory p (step_of c.begin.result) (seen l) (seen k) (subst D is done);
       releases = λ is. release_goes c.args.memory p (step_of c.begin.result) (seen l) (seen k) (subst D is done);
+      untold = λ fresh. begins_untold l k c.args.memory p b.0 c.begin.result known (invariant_of-self c) b.2 (start_same c.args.call (place_at l.places p) b.0 b.1) (c.laws.ensures.owners p) (begins_fresh c.args.call (place_at l.places p) b.0 (entries_of p l.entries) (c.laws.ensures.owners p) b.1 fresh);
       done = done;
     }))

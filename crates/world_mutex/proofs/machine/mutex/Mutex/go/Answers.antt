@@ -4,6 +4,7 @@ use Rattle.std.specs.Prelude.{Option}
 use Rattle.world_mutex.specs.machine.Conduct.{IsLegal}
 use Rattle.world_mutex.proofs.of_machine.legal.Clauses.{known_there, is_legal, fairly, left_seen, is_done, same_place, clock, patient, hands_on, goes_here, decided_here, told_here}
 use Rattle.world_mutex.proofs.of_machine.legal.Sights.{acts_kept, steps_seen}
+use Rattle.world_mutex.proofs.of_machine.legal.Untold.{stays_untold}
 use Rattle.world_mutex.proofs.machine.mutex.Mutex.go.Goals as goal
 
 pub invariant_of-self : goal.invariant_of-self
@@ -24,5 +25,6 @@ returns c =
       clock = clock l k c.args.memory p (place_at l.places p) c.go.result known c.go.ensures.acts c.args.starving refl c.go.ensures.clock;
       patient = patient l k c.args.memory p (place_at l.places p) c.go.result known c.go.ensures.acts c.args.starving (same_place (place_at l.places p)) c.go.ensures.clock (λ h. h);
       hands_on = λ told. hands_on l k c.args.memory p (place_at l.places p) c.go.result known c.go.ensures.acts (told_here l p told);
+      untold = λ untold. stays_untold l k c.args.memory p (place_at l.places p) c.go.result known (invariant_of-self c) c.go.ensures.acts (same_place (place_at l.places p)) (c.laws.ensures.owners p) refl untold;
       done = is_done l k _ c.go.result c.self.invariant c.go.ensures.acts;
     }))
