@@ -2,6 +2,8 @@ mod Prelude
 pub mod of_queue
 pub mod Alike
 pub mod Bounds
+pub mod Overtaking
+pub mod OneMarked
 pub mod Equations
 pub mod Rests
 pub mod Lists

@@ -8,6 +8,7 @@ pub mod Frame
 pub mod Rosters
 pub mod Accounts
 pub mod Bounds
+pub mod Overtaking
 pub mod Marks
 pub mod any_world
 pub mod table

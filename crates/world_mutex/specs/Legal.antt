@@ -149,7 +149,7 @@ IsRefusedForCause = frame.IsRefusedForCause standing_of IsCause
 
 -- ---- What parties have
 
--- What a party has by how it stands: outside every call it holds the lock exactly if it stands as its holder, and unless it is pending it is in no list and not starved; one that is pending is starved only where it stands in the list. Inside a call it holds the lock exactly if the call is decided on being ready; and a drop is decided at its first step.
+-- What a party has by how it stands: outside every call it holds the lock exactly if it stands as its holder, and unless it is pending it is in no list and not starved; one that is pending is starved only where it stands in the list. Inside a call it holds the lock exactly if the call is decided on being ready; a drop is decided at its first step, and whoever gives back is starved no more once it stands in no list.
 abbrev pub HasItsOwn : World → ℕ → Standing → Type 0
 HasItsOwn w p (outside Idle) = IsClear w p × (w.state.holder ≢ Some p)
 HasItsOwn w p (outside Finished) = IsClear w p × (w.state.holder ≢ Some p)
@@ -157,6 +157,7 @@ HasItsOwn w p (outside Holding) = IsClear w p × (w.state.holder ≡ Some p)
 HasItsOwn w p (outside Pending) = (w.state.holder ≢ Some p) × (entries_of p w.entries ≡ 0 → is_starved w.state p ≡ false)
 HasItsOwn w p (inside within None) = (w.state.holder ≢ Some p) × (within.kind ≢ kind.Drop)
 HasItsOwn w p (inside within (Some (answer.Ready got))) = w.state.holder ≡ Some p
+HasItsOwn w p (inside within (Some answer.GivenBack)) = (w.state.holder ≢ Some p) × (entries_of p w.entries ≡ 0 → is_starved w.state p ≡ false)
 HasItsOwn w p (inside within (Some a)) = w.state.holder ≢ Some p
 HasItsOwn w p _ = Unit {0}
 
