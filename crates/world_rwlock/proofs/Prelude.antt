@@ -51,7 +51,7 @@ pub use Rattle.world_base.specs.table.Stages.{stage_at, stage_after, call_at, po
 pub use Rattle.world_base.specs.table.Tables.{Table, Keeps, Called, new_table, IsTable}
 pub use Rattle.world_base.proofs.Equations.{decided_inside, outside_says, inside_begins, some_eq, is_some_and, none_some, chosen, same_test, other_test, both, some_none, outside_inside, is_granted, granted_eq, witness}
 pub use Rattle.world_base.proofs.Lists.{joined_unmarked, CanList, done, counted_by, own_by, others_by, notified_marked, others}
-pub use Rattle.world_base.proofs.of_any_world.Runs.{first_of, along, Onward}
+pub use Rattle.world_base.proofs.of_any_world.Runs.{first_of, last_of, along, Onward}
 pub use Rattle.world_base.proofs.of_table.Calls.{within, call_seen, again_seen, decided_after, decision_seen, stands_seen}
 pub use Rattle.world_base.proofs.of_table.Mapped.{set_same, mapped_at, past_last, mapped_alike}
 pub use Rattle.world_base.proofs.of_table.Past.{inside_or_past, by_stage_or_past}
@@ -65,10 +65,10 @@ pub use Rattle.world_rwlock.specs.Bound.{IsSoloForTurn, IsToldOfTurn, IsToldToRe
 pub use Rattle.world_rwlock.specs.Changes.{turn_after, readers_after, IsAllowed, Change, takes_turn, leaves_turn, starves, recovers, begins_to_read, stops_reading, becomes_upgradable, stops_upgradable, begins_to_wait, begins_to_write, upgrades_at_once, unmarks, downgrades_to_upgradable, puts, starved_after, value_after, gives_back, entries_after, gives_up}
 pub use Rattle.world_rwlock.specs.Guarded.{Guarded, answer_by, Does, with_value, parties, knows as knows_there, Moves as MovesThere, place_for, place_of, Acted, new_guarded}
 pub use Rattle.world_rwlock.specs.Laws.{is_at_rest, IsSound, IsAwake, IsTurnWanted, IsReadingWanted, IsWritingWanted, is_due_for_turn, is_due_to_readers, is_due_to_writer, is_drop_kind, HasRight, IsDueForTurn, IsDueToReaders, IsDueToWriter, is_long_call}
-pub use Rattle.world_rwlock.specs.Legal.{HasItsOwn, knows_of, HasJust, knows, Legal, call_of, DecidesOn, AsksIn, is_first_poll, is_try_for_turn, MayMeet, IsCause, HasSought, may_read, granted_if, AnswersAtOnce, TellsOnRelease, is_for_turn, LeavesLists, IsPossible, ChangesOneThing, LeavesClear, Carries, Waits, list_for, IsRefusedForCause, IsValueKept, EndsProperly, KeepsUpgrades, HasNothing, is_first}
+pub use Rattle.world_rwlock.specs.Legal.{HasItsOwn, knows_of, HasJust, knows, Legal, call_of, DecidesOn, AsksIn, is_first_poll, is_try_for_turn, MayMeet, IsCause, HasSought, may_read, granted_if, AnswersAtOnce, TellsOnRelease, LeavesLists, IsPossible, ChangesOneThing, LeavesClear, Carries, Waits, list_for, IsRefusedForCause, IsValueKept, EndsProperly, KeepsUpgrades, HasNothing, is_first}
 pub use Rattle.world_rwlock.specs.Runs.{Runs, accounts_of, HoldsWell, TellsRights, right_by, right_in, HasJustItsRights, HasItsRights}
 pub use Rattle.world_rwlock.specs.Stages.{Course, upgrades, course_of, is_on_course, is_future, goes_with, sought_at, drops, tries_upgrade, is_inside, right_for, tries, polls, downgrades, strays, course_until, is_guard}
-pub use Rattle.world_rwlock.specs.State.{World, nobody, is_upgradable, waits_to_write, standing_of, is_starved, is_upgrader, how_many_read, is_marked, for_the_turn, for_no_readers, for_no_writer, HasTurn, entries_in, ListName, list_of, passes, sought_by, told_in, is_nobody, is_turn_free, State, IsClear, nothing_owed, owes_in, has_to_tell, new_world}
+pub use Rattle.world_rwlock.specs.State.{World, nobody, is_upgradable, waits_to_write, standing_of, is_starved, is_upgrader, how_many_read, is_marked, for_the_turn, for_no_readers, for_no_writer, HasTurn, entries_in, ListName, list_of, passes, sought_by, is_for_turn, told_in, is_nobody, is_turn_free, State, IsClear, nothing_owed, owes_in, has_to_tell, new_world}
 pub use Rattle.world_rwlock.specs.Steps.{Stands, Steps as Moved, IsRwLockTable, TableSteps}
 pub use Rattle.world_rwlock.specs.View.{upgrading, waiting, writing, turn_as, share_of, turn_by, is_reading, is_upgrade, verdict, standing_at, view_of, verdict_of, Share, passing, seen, verdict_until, refused_by, owing_at}
 pub use Rattle.world_rwlock.specs.Whole.{IsWholeCall, most_steps_of, steps_left_of}

@@ -2,3 +2,4 @@
 pub mod Alone
 pub mod AloneSeen
 pub mod Bound
+pub mod Overtaking

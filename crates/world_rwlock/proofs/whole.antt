@@ -4,4 +4,6 @@ pub mod Patient
 pub mod Promises
 pub mod Ring
 pub mod FirstPolls
+pub mod Newcomers
+pub mod Takers
 pub mod Handing

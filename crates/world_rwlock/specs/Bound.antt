@@ -79,6 +79,10 @@ pub record TakesToWrite (w : World) (p : ℕ) (a : Answer) (v : World) : Type 0 
   pub kept : v.state.value ≡ w.state.value
   pub writes : v.state.turn ≡ writes p
 
+-- The first poll of a future that takes the turn.
+abbrev pub IsFirstForTurn : World → ℕ → Call → Inputs → Type 0
+IsFirstForTurn w p c inputs = (is_first w (record { party = p; what = Begin c inputs }) upgradable ≡ true) ⊎ ((is_first w (record { party = p; what = Begin c inputs }) write ≡ true) × (is_upgrader w p ≡ false))
+
 -- What a whole call promises: a solo poll of a free turn takes it or gives way; one of a party that was told to read, or that looks for readers to write, takes that where it is free; where nobody is starved, a party isn't starved at the end that hasn't waited for too long; a first poll of what is free is ready; and a refused poll hands on.
 pub record Promises (w : World) (p : ℕ) (c : Call) (inputs : Inputs) (a : Answer) (v : World) : Type 0 where
   pub turn : c ≡ call.Poll → IsSoloForTurn w p inputs → w.state.turn ≡ nobody → how_many_read w < w.readers_limit → SoloPollForTurn w p a v
@@ -94,6 +98,12 @@ pub record Promises (w : World) (p : ℕ) (c : Call) (inputs : Inputs) (a : Answ
   -- a first poll that finds the turn free is ready: of an upgradable read where readers are below their limit, of a write where nobody reads
   pub first_upgradable : is_first w (record { party = p; what = Begin c inputs }) upgradable ≡ true → is_turn_free w.state ≡ true → how_many_read w < w.readers_limit → a ≡ answer.Ready (Value w.state.value)
   pub first_write : is_first w (record { party = p; what = Begin c inputs }) write ≡ true → is_upgrader w p ≡ false → is_turn_free w.state ≡ true → how_many_read w ≡ 0 → a ≡ answer.Ready (Value w.state.value)
+  -- where nobody is starved, a first poll for the turn isn't refused for their number, nor is its party starved at the end, whatever the clock says: it hasn't waited
+  pub first_patient : IsFirstForTurn w p c inputs → how_many w.state.starved ≡ 0 → (a ≢ refused Starved) × (is_starved v p ≡ false)
+  -- beside a starved party it never takes the turn: it is pending, and its party is starved from then on; or it is refused
+  pub newcomer : IsFirstForTurn w p c inputs → 0 < how_many w.state.starved → ((a ≡ answer.Pending) × (is_starved v p ≡ true)) ⊎ (is_refusal a ≡ true)
+  -- so while somebody is starved nobody takes the turn but in a poll for which it was notified
+  pub only_told : 0 < how_many w.state.starved → (HasTurn w.state.turn p → ⊥) → (c ≡ call.Poll → (standing_of w p ≡ outside Pending) × (is_marked_at (is_party p) w.turn_list ≡ true) → ⊥) → HasTurn v.state.turn p → ⊥
   -- A refused poll of a party that stood in a list hands on what it was told there: some entry of that list is marked, if there is any.
   pub hands_on : (list : ListName) → c ≡ call.Poll → standing_of w p ≡ outside Pending → 0 < entries_of p (list_of w list) → is_refusal a ≡ true → 0 < length (list_of v list) → 0 < marked_count (list_of v list)
 

@@ -6,7 +6,7 @@ use Rattle.world_base.specs.Steps.{Deed, nothing, changes, does, leaves, list_af
 use Rattle.world_rwlock.specs.State.{ListName, for_the_turn, for_no_readers, for_no_writer, Turn, nobody, passes, is_upgradable, waits_to_write, writes, State, World, reads, is_starved, is_marked, how_many_read}
 use Rattle.world_base.specs.Steps.{notifies, notifies_additionally}
 use Rattle.world_base.specs.queue.Parties.{entries_of}
-use Rattle.world_rwlock.specs.State.{HasTurn}
+use Rattle.world_rwlock.specs.State.{HasTurn, sought_by, is_for_turn}
 
 -- The changes of the state, each the moving party's own.
 pub data Change : Type 0 where
@@ -80,11 +80,11 @@ entries_after p (does for_no_readers f) for_no_readers l = list_after p f l
 entries_after p (does for_no_writer f) for_no_writer l = list_after p f l
 entries_after p d list l = l
 
--- Where a change may be made. The turn is taken where nobody has it, and nobody is starved for it or the taker is; reading begins beside no writer and below the limit, or by a writer's own downgrade; and writing begins where no reader is left, or the writer was the only one.
+-- Where a change may be made. The turn is taken where nobody has it, and nobody is starved for it or the taker is; a party is counted as starved for it that wants it; reading begins beside no writer and below the limit, or by a writer's own downgrade; and writing begins where no reader is left, or the writer was the only one.
 abbrev pub May : ℕ → Change → World → Type 0
 May p takes_turn w = (w.state.turn ≡ nobody) × ((how_many w.state.starved ≡ 0) ⊎ (is_starved w p ≡ true))
 May p leaves_turn w = (w.state.turn ≡ passes p) ⊎ (w.state.turn ≡ is_upgradable p)
-May p starves w = (is_starved w p ≡ false) × (how_many w.state.starved < w.starved_limit)
+May p starves w = (is_starved w p ≡ false) × (how_many w.state.starved < w.starved_limit) × (is_for_turn (sought_by w p) ≡ true)
 May p recovers w = is_starved w p ≡ true
 May p begins_to_read w = (is_marked w.state.turn ≡ false) × (how_many_read w < w.readers_limit)
 May p stops_reading w = reads w p ≡ true

@@ -98,6 +98,8 @@ pub record IsSound (w : World) : Type 0 where
   -- No party stands in the lists twice, and in each the marked entries stand before the waiting ones.
   pub once : (p : ℕ) → entries_in w p ≤ 1
   pub in_order : (list : ListName) → IsMarkedFirst (list_of w list)
+  -- One entry at most is marked in each list: one party at a time is told there.
+  pub one_told : (list : ListName) → marked_count (list_of w list) ≤ 1
 
 -- Nobody is inside a call.
 abbrev pub is_at_rest : World → Bool

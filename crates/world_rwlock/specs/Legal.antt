@@ -26,7 +26,7 @@ use Rattle.world_rwlock.specs.State.{ListName, list_of, Turn, passes, is_upgrada
 use Rattle.world_rwlock.specs.Changes.{Change, state_after, entries_after, IsAllowed, gives_back, gives_up}
 use Rattle.world_base.specs.Standings.{IsUndecided}
 use Rattle.world_base.specs.Standings.{may_end}
-use Rattle.world_rwlock.specs.State.{is_starved, for_the_turn, for_no_readers, for_no_writer, has_to_tell}
+use Rattle.world_rwlock.specs.State.{is_starved, is_for_turn, for_the_turn, for_no_readers, for_no_writer, has_to_tell}
 use Rattle.lock_event.specs.Lists.{is_marked_at, notified}
 use Rattle.world_base.specs.queue.Parties.{is_party}
 use Rattle.world_base.specs.queue.Parties.{entries_of}
@@ -194,11 +194,11 @@ pub record Legal (old : World) (m : Move) (a : Answer) (new : World) : Type 0 wh
 
 -- ---- Whom a party tells of what it gave up
 
--- Whoever gives the turn up, clears the writer's bit, or drops the last reader's guard goes on, and has to tell one of those that wait for that. It goes on until it has told exactly one of them; of the turn it tells at its next step. Nobody else comes to have to tell, or is freed of it.
+-- Whoever gives the turn up, clears the writer's bit, or stops reading as the last, by a drop or wherever it doesn't set the bit itself, goes on, and has to tell one of those that wait for that. It goes on until it has told exactly one of them; of the turn it tells at its next step. Nobody else comes to have to tell, or is freed of it.
 pub record TellsOnRelease (old : World) (m : Move) (a : Answer) (new : World) : Type 0 where
   pub turn : HasTurn old.state.turn m.party → (HasTurn new.state.turn m.party → ⊥) → (a ≡ answer.Stepped) × (has_to_tell for_the_turn new m.party ≡ true)
   pub bit : HasTurn old.state.turn m.party → is_marked old.state.turn ≡ true → is_marked new.state.turn ≡ false → (a ≡ answer.Stepped) × (has_to_tell for_no_writer new m.party ≡ true)
-  pub last_reader : is_drop m.what ≡ true → reads old m.party ≡ true → how_many_read new ≡ 0 → (a ≡ answer.Stepped) × (has_to_tell for_no_readers new m.party ≡ true)
+  pub last_reader : reads old m.party ≡ true → how_many_read new ≡ 0 → (is_drop m.what ≡ true) ⊎ (is_marked new.state.turn ≡ is_marked old.state.turn) → (a ≡ answer.Stepped) × (has_to_tell for_no_readers new m.party ≡ true)
   pub tells : (list : ListName) → has_to_tell list old m.party ≡ true → is_possible a ≡ true → (list_of new list ≡ notified (list_of old list) 1) ⊎ ((a ≡ answer.Stepped) × (has_to_tell list new m.party ≡ true))
   pub tells_at_once : has_to_tell for_the_turn old m.party ≡ true → is_possible a ≡ true → new.turn_list ≡ notified old.turn_list 1
   pub others : (list : ListName) (q : ℕ) → q ≢ m.party → has_to_tell list new q ≡ has_to_tell list old q
@@ -238,17 +238,12 @@ is_first_poll r s _ what n = false
 abbrev pub is_first : World → Move → Right → Bool
 is_first w m r = is_first_poll r (standing_of w m.party) (sought_by w m.party) m.what (entries_in w m.party)
 
--- A step joins, asks, leaves and notifies in no list.
+-- A step joins, asks, leaves and notifies in no list, and counts nobody as starved.
 pub record LeavesLists (old new : World) : Type 0 where
   pub turn_list : new.turn_list ≡ old.turn_list
   pub no_writer : new.no_writer ≡ old.no_writer
   pub no_readers : new.no_readers ≡ old.no_readers
-
--- For this right one takes the turn first.
-abbrev pub is_for_turn : Option Right → Bool
-is_for_turn (Some upgradable) = true
-is_for_turn (Some write) = true
-is_for_turn s = false
+  pub starved : new.state.starved ≡ old.state.starved
 
 -- A poll asks in this list: it goes on exactly where its party has been notified, and else is pending still.
 abbrev pub AsksIn : ℕ → List (Entry ℕ) → Answer → List (Entry ℕ) → Type 0
@@ -270,10 +265,13 @@ pub record AnswersAtOnce (old : World) (m : Move) (a : Answer) (new : World) : T
   pub first_read_ready : is_first old m read ≡ true → may_read old ≡ true → a ≡ answer.Ready (Value old.state.value)
   pub first_upgradable : is_first old m upgradable ≡ true → (new.state.turn ≡ passes m.party) ↔ (is_turn_free old.state ≡ true)
   pub first_write : is_first old m write ≡ true → is_upgrader old m.party ≡ false → (new.state.turn ≡ passes m.party) ↔ (is_turn_free old.state ≡ true)
-  -- A try to read, or to upgrade, and the first step of a first poll to read do nothing in the lists.
+  -- A try, and the first step of a first poll, do nothing in the lists.
   pub try_read_looks : (inputs : _) → m.what ≡ Begin call.TryRead inputs → is_possible a ≡ true → LeavesLists old new
   pub try_upgrade_looks : (inputs : _) → m.what ≡ Begin call.TryUpgrade inputs → is_possible a ≡ true → LeavesLists old new
+  pub try_turn_looks : is_try_for_turn m.what ≡ true → is_possible a ≡ true → LeavesLists old new
   pub first_read_looks : is_first old m read ≡ true → LeavesLists old new
+  pub first_upgradable_looks : is_first old m upgradable ≡ true → LeavesLists old new
+  pub first_write_looks : is_first old m write ≡ true → is_upgrader old m.party ≡ false → LeavesLists old new
   -- A poll of a party that waits for the turn, or to read, asks in that list first.
   pub listed_for_turn : (inputs : _) → m.what ≡ Begin call.Poll inputs → standing_of old m.party ≡ outside Pending → 0 < entries_of m.party old.turn_list → AsksIn m.party old.turn_list a new.turn_list
   pub listed_to_read : (inputs : _) → m.what ≡ Begin call.Poll inputs → standing_of old m.party ≡ outside Pending → 0 < entries_of m.party old.no_writer → AsksIn m.party old.no_writer a new.no_writer

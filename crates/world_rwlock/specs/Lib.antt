@@ -13,4 +13,5 @@ pub mod Whole
 pub mod Openings
 pub mod Lending
 pub mod Bound
+pub mod Overtaking
 pub mod Steps

@@ -1,11 +1,11 @@
 -- What callers see of a read-write lock's World: its state, its lists, and how each party stands.
-use Rattle.std.specs.Prelude.{◌≡◌, ℕ, ◌==◌, ◌&&◌, ◌+◌, Bool, true, false, List, [], Option, None, slice_index_or, replicate, length}
+use Rattle.std.specs.Prelude.{◌≡◌, ℕ, ◌==◌, ◌&&◌, ◌+◌, Bool, true, false, List, [], Option, Some, None, slice_index_or, replicate, length}
 use Rattle.lock_event.specs.declared.event.Entry.{Entry}
 use Rattle.lock_event.specs.declared.event.Mark.{Mark}
 use Rattle.lock_event.specs.Lists.{mark_at}
 use Rattle.world_base.specs.queue.Parties.{is_party, entries_of}
 use Rattle.world_base.specs.declared.standing.Rest.TheVariants.{Idle}
-use Rattle.world_base.specs.Rights.{Right}
+use Rattle.world_base.specs.Rights.{Right, upgradable, write}
 use Rattle.world_base.specs.Rosters.{how_many, is_on}
 use Rattle.world_base.specs.Standings.{Standing, outside, forgotten}
 use Rattle.world_base.specs.table.Tables.{Table, new_table}
@@ -110,6 +110,12 @@ HasTurn (passes q) p = q ≡ p
 HasTurn (is_upgradable q) p = q ≡ p
 HasTurn (waits_to_write q) p = q ≡ p
 HasTurn (writes q) p = q ≡ p
+
+-- For this right one takes the turn first.
+abbrev pub is_for_turn : Option Right → Bool
+is_for_turn (Some upgradable) = true
+is_for_turn (Some write) = true
+is_for_turn s = false
 
 -- How many entries a party has in all three lists.
 abbrev pub entries_in : World → ℕ → ℕ

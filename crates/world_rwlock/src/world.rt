@@ -12,6 +12,7 @@ ghost use Rattle.world_mutex.specs.machine.Behind.{place_behind};
 ghost use Rattle.world_rwlock.specs.Steps.{Steps};
 ghost use Rattle.world_rwlock.specs.Laws.{IsSound, IsAwake, IsTurnWanted, IsReadingWanted, IsWritingWanted, is_at_rest};
 ghost use Rattle.world_rwlock.specs.Bound.{IsTurnBounded, IsReadingBounded, IsWritingBounded};
+ghost use Rattle.world_rwlock.specs.Overtaking.{IsOvertakenSeldom};
 
 use crate::guarded::Guarded;
 use lock_event::Entry;
@@ -167,6 +168,14 @@ impl World {
         ensures turn { is_at_rest self.now ≡ true → IsTurnWanted self.now → IsTurnBounded self.now }
         ensures reading { is_at_rest self.now ≡ true → IsReadingWanted self.now → IsReadingBounded self.now }
         ensures writing { is_at_rest self.now ≡ true → IsWritingWanted self.now → IsWritingBounded self.now }
+    {
+        self.laws();
+    }
+
+    /// How often a party that is starved for the turn, and waits in its list, may be overtaken: by whole calls of others, however
+    /// many and however long, at most as often as entries stand before its own. It does nothing.
+    pub fn overtakings(&self)
+        ensures seldom { IsOvertakenSeldom self.now }
     {
         self.laws();
     }

@@ -319,11 +319,17 @@ module _ (t : Table Guarded) (laws : IsRwLock t.machine.lock) (fits : IsRwLockTa
     writing_told_or_due = writing_due;
     once = λ p. omega (arith, laws.one_entry p);
     in_order = by_list;
+    one_told = each_told;
   } where
     by_list : (list : ListName) → IsMarkedFirst (list_of w list)
     by_list for_the_turn = laws.turn.in_order
     by_list for_no_readers = laws.in_order_no_readers
     by_list for_no_writer = laws.in_order_no_writer
+
+    each_told : (list : ListName) → marked_count (list_of (view_of t) list) ≤ 1
+    each_told for_the_turn = laws.turn.one_told
+    each_told for_no_readers = laws.one_told_no_readers
+    each_told for_no_writer = laws.one_told_no_writer
 
 -- ---- at rest
 

@@ -1,5 +1,5 @@
 -- The laws of a read-write lock's World: what follows from one step that its table did.
-use Rattle.world_rwlock.proofs.Prelude.{◌≡◌, ◌≢◌, ℕ, ◌+◌, ◌<◌, ◌≤◌, true, refl, sym, subst, Account, accounts_after, Answer, Call, Inputs, Move, Holding, is_outside, is_possible, going_on, moves_of, answers_of, StepsWell, left_by, beginning, first_of, World, standing_of, Stands, Moved as Steps, IsSound, IsAwake, is_at_rest, knows_of, Runs, HoldsWell, TellsRights, accounts_of, most_steps_of, steps_left_of, Promises}
+use Rattle.world_rwlock.proofs.Prelude.{◌≡◌, ◌≢◌, ℕ, ◌+◌, ◌<◌, ◌≤◌, true, refl, sym, subst, Account, accounts_after, Answer, Call, Inputs, Move, Holding, is_outside, is_possible, going_on, moves_of, answers_of, StepsWell, left_by, beginning, first_of, last_of, Begin, World, standing_of, Stands, Moved as Steps, IsSound, IsAwake, is_at_rest, knows_of, Runs, HoldsWell, TellsRights, accounts_of, most_steps_of, steps_left_of, Promises}
 use Rattle.world_base.proofs.of_any_world.Endings.{ends_outside as outside_at_end}
 use Rattle.world_rwlock.proofs.step.Acting.{Way, way}
 use Rattle.world_rwlock.proofs.bound.Alone.{laws}
@@ -9,10 +9,12 @@ use Rattle.world_rwlock.proofs.whole.Whole as whole
 use Rattle.world_rwlock.proofs.whole.Handing.{hands_on}
 use Rattle.world_rwlock.proofs.whole.FirstPolls.{upgradable_ready, write_ready}
 use Rattle.world_rwlock.proofs.whole.Promises.{unstarved_at_end, patient_at_end}
+use Rattle.world_rwlock.proofs.whole.Newcomers.{newcomer, first_patient}
+use Rattle.world_rwlock.proofs.whole.Takers.{only_told}
 use Rattle.world_rwlock.proofs.whole.Ring.{tells_nobody_at_end}
 use Rattle.world_rwlock.proofs.bound.AloneSeen.{turn_seen_polled, told_seen_polled, reading_seen_polled, writing_seen_polled}
 
-sound_now : (w : World) → Stands w → IsSound w
+pub sound_now : (w : World) → Stands w → IsSound w
 sound_now w s = subst IsSound (sym s.seen) (sound w.behind s.laws s.fits)
 
 awake_now : (w : World) → Stands w → is_at_rest w ≡ true → IsAwake w
@@ -42,6 +44,7 @@ ends_outside w m a v s = outside_at_end standing_of knows_of Holding w m a v s.l
 pub keeps_promise : (known : ℕ → Account) (w : World) (p : ℕ) (c : Call) (i : Inputs) (n : ℕ) (a : Answer) (v : World) → Runs known w (moves_of p c i n) (answers_of n a) v → a ≢ Answer.Stepped → Promises w p c i a v
 keeps_promise known w p c i n a v runs ended =
     let stood : Stands w = (first_of Steps accounts_after HoldsWell known w (beginning p c i) _ (answers_of n a) v runs).2.did.stood in
+    let stands : Stands v = (last_of Steps accounts_after HoldsWell known w p i n (Begin c i) a v runs).legal.did.stands in
     let R : Call → Type 0 = λ x. Runs known w (moves_of p x i n) (answers_of n a) v in
     record {
       turn = λ is. turn_seen_polled known w p i n a v stood (subst R is runs) ended;
@@ -53,5 +56,8 @@ keeps_promise known w p c i n a v runs ended =
       tells_nobody = λ patient none. tells_nobody_at_end known w p c i n a v stood runs ended patient none;
       first_upgradable = upgradable_ready known w p c i n a v stood runs ended;
       first_write = write_ready known w p c i n a v stood runs ended;
+      first_patient = λ first. first_patient known w p c i n a v stood stands runs ended first;
+      newcomer = λ first. newcomer known w p c i n a v stood stands runs ended first;
+      only_told = only_told known w p c i n a v stood stands runs ended;
       hands_on = hands_on known w p c i n a v stood runs ended;
     }

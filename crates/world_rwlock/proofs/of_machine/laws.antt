@@ -4,6 +4,7 @@ pub mod Fits
 pub mod Places
 pub mod Lines
 pub mod Kept
+pub mod Marks
 pub mod Machines
 pub mod CanDo
 pub mod Finds

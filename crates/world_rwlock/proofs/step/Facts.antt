@@ -1,5 +1,5 @@
 -- What one action does, as callers see it: its deed, that the deed is allowed, and why the call is decided. Here for the actions on the word and on the two lists.
-use Rattle.world_rwlock.proofs.Prelude.{◌≡◌, ◌≢◌, ℕ, ◌+◌, ◌<◌, ◌≤◌, ◌==◌, ◌⊎◌, inl, inr, Bool, true, false, List, map, length, Option, Some, None, refl, arith, ap, sym, ◌∙◌, subst, get_or-set_same, get_or-set_other, set, ℕ_discrete, map-set, entries_of, Answer, Value, Move, Refusal, Stage, number_of, Right, read, upgradable, how_many, inputs_of, Deed, nothing, changes, does, listed, turn_at, holder_of, starved_of, out_unlisted, holding_unlisted, out_free, Found, No, Next, Place, action_of, next_of, place_after, has_turn, in_no_writer, in_no_readers, fits_turn, OnNoWriter, OnNoReaders, RwLock, SameRoles, place_at, IsRwLock, Finds, Change, takes_turn, leaves_turn, starves, recovers, begins_to_read, stops_reading, becomes_upgradable, stops_upgradable, begins_to_wait, begins_to_write, upgrades_at_once, unmarks, downgrades_to_upgradable, puts, turn_after, readers_after, starved_after, value_after, IsAllowed, gives_back, entries_after, ListName, for_the_turn, for_no_readers, for_no_writer, World, list_of, told_in, entries_in, how_many_read, MayMeet, IsCause, answer_by, strays, course_of, sought_at, Share, passing, upgrading, waiting, writing, turn_as, share_of, turn_by, is_reading, verdict, seen, notifies, notifies_additionally, is_starved, is_counting}
+use Rattle.world_rwlock.proofs.Prelude.{◌≡◌, ◌≢◌, ℕ, ◌+◌, ◌<◌, ◌≤◌, ◌==◌, ◌⊎◌, inl, inr, Bool, true, false, List, map, length, Option, Some, None, refl, arith, ap, sym, ◌∙◌, subst, get_or-set_same, get_or-set_other, set, ℕ_discrete, Purpose, map-set, entries_of, Answer, Value, Move, Refusal, Stage, number_of, Right, read, upgradable, how_many, inputs_of, Deed, nothing, changes, does, listed, turn_at, holder_of, starved_of, out_unlisted, holding_unlisted, out_free, Found, No, Next, Place, action_of, next_of, place_after, has_turn, in_no_writer, in_no_readers, fits_turn, OnNoWriter, OnNoReaders, RwLock, SameRoles, place_at, IsRwLock, Finds, Change, takes_turn, leaves_turn, starves, recovers, begins_to_read, stops_reading, becomes_upgradable, stops_upgradable, begins_to_wait, begins_to_write, upgrades_at_once, unmarks, downgrades_to_upgradable, puts, turn_after, readers_after, starved_after, value_after, IsAllowed, gives_back, entries_after, ListName, for_the_turn, for_no_readers, for_no_writer, World, list_of, told_in, entries_in, how_many_read, MayMeet, IsCause, answer_by, strays, course_of, sought_at, Share, passing, upgrading, waiting, writing, turn_as, share_of, turn_by, is_reading, verdict, seen, notifies, notifies_additionally, is_starved, is_counting}
 use Rattle.std.proofs.Math.Seq.{map-set_same}
 use Rattle.lock_event.specs.declared.event.Mark.{Mark}
 use Rattle.world_base.proofs.of_queue.Told.{waits_at}
@@ -105,6 +105,7 @@ pub record Known (m : Move) (l k : RwLock) (ss : List Stage) (v : ℕ) (x : Plac
   pub same : SameRoles x (place_at l.places m.party)
   pub share : share_of x ≡ share_of (place_at l.places m.party)
   pub straight : course_of x ≡ strays → ⊥
+  pub taking : (q : Purpose) → x ≡ Place.TakeTurn q → place_at l.places m.party ≡ x
 
 module _ (m : Move) (l k : RwLock) (ss : List Stage) (opening : ℕ) (ts : List Stage) (v : ℕ) (x : Place) (f : Found) (c : Known m l k ss v x f) where
   abbrev p : ℕ

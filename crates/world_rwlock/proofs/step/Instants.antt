@@ -1,5 +1,5 @@
 -- Each move is answered at once where it should be, as callers see it.
-use Rattle.world_rwlock.proofs.Prelude.{◌≡◌, ℕ, ◌<◌, ◌==◌, ◌&&◌, ◌↔◌, if◌then◌else◌, Bool, true, false, List, length, nat_lt, Option, Some, None, refl, arith, ap, sym, ◌∙◌, subst, get_or-set_same, set, nat_tests, false≢true, eqb-true, eq-eqb, ltb-true, lt-ltb, Answer, Call, Value, Inputs, Move, What, Begin, Rest, Outside, Forgotten, Within, Right, read, upgradable, write, how_many, Standing, outside, inside, inputs_of, call_in, some_eq, some_none, TurnCourse, listed, turn_at, holder_of, holders, starved, waiting_listed, Found, Place, Purpose, action_of, next_of, place_after, only_turns, fits_turn, SameRoles, place_at, Finds, readers, marked, OnTurn, World, standing_of, sought_by, is_upgrader, how_many_read, is_marked, is_nobody, is_turn_free, entries_in, knows, call_of, may_read, granted_if, is_try_for_turn, is_first_poll, AnswersAtOnce, stage_at, stage_after, stands_as, decided_after, decision_seen, sought_at, Table, Guarded, answer_by, Share, passing, upgrading, waiting, writing, turn_as, share_of, turn_by, is_reading, verdict, standing_at, view_of, Entry, entries_of, AsksIn, TellsOnRelease, is_drop, is_outside, is_on, zero, suc, [], ◌∷◌, notified, is_for_turn, is_starved, HasTurn, ◌⊎◌, inl, inr, OnNoWriter, OnNoReaders, LeavesLists}
+use Rattle.world_rwlock.proofs.Prelude.{◌≡◌, ℕ, ◌<◌, ◌==◌, ◌&&◌, ◌↔◌, if◌then◌else◌, Bool, true, false, List, length, nat_lt, Option, Some, None, refl, arith, ap, sym, ◌∙◌, subst, get_or-set_same, set, nat_tests, false≢true, eqb-true, eq-eqb, ltb-true, lt-ltb, Answer, Call, Value, Inputs, Move, What, Begin, Rest, Outside, Forgotten, Within, Right, read, upgradable, write, how_many, Standing, outside, inside, inputs_of, call_in, some_eq, some_none, TurnCourse, listed, turn_at, holder_of, holders, starved, waiting_listed, Found, Place, Purpose, action_of, next_of, place_after, only_turns, fits_turn, SameRoles, place_at, Finds, readers, marked, OnTurn, World, standing_of, sought_by, is_upgrader, how_many_read, is_marked, is_nobody, is_turn_free, entries_in, knows, call_of, may_read, granted_if, is_try_for_turn, is_first_poll, AnswersAtOnce, stage_at, stage_after, stands_as, decided_after, decision_seen, sought_at, Table, Guarded, answer_by, Share, passing, upgrading, waiting, writing, turn_as, share_of, turn_by, is_reading, verdict, standing_at, view_of, Entry, entries_of, AsksIn, TellsOnRelease, is_outside, is_on, zero, suc, [], ◌∷◌, notified, is_for_turn, is_starved, HasTurn, ◌⊎◌, inl, inr, OnNoWriter, OnNoReaders, LeavesLists, starved_of, Action, LockCall}
 use Rattle.std.specs.Prelude.{not}
 use Rattle.world_base.specs.Standings.{decision}
 use Rattle.world_mutex.proofs.of_machine.callers.Holders as sees
@@ -206,10 +206,26 @@ record InLists (t u : Table Guarded) (m : Move) (from : Place) : Type 0 where
 
 -- a look does nothing there
 looks_at : (t u : Table Guarded) (m : Move) (x : Place) → (x ≡ Place.TryRead) ⊎ ((x ≡ Place.TryUpgrade) ⊎ (x ≡ Place.EnterRead false)) → InLists t u m x → LeavesLists (view_of t) (view_of u)
-looks_at t u m Place.TryRead at k = record { turn_list = ap (λ l. l.entries) k.turn; no_writer = k.no_writer; no_readers = k.no_readers }
-looks_at t u m Place.TryUpgrade at k = record { turn_list = ap (λ l. l.entries) k.turn; no_writer = k.no_writer; no_readers = k.no_readers }
-looks_at t u m (Place.EnterRead told) at k = record { turn_list = ap (λ l. l.entries) k.turn; no_writer = k.no_writer; no_readers = k.no_readers }
+looks_at t u m Place.TryRead at k = record { turn_list = ap (λ l. l.entries) k.turn; no_writer = k.no_writer; no_readers = k.no_readers; starved = ap starved_of k.turn }
+looks_at t u m Place.TryUpgrade at k = record { turn_list = ap (λ l. l.entries) k.turn; no_writer = k.no_writer; no_readers = k.no_readers; starved = ap starved_of k.turn }
+looks_at t u m (Place.EnterRead told) at k = record { turn_list = ap (λ l. l.entries) k.turn; no_writer = k.no_writer; no_readers = k.no_readers; starved = ap starved_of k.turn }
 looks_at t u m x at k = absurd (elim at as (λ _. ⊥) [ inl e ↦ cc e | inr other ↦ elim other as (λ _. ⊥) [ inl e ↦ cc e | inr e ↦ cc e ] ])
+
+-- nor does the first step of a call that takes the turn at once
+turn_looks_at : (t u : Table Guarded) (m : Move) (q : Purpose) (x : Place) → (x ≡ Place.EnterTurn q) ⊎ (x ≡ Place.TryTurn q) → InLists t u m x → LeavesLists (view_of t) (view_of u)
+turn_looks_at t u m q (Place.EnterTurn pr) at k = by_found k.found k.turn where
+  by_found : (f : Found) → OnTurn (inputs_of m.what).memory (inputs_of m.what).starving m.party (Action.Begin LockCall.Lock) f t.machine.lock.turn u.machine.lock.turn → LeavesLists (view_of t) (view_of u)
+  by_found (Found.Turn n) o = let so = o.at_once.looks refl in record { turn_list = so.0; no_writer = k.no_writer; no_readers = k.no_readers; starved = so.1 }
+  by_found _ o = absurd o
+turn_looks_at t u m q (Place.TryTurn pr) at k = by_found k.found k.turn where
+  by_found : (f : Found) → OnTurn (inputs_of m.what).memory (inputs_of m.what).starving m.party (Action.Begin LockCall.Try) f t.machine.lock.turn u.machine.lock.turn → LeavesLists (view_of t) (view_of u)
+  by_found (Found.Turn n) o = let so = o.at_once.looks refl in record { turn_list = so.0; no_writer = k.no_writer; no_readers = k.no_readers; starved = so.1 }
+  by_found _ o = absurd o
+turn_looks_at t u m q x at k = absurd (elim at as (λ _. ⊥) [ inl e ↦ cc e | inr e ↦ cc e ])
+
+try_looks_at : (t u : Table Guarded) (m : Move) (x : Place) → is_try_turn x ≡ true → InLists t u m x → LeavesLists (view_of t) (view_of u)
+try_looks_at t u m (Place.TryTurn q) h k = turn_looks_at t u m q (Place.TryTurn q) (inr refl) k
+try_looks_at t u m _ h k = absurd (cc h)
 
 -- what a call does that is to be refused
 record Refuses (old : World) (m : Move) (a : Answer) (new : World) : Type 0 where
@@ -235,6 +251,9 @@ acted_at_once t u m a from y b for_turn to_read l refuses gives_up =
       try_read_looks = λ i e h. looks_at t u m from (inl (b.try_read i e)) l;
       try_upgrade_looks = λ i e h. looks_at t u m from (inr (inl (b.try_upgrade i e))) l;
       first_read_looks = λ e. looks_at t u m from (inr (inr (b.first_read e))) l;
+      try_turn_looks = λ e h. try_looks_at t u m from (b.try_turn e) l;
+      first_upgradable_looks = λ e. turn_looks_at t u m Purpose.UpgradableRead from (inl (b.first_upgradable e)) l;
+      first_write_looks = λ e n. turn_looks_at t u m Purpose.Write from (inl (b.first_write e n)) l;
       listed_for_turn = for_turn;
       listed_to_read = to_read;
       refuses_turn = λ within r at sought without none plain possible. refuses.for_turn within r at sought without none plain;
@@ -319,11 +338,6 @@ apart_from_tries (Begin Call.TryUpgradableRead i) h e = cc
 apart_from_tries (Begin Call.TryWrite i) h e = cc
 apart_from_tries _ h e = cc
 
-apart_from_drops : (what : What) → holds_on what ≡ true → is_drop what ≡ true → ⊥
-apart_from_drops (Begin Call.Poll i) h e = cc e
-apart_from_drops (Begin (Call.Put v) i) h e = cc e
-apart_from_drops _ h e = cc h
-
 apart_from_read : (what : What) (i : Inputs) → holds_on what ≡ true → what ≡ Begin Call.TryRead i → ⊥
 apart_from_read what i h e = let no : holds_on (Begin Call.TryRead i) ≡ true = sym (ap holds_on e) ∙ h in absurd (cc)
 
@@ -333,8 +347,21 @@ apart_from_upgrade what i h e = let no : holds_on (Begin Call.TryUpgrade i) ≡ 
 outside_apart : (s : Standing) (r : Rest) (w : Within) (d : Option Answer) → s ≡ outside r → s ≡ inside w d → ⊥
 outside_apart s r w d e h = absurd (cc)
 
-pub still_at_once : (t : Table Guarded) (m : Move) (a : Answer) (after : World) → Laws t → stage_at t.stages m.party ≡ Outside Rest.Holding → holds_on m.what ≡ true → after.state.turn ≡ (view_of t).state.turn → after.owing ≡ (view_of t).owing → AnswersAtOnce (view_of t) m a after
-still_at_once t m a after k at holds same_turn same_owing =
+-- whoever reads is one of those that read
+reads_some : (rs : List Bool) (p : ℕ) → is_on rs p ≡ true → 0 < how_many rs
+reads_some [] p h = absurd (cc h)
+reads_some (true ∷ rs) zero h = omega arith
+reads_some (false ∷ rs) zero h = absurd (cc h)
+reads_some (b ∷ rs) (suc p) h = let more = reads_some rs p h in by_first b more where
+  by_first : (b : Bool) → 0 < how_many rs → 0 < how_many (b ∷ rs)
+  by_first true more = omega arith
+  by_first false more = omega (arith, more)
+
+none_left : (w : World) (p : ℕ) → state.reads w p ≡ true → how_many_read w ≡ 0 → ⊥
+none_left w p r left = let some = reads_some w.state.readers p r in absurd (omega (arith, some, left))
+
+pub still_at_once : (t : Table Guarded) (m : Move) (a : Answer) (after : World) → Laws t → stage_at t.stages m.party ≡ Outside Rest.Holding → holds_on m.what ≡ true → after.state.turn ≡ (view_of t).state.turn → after.state.readers ≡ (view_of t).state.readers → after.owing ≡ (view_of t).owing → AnswersAtOnce (view_of t) m a after
+still_at_once t m a after k at holds same_turn same_readers same_owing =
     let s : Standing = standing_of (view_of t) m.party in
     let o : Option Right = sought_by (view_of t) m.party in
     let n : ℕ = entries_in (view_of t) m.party in
@@ -355,11 +382,14 @@ still_at_once t m a after k at holds same_turn same_owing =
       try_read_looks = λ i e b. absurd (apart_from_read m.what i holds e);
       try_upgrade_looks = λ i e b. absurd (apart_from_upgrade m.what i holds e);
       first_read_looks = λ e. absurd (never_first read s (outside Rest.Holding) o m.what n is refl e);
+      try_turn_looks = λ e b. absurd (apart_from_tries m.what holds e);
+      first_upgradable_looks = λ e. absurd (never_first upgradable s (outside Rest.Holding) o m.what n is refl e);
+      first_write_looks = λ e z. absurd (never_first write s (outside Rest.Holding) o m.what n is refl e);
       listed_for_turn = λ i polls pending. absurd (cc (sym is ∙ pending));
       listed_to_read = λ i polls pending. absurd (cc (sym is ∙ pending));
       refuses_turn = λ within r at sought without none plain b. absurd (outside_apart s Rest.Holding within (Some (Answer.Refused r)) is at);
       refuses_read = λ within r at sought none b. absurd (outside_apart s Rest.Holding within (Some (Answer.Refused r)) is at);
-      gives_up = owing.keeps_owing (view_of t) m a after same_turn same_owing (λ d r none. apart_from_drops m.what holds d) (λ list h possible. (let inside = owes_outside t list m.party k h in let out : is_outside s ≡ true = ap is_outside is in cc (inside, out)));
+      gives_up = owing.keeps_owing (view_of t) m a after same_turn same_owing (λ r none. none_left (view_of t) m.party r (sym (ap how_many same_readers) ∙ none)) (λ list h possible. (let inside = owes_outside t list m.party k h in let out : is_outside s ≡ true = ap is_outside is in cc (inside, out)));
     }
 
 -- ---- a move that isn't possible
@@ -370,13 +400,13 @@ never_read (outside Rest.Finished) o (Begin Call.Read i) n h e = some_none e
 never_read (outside Rest.Pending) (Some read) (Begin Call.Poll i) n h e = some_none e
 never_read _ o _ n h e = false≢true h
 
-never_upgradable : (s : Standing) (o : Option Right) (what : What) (n : ℕ) → is_first_poll upgradable s o what n ≡ true → call_in (knows o) s what ≡ None → ⊥
+pub never_upgradable : (s : Standing) (o : Option Right) (what : What) (n : ℕ) → is_first_poll upgradable s o what n ≡ true → call_in (knows o) s what ≡ None → ⊥
 never_upgradable (outside Rest.Idle) o (Begin Call.UpgradableRead i) n h e = some_none e
 never_upgradable (outside Rest.Finished) o (Begin Call.UpgradableRead i) n h e = some_none e
 never_upgradable (outside Rest.Pending) (Some upgradable) (Begin Call.Poll i) n h e = some_none e
 never_upgradable _ o _ n h e = false≢true h
 
-never_write : (s : Standing) (o : Option Right) (what : What) (n : ℕ) → is_first_poll write s o what n ≡ true → call_in (knows o) s what ≡ None → ⊥
+pub never_write : (s : Standing) (o : Option Right) (what : What) (n : ℕ) → is_first_poll write s o what n ≡ true → call_in (knows o) s what ≡ None → ⊥
 never_write (outside Rest.Idle) o (Begin Call.Write i) n h e = some_none e
 never_write (outside Rest.Finished) o (Begin Call.Write i) n h e = some_none e
 never_write (outside Rest.Pending) (Some write) (Begin Call.Poll i) n h e = some_none e
@@ -387,19 +417,6 @@ never_polls s o what i e p none =
     let N : What → Type 0 = λ z. call_in (knows o) (outside Rest.Pending) z ≡ None in
     let S : Standing → Type 0 = λ z. call_in (knows o) z what ≡ None in
     some_none (subst N e (subst S p none))
-
--- whoever reads is one of those that read
-reads_some : (rs : List Bool) (p : ℕ) → is_on rs p ≡ true → 0 < how_many rs
-reads_some [] p h = absurd (cc h)
-reads_some (true ∷ rs) zero h = omega arith
-reads_some (false ∷ rs) zero h = absurd (cc h)
-reads_some (b ∷ rs) (suc p) h = let more = reads_some rs p h in by_first b more where
-  by_first : (b : Bool) → 0 < how_many rs → 0 < how_many (b ∷ rs)
-  by_first true more = omega arith
-  by_first false more = omega (arith, more)
-
-none_left : (w : World) (p : ℕ) → state.reads w p ≡ true → how_many_read w ≡ 0 → ⊥
-none_left w p r left = let some = reads_some w.state.readers p r in absurd (omega (arith, some, left))
 
 pub impossible_at_once : (w : World) (m : Move) → call_of w m ≡ None → AnswersAtOnce w m Answer.NotPossible w
 impossible_at_once w m none =
@@ -422,9 +439,12 @@ impossible_at_once w m none =
       try_read_looks = λ i e h. absurd (cc);
       try_upgrade_looks = λ i e h. absurd (cc);
       first_read_looks = λ e. absurd (never_read s o m.what n e none);
+      try_turn_looks = λ e h. absurd (cc);
+      first_upgradable_looks = λ e. absurd (never_upgradable s o m.what n e none);
+      first_write_looks = λ e z. absurd (never_write s o m.what n e none);
       listed_for_turn = λ i polls pending. absurd (never_polls s o m.what i polls pending none);
       listed_to_read = λ i polls pending. absurd (never_polls s o m.what i polls pending none);
       refuses_turn = λ within r at sought without unlisted plain h. absurd (cc);
       refuses_read = λ within r at sought unlisted h. absurd (cc);
-      gives_up = owing.keeps_owing w m Answer.NotPossible w refl refl (λ d r left. none_left w m.party r left) (λ list h possible. cc possible);
+      gives_up = owing.keeps_owing w m Answer.NotPossible w refl refl (λ r left. none_left w m.party r left) (λ list h possible. cc possible);
     }

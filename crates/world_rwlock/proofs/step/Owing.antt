@@ -1,5 +1,5 @@
 -- Whoever gives something back goes on until it has told of that.
-use Rattle.world_rwlock.proofs.Prelude.{◌≡◌, ℕ, ◌<◌, ◌⊎◌, inl, inr, Bool, true, false, Option, Some, None, List, length, refl, arith, ap, sym, ◌∙◌, subst, get_or, get_or-set_same, get_or-set_other, set, sum_by, sum_by-set, notified, Answer, Call, Move, What, Begin, Within, is_drop, inputs_of, is_possible, Deed, nothing, changes, does, some_eq, none_some, stage_at, Table, End, TurnStep, Ending, Found, Place, IsLegal, TurnCourse, waiting_there, taking, has_lock, holds, decision, is_taking, is_cancelling, cancelling, Mutex, turn_at, holder_of, out_free, waiting_free, releasing_free, OnNoWriter, OnNoReaders, action_of, next_of, place_after, drop_from, OnTurn, Finds, readers, RwLock, place_at, fits_turn, reads as reads_there, Guarded, answer_by, place_for, TellsOnRelease, ListName, for_the_turn, for_no_readers, for_no_writer, list_of, is_marked, World, how_many_read, HasTurn, nothing_owed, owes_in, has_to_tell, Share, passing, upgrading, waiting, writing, turn_as, turn_by, share_of, is_reading, owing_at, view_of, knows_at}
+use Rattle.world_rwlock.proofs.Prelude.{◌≡◌, ℕ, ◌<◌, ◌≤◌, ◌⊎◌, inl, inr, Bool, true, false, Option, Some, None, List, length, refl, arith, ap, sym, ◌∙◌, subst, get_or, get_or-set_same, get_or-set_other, set, sum_by, sum_by-set, get_or-le-sum_by, false≢true, true≢false, eqb-true, has_turn, notified, Answer, Call, Move, What, Begin, Within, is_drop, inputs_of, is_possible, Deed, nothing, changes, does, some_eq, none_some, stage_at, Table, End, TurnStep, Ending, Found, Place, IsLegal, TurnCourse, waiting_there, taking, has_lock, holds, decision, is_taking, is_cancelling, cancelling, Mutex, turn_at, holder_of, out_free, waiting_free, releasing_free, OnNoWriter, OnNoReaders, action_of, next_of, place_after, drop_from, OnTurn, Finds, readers, RwLock, place_at, fits_turn, reads as reads_there, Guarded, answer_by, place_for, TellsOnRelease, ListName, for_the_turn, for_no_readers, for_no_writer, list_of, is_marked, World, how_many_read, HasTurn, nothing_owed, owes_in, has_to_tell, Share, passing, upgrading, waiting, writing, turn_as, turn_by, share_of, owing_at, view_of, knows_at}
 use Rattle.world_mutex.specs.machine.Deeds as mutex
 use Rattle.world_mutex.proofs.of_machine.callers.Holders as sees
 use Rattle.world_rwlock.specs.State.{Turn, reads}
@@ -7,6 +7,7 @@ use Rattle.world_rwlock.proofs.step.Acting.{Acting, fit, says}
 use Rattle.world_rwlock.proofs.step.Owed.{Owes, not_owed, owes_seen, owes_inside}
 use Rattle.world_rwlock.proofs.step.Refusing.{going_here, has_by}
 use Rattle.world_rwlock.proofs.table.Views as view
+use Rattle.world_rwlock.proofs.step.Owns as owns
 
 -- ---- who has the turn
 
@@ -102,31 +103,79 @@ marks_still memory starving p _ f l n m o = o
 
 -- ---- the last reader
 
-drops_reading : (x y : Place) → is_reading x ≡ true → drop_from x ≡ Some y → (y ≡ Place.DropRead) ⊎ (y ≡ Place.DropUpgradable)
+drops_reading : (x y : Place) → reads_there x ≡ 1 → drop_from x ≡ Some y → (y ≡ Place.DropRead) ⊎ (y ≡ Place.DropUpgradable)
 drops_reading Place.Reading y h e = inl (sym (some_eq e))
 drops_reading Place.Upgradable y h e = inr (sym (some_eq e))
-drops_reading (Place.Made w) y h e = absurd (cc h)
-drops_reading Place.AskNoWriter y h e = absurd (cc h)
-drops_reading (Place.WaitTurn q) y h e = absurd (cc h)
-drops_reading (Place.AwaitNoReaders upgrade) y h e = absurd (cc h)
-drops_reading (Place.LookUnlisted true) y h e = absurd (cc h)
-drops_reading (Place.LookUnlisted false) y h e = absurd (cc h)
-drops_reading Place.Writing y h e = absurd (cc h)
+drops_reading (Place.Made w) y h e = absurd (omega (arith, h))
+drops_reading Place.AskNoWriter y h e = absurd (omega (arith, h))
+drops_reading (Place.WaitTurn q) y h e = absurd (omega (arith, h))
+drops_reading (Place.AwaitNoReaders upgrade) y h e = absurd (omega (arith, h))
+drops_reading (Place.LookUnlisted true) y h e = absurd (omega (arith, h))
+drops_reading (Place.LookUnlisted false) y h e = absurd (omega (arith, h))
+drops_reading Place.Writing y h e = absurd (omega (arith, h))
 drops_reading _ y h e = absurd (none_some e)
 
 drop_starts : (what : What) (x y : Place) → is_drop what ≡ true → place_for what x ≡ Some y → drop_from x ≡ Some y
 drop_starts (Begin Call.Drop i) x y h e = e
 drop_starts _ x y h e = absurd (cc h)
 
--- the drop of a reader that finds none left has to tell the one that waits to write; one that leaves others is none of the last
-lasts : (memory : Bool) (v : ℕ) (l : RwLock) (y : Place) (f : Found) → (y ≡ Place.DropRead) ⊎ (y ≡ Place.DropUpgradable) → Finds memory (action_of y) f l → Tells v for_no_readers y f ⊎ ((1 < readers l) × (reads_there y ≡ 1) × (reads_there (place_after (next_of y f)) ≡ 0))
+-- the drop of a reader that finds none left has to tell the one that waits to write; any other reader leaves others, goes on reading, or sets the writer's bit
+abbrev LeavesOthers : RwLock → Place → Found → Type 0
+LeavesOthers l y f = (1 < readers l) × (reads_there (place_after (next_of y f)) ≡ 0)
+
+abbrev SetsBit : Place → Found → Type 0
+SetsBit y f = (is_bit (share_of y) ≡ false) × (is_bit (Share_then y f) ≡ true) × (has_turn y ≡ 1) × (has_turn (place_after (next_of y f)) ≡ 1)
+
+abbrev Lasts : ℕ → RwLock → Place → Found → Type 0
+Lasts v l y f = Tells v for_no_readers y f ⊎ (LeavesOthers l y f ⊎ ((reads_there (place_after (next_of y f)) ≡ 1) ⊎ SetsBit y f))
+
+-- no drop of a reader does
+drops_clear : (memory : Bool) (l : RwLock) (y : Place) (f : Found) → (y ≡ Place.DropRead) ⊎ (y ≡ Place.DropUpgradable) → Finds memory (action_of y) f l → SetsBit y f → ⊥
+drops_clear memory l Place.DropRead Found.NoneLeft at e s = false≢true s.1
+drops_clear memory l Place.DropRead Found.SomeLeft at e s = false≢true s.1
+drops_clear memory l Place.DropRead _ at e s = e
+drops_clear memory l Place.DropUpgradable Found.NoneLeft at e s = false≢true s.1
+drops_clear memory l Place.DropUpgradable Found.SomeLeft at e s = false≢true s.1
+drops_clear memory l Place.DropUpgradable _ at e s = e
+drops_clear memory l _ f at e s = elim at as (λ _. ⊥) [ inl is ↦ cc is | inr is ↦ cc is ]
+
+no_reader : ◌≡◌ {A = ℕ} 0 1 → ⊥
+no_reader e = omega (arith, e)
+
+lasts : (memory : Bool) (v : ℕ) (l : RwLock) (y : Place) (f : Found) → reads_there y ≡ 1 → Finds memory (action_of y) f l → Lasts v l y f
 lasts memory v l Place.DropRead Found.NoneLeft at e = inl (refl, refl)
-lasts memory v l Place.DropRead Found.SomeLeft at e = inr (e, refl, refl)
+lasts memory v l Place.DropRead Found.SomeLeft at e = inr (inl (e, refl))
 lasts memory v l Place.DropRead _ at e = absurd e
 lasts memory v l Place.DropUpgradable Found.NoneLeft at e = inl (refl, refl)
-lasts memory v l Place.DropUpgradable Found.SomeLeft at e = inr (e, refl, refl)
+lasts memory v l Place.DropUpgradable Found.SomeLeft at e = inr (inl (e, refl))
 lasts memory v l Place.DropUpgradable _ at e = absurd e
-lasts memory v l y f at e = absurd (elim at as (λ _. ⊥) [ inl is ↦ cc is | inr is ↦ cc is ])
+lasts memory v l Place.Upgrade Found.Done at e = inr (inr (inr (refl, refl, refl, refl)))
+lasts memory v l Place.Upgrade _ at e = absurd e
+lasts memory v l Place.TryUpgrade Found.Done at e = inr (inr (inr (refl, refl, refl, refl)))
+lasts memory v l Place.TryUpgrade Found.NotFree at e = inr (inr (inl refl))
+lasts memory v l Place.TryUpgrade _ at e = absurd e
+lasts memory v l Place.Reading f at e = inr (inr (inl refl))
+lasts memory v l Place.Upgradable f at e = inr (inr (inl refl))
+lasts memory v l Place.LeaveNoWriter f at e = inr (inr (inl refl))
+lasts memory v l (Place.ReleaseTurn Ending.Reading) (Found.Turn TurnStep.More) at e = inr (inr (inl refl))
+lasts memory v l (Place.ReleaseTurn Ending.Reading) (Found.Turn (TurnStep.End n)) at e = inr (inr (inl refl))
+lasts memory v l (Place.ReleaseTurn Ending.Reading) _ at e = absurd e
+lasts memory v l (Place.ReleaseTurn Ending.NotifyReaders) (Found.Turn TurnStep.More) at e = inr (inr (inl refl))
+lasts memory v l (Place.ReleaseTurn Ending.NotifyReaders) (Found.Turn (TurnStep.End n)) at e = inr (inr (inl refl))
+lasts memory v l (Place.ReleaseTurn Ending.NotifyReaders) _ at e = absurd e
+lasts memory v l (Place.ReleaseTurn Ending.GivenBack) f at e = absurd (no_reader at)
+lasts memory v l (Place.ReleaseTurn (Ending.NotFree q)) f at e = absurd (no_reader at)
+lasts memory v l (Place.ReleaseTurn Ending.RefuseReaders) f at e = absurd (no_reader at)
+lasts memory v l (Place.ReleaseTurn Ending.RefuseMemory) f at e = absurd (no_reader at)
+lasts memory v l (Place.ReleasingTurn Ending.Reading) f at e = inr (inr (inl refl))
+lasts memory v l (Place.ReleasingTurn Ending.NotifyReaders) f at e = inr (inr (inl refl))
+lasts memory v l (Place.ReleasingTurn Ending.GivenBack) f at e = absurd (no_reader at)
+lasts memory v l (Place.ReleasingTurn (Ending.NotFree q)) f at e = absurd (no_reader at)
+lasts memory v l (Place.ReleasingTurn Ending.RefuseReaders) f at e = absurd (no_reader at)
+lasts memory v l (Place.ReleasingTurn Ending.RefuseMemory) f at e = absurd (no_reader at)
+lasts memory v l Place.DownNotify f at e = inr (inr (inl refl))
+lasts memory v l Place.DowngradeNotify f at e = inr (inr (inl refl))
+lasts memory v l _ f at e = absurd (no_reader at)
 
 -- ---- by the step of the turn
 
@@ -228,16 +277,32 @@ module _ (t u : Table Guarded) (m : Move) (a : Answer) (w : Within) (k : Acting 
       let after : is_bit (share_of to) ≡ false = ap (λ z. is_bit (share_of z)) (sym lands) ∙ (sym (bit_as p (share_of (place_at u.machine.lock.places p))) ∙ (sym (ap is_marked (turn_of u p still)) ∙ now)) in
       told_by for_no_writer (clears v from fnd before after)
 
-  last_reader : is_drop m.what ≡ true → reads old p ≡ true → how_many_read new ≡ 0 → (a ≡ Answer.Stepped) × (has_to_tell for_no_readers new p ≡ true)
-  last_reader drops reading none =
-      let here : is_reading x ≡ true = sym (view.reads_at t.machine.lock.places p) ∙ reading in
-      let at = drops_reading x from here (drop_starts m.what x from drops k.starts) in
-      elim (lasts memory v t.machine.lock from fnd at k.acts.finds) as (λ _. (a ≡ Answer.Stepped) × (has_to_tell for_no_readers new p ≡ true)) [
+  -- by what is marked before and after
+  bit_moved : SetsBit from fnd → is_marked new.state.turn ≡ is_marked old.state.turn → ⊥
+  bit_moved h same =
+      let before : old.state.turn ≡ turn_as p (share_of x) = owns.turn_at_place t.machine.lock t.stages t.opening t.machine.value k.old.lock k.old.fits p x refl (omega (arith, h.2, k.moves.same.turning, k.moves.same.marking)) in
+      let after : new.state.turn ≡ turn_as p (share_of to) = owns.turn_at_place u.machine.lock u.stages u.opening u.machine.value k.new.lock k.new.fits p to lands h.3 in
+      let clear : is_marked old.state.turn ≡ false = ap is_marked before ∙ (bit_as p (share_of x) ∙ (ap is_bit (sym k.moves.share) ∙ h.0)) in
+      let set_now : is_marked new.state.turn ≡ true = ap is_marked after ∙ (bit_as p (share_of to) ∙ h.1) in
+      true≢false (sym set_now ∙ (same ∙ clear))
+
+  last_reader : reads old p ≡ true → how_many_read new ≡ 0 → (is_drop m.what ≡ true) ⊎ (is_marked new.state.turn ≡ is_marked old.state.turn) → (a ≡ Answer.Stepped) × (has_to_tell for_no_readers new p ≡ true)
+  last_reader reading none why =
+      let here : reads_there x ≡ 1 = eqb-true (reads_there x) 1 (sym (view.reads_at t.machine.lock.places p) ∙ reading) in
+      let there : reads_there from ≡ 1 = k.moves.same.reading ∙ here in
+      let left : readers u.machine.lock ≡ 0 = sym (view.how_many-read u.machine.lock.places) ∙ none in
+      let places : u.machine.lock.places ≡ set t.machine.lock.places p to = k.acts.places ∙ ap (λ z. set t.machine.lock.places p (place_after z)) k.acts.next_is in
+      let sum : readers u.machine.lock ≡ sum_by reads_there (set t.machine.lock.places p to) = ap (sum_by reads_there) places in
+      let one : reads_there x ≤ readers t.machine.lock = get_or-le-sum_by reads_there t.machine.lock.places p Place.Out known in
+      elim (lasts memory v t.machine.lock from fnd there k.acts.finds) as (λ _. (a ≡ Answer.Stepped) × (has_to_tell for_no_readers new p ≡ true)) [
         | inl last ↦ told_by for_no_readers last
-        | inr others ↦ (let left : readers u.machine.lock ≡ 0 = sym (view.how_many-read u.machine.lock.places) ∙ none in
-            let places : u.machine.lock.places ≡ set t.machine.lock.places p to = k.acts.places ∙ ap (λ z. set t.machine.lock.places p (place_after z)) k.acts.next_is in
-            let sum : readers u.machine.lock ≡ sum_by reads_there (set t.machine.lock.places p to) = ap (sum_by reads_there) places in
-            absurd (omega (arith, left, sum, sum_by-set reads_there t.machine.lock.places p to Place.Out known, k.moves.same.reading, others.0, others.1, others.2)))
+        | inr other ↦ elim other as (λ _. (a ≡ Answer.Stepped) × (has_to_tell for_no_readers new p ≡ true)) [
+          | inl others ↦ absurd (omega (arith, left, sum, sum_by-set reads_there t.machine.lock.places p to Place.Out known, here, others.0, others.1))
+          | inr more ↦ elim more as (λ _. (a ≡ Answer.Stepped) × (has_to_tell for_no_readers new p ≡ true)) [
+            | inl reads_on ↦ absurd (omega (arith, left, sum, sum_by-set reads_there t.machine.lock.places p to Place.Out known, here, one, reads_on))
+            | inr sets ↦ absurd (elim why as (λ _. ⊥) [ inl drops ↦ drops_clear memory t.machine.lock from fnd (drops_reading x from here (drop_starts m.what x from drops k.starts)) k.acts.finds sets | inr same ↦ bit_moved sets same ])
+          ]
+        ]
       ]
 
   -- ---- who has to tell
@@ -312,12 +377,12 @@ module _ (t u : Table Guarded) (m : Move) (a : Answer) (w : Within) (k : Acting 
 
 -- ---- where nothing is given back
 
--- a move that changes neither the turn nor who owes: it drops no reader, and its party has nothing to tell, or it isn't possible
-pub keeps_owing : (w : World) (m : Move) (a : Answer) (v : World) → v.state.turn ≡ w.state.turn → v.owing ≡ w.owing → (is_drop m.what ≡ true → reads w m.party ≡ true → how_many_read v ≡ 0 → ⊥) → ((list : ListName) → has_to_tell list w m.party ≡ true → is_possible a ≡ true → ⊥) → TellsOnRelease w m a v
+-- a move that changes neither the turn nor who reads nor who owes: its party has nothing to tell, or it isn't possible
+pub keeps_owing : (w : World) (m : Move) (a : Answer) (v : World) → v.state.turn ≡ w.state.turn → v.owing ≡ w.owing → (reads w m.party ≡ true → how_many_read v ≡ 0 → ⊥) → ((list : ListName) → has_to_tell list w m.party ≡ true → is_possible a ≡ true → ⊥) → TellsOnRelease w m a v
 keeps_owing w m a v same owing drops quiet = record {
   turn = λ has lost. absurd (lost (let T : Turn → Type 0 = λ z. HasTurn z m.party in subst T (sym same) has));
   bit = λ has was now. absurd (cc (was, now, same));
-  last_reader = λ d r none. absurd (drops d r none);
+  last_reader = λ r none why. absurd (drops r none);
   tells = λ list h possible. absurd (quiet list h possible);
   tells_at_once = λ h possible. absurd (quiet for_the_turn h possible);
   others = λ list q apart. ap (λ os. owes_in list (get_or os q nothing_owed)) owing;

@@ -28,14 +28,14 @@ module _ (t u : Table Guarded) (m : Move) (a : Answer) (old : Laws t) (new : Law
   good (impossible e ea eu) = moved Answer.NotPossible t m.what ea eu refl (idle.impossible t m old e, impossible_at_once (view_of t) m e)
   good (over w e f ea eu) = elim (inside_or_past t.stages m.party) as (λ _. Good m a u) [
     | inl inside ↦ (let it = idle.again_is (stage_at t.stages m.party) m.what (place_at t.machine.lock.places m.party) f (old.fits.stands m.party inside) in
-        moved (refused Refusal.Finished) t (Begin Call.Poll it.0) ea eu it.2 (idle.polled_again t m.party it.0 old it.1, still_at_once t (record { party = m.party; what = Begin Call.Poll it.0 }) (refused Refusal.Finished) (view_of t) old it.1 refl refl refl))
+        moved (refused Refusal.Finished) t (Begin Call.Poll it.0) ea eu it.2 (idle.polled_again t m.party it.0 old it.1, still_at_once t (record { party = m.party; what = Begin Call.Poll it.0 }) (refused Refusal.Finished) (view_of t) old it.1 refl refl refl refl))
     | inr past ↦ (let never : polls_again (stage_at t.stages m.party) m.what ≡ false = ap (λ s. polls_again s m.what) past.1 in absurd (cc))
   ]
   good (puts w v inside o e ea eu) =
       let put = put_is (stage_at t.stages m.party) m.what v w (place_at t.machine.lock.places m.party) o e in
       let it = put_call m.what v o in
       moved (Answer.Granted (Value v)) (idle.left t v m.party it.0) (Begin (Call.Put v) it.0) ea eu it.1
-      (idle.putting t v m.party it.0 old inside put.stage put.place, still_at_once t (idle.the_move t v m.party it.0) (Answer.Granted (Value v)) (view_of (idle.left t v m.party it.0)) old put.stage refl refl refl)
+      (idle.putting t v m.party it.0 old inside put.stage put.place, still_at_once t (idle.the_move t v m.party it.0) (Answer.Granted (Value v)) (view_of (idle.left t v m.party it.0)) old put.stage refl refl refl refl)
   good (acts w c) = (legal t u m a w c, at_once t u m a w c)
 
   pub stepped : TableSteps t m a u → Steps (view_of t) m a (view_of u)

@@ -1,5 +1,5 @@
 -- What one action on the turn does and decides, as callers see it.
-use Rattle.world_rwlock.proofs.Prelude.{◌≡◌, ℕ, ◌==◌, ◌||◌, not, inl, inr, Bool, true, false, List, map, Option, Some, None, refl, arith, ap, sym, ◌∙◌, subst, false≢true, Answer, Move, Refusal, Stage, inputs_of, refused, Deed, changes, does, joins, TurnCourse, is_out, is_taking, Takes, Tries, Releases, Cancels, holds, decision, LockCall, TurnStep, End as TurnEnd, turn_at, holder_of, decided_then, IsReason, decided_by, out_free, waiting_free, releasing_free, releasing_decided, cancelling_decided, IsPolls, taking_decided, holding_holds, Found, Turn, Ending, Purpose, Place, action_of, next_of, place_after, after_lock, after_turn, in_no_writer, in_no_readers, fits_turn, OnTurn, LockBegins, LockGoesOn, RwLock, IsRwLock, Change, entries_after, gives_up, ListName, for_the_turn, for_no_readers, for_no_writer, MayMeet, World, list_of, told_in, HasTurn, sought_at, passing, is_reading, verdict, verdict_until, refused_by, seen, is_counted}
+use Rattle.world_rwlock.proofs.Prelude.{◌≡◌, ℕ, ◌==◌, ◌||◌, not, inl, inr, Bool, true, false, List, map, Option, Some, None, refl, arith, ap, sym, ◌∙◌, subst, false≢true, Answer, Move, Refusal, Stage, inputs_of, refused, Deed, changes, does, joins, TurnCourse, is_out, is_taking, Takes, Tries, Releases, Cancels, holds, decision, LockCall, TurnStep, End as TurnEnd, turn_at, holder_of, decided_then, IsReason, decided_by, out_free, waiting_free, releasing_free, releasing_decided, cancelling_decided, IsPolls, taking_decided, holding_holds, Found, Turn, Ending, Purpose, Place, action_of, next_of, place_after, after_lock, after_turn, in_no_writer, in_no_readers, fits_turn, OnTurn, LockBegins, LockGoesOn, RwLock, IsRwLock, Change, entries_after, gives_up, ListName, for_the_turn, for_no_readers, for_no_writer, MayMeet, World, list_of, told_in, HasTurn, sought_at, passing, is_reading, verdict, verdict_until, refused_by, seen, is_counted, is_for_turn, sought_by, waiting_listed}
 use Rattle.std.proofs.Math.Seq.{map-set_same}
 use Rattle.lock_event.specs.declared.event.Mark.TheVariants.{Waiting}
 use Rattle.world_mutex.specs.machine.Course as course
@@ -11,6 +11,7 @@ use Rattle.world_rwlock.proofs.step.Owns as owns
 use Rattle.world_rwlock.proofs.step.Facts.{WaitsIn, CauseAs, Fitting, JudgedAs, Facts, Known}
 use Rattle.world_rwlock.proofs.step.TurnSteps.{TurnDid, TurnMoved, moved, left}
 use Rattle.world_mutex.proofs.of_machine.callers.Rosters.{is_zero}
+use Rattle.world_rwlock.proofs.table.Views as view
 
 -- ---- what a step of a poll decides there decides the call, but that the turn was got
 
@@ -233,6 +234,13 @@ module _ (m : Move) (l k : RwLock) (ss : List Stage) (opening : ℕ) (ts : List 
   idle_there pr n did mv Refusal.Readers e h takes out = absurd (did.legal.reason (TurnEnd.Refused Refusal.Readers) e h)
   idle_there pr n did mv _ e h takes out = tt
 
+  -- whoever is in a poll that takes the turn wants it
+  wants_turn : (pr : Purpose) (f : Found) → Known m l k ss v (Place.TakeTurn pr) f → is_for_turn (sought_by old p) ≡ true
+  wants_turn pr f c = ap is_for_turn (view.seeks_at l.places p ∙ ap sought_at (c.taking pr refl)) ∙ by_purpose pr where
+    by_purpose : (q : Purpose) → is_for_turn (sought_at (Place.TakeTurn q)) ≡ true
+    by_purpose Purpose.UpgradableRead = refl
+    by_purpose Purpose.Write = refl
+
   begun : (c : LockCall) (n : TurnStep) → LockBegins memory starving p c n l.turn k.turn → TurnDid memory p (decided_by c) n l.turn k.turn
   begun c n b = record { legal = b.legal; fair = b.fair }
 
@@ -243,37 +251,37 @@ module _ (m : Move) (l k : RwLock) (ss : List Stage) (opening : ℕ) (ts : List 
   on_turn (Place.EnterTurn pr) (Turn tn) c s o e fit =
       let row = turn_row v u (Place.EnterTurn pr) (Turn tn) s e in
       let did = begun LockCall.Lock tn o in
-      let mv = moved m l k ss opening ts v (Place.EnterTurn pr) (Turn tn) c afterwards row.sharing None tn did refl in
+      let mv = moved m l k ss opening ts v (Place.EnterTurn pr) (Turn tn) c afterwards row.sharing None tn did (inl (o.at_once.looks refl).1) refl in
       facts (Place.EnterTurn pr) (Turn tn) c row None tn did mv (on_hold None tn did mv (inl refl)) c.no_writer c.no_readers (polled (Place.EnterTurn pr) pr tn None did mv (inl refl) e (λ r n. cause (Place.EnterTurn pr) (Turn tn) c refl refl c.no_writer c.no_readers (owns.no_turn l ss opening v c.laws c.fits p (out_free t fit)) r) (λ r n y. absurd (o.unrefused r y)))
   on_turn (Place.EnterTurn pr) _ c s o e fit = absurd o
   on_turn (Place.WaitTurn pr) (Turn tn) c s o e fit =
       let row = turn_row v u (Place.WaitTurn pr) (Turn tn) s e in
       let did = begun LockCall.Poll tn o in
-      let mv = moved m l k ss opening ts v (Place.WaitTurn pr) (Turn tn) c afterwards row.sharing None tn did refl in
+      let mv = moved m l k ss opening ts v (Place.WaitTurn pr) (Turn tn) c afterwards row.sharing None tn did (inl (o.at_once.listed refl (omega (arith, c.laws.turn.owners p, waiting_listed t fit))).starved) refl in
       facts (Place.WaitTurn pr) (Turn tn) c row None tn did mv (on_hold None tn did mv (inl refl)) c.no_writer c.no_readers (polled (Place.WaitTurn pr) pr tn None did mv (inl refl) e (λ r n. cause (Place.WaitTurn pr) (Turn tn) c refl refl c.no_writer c.no_readers (owns.no_turn l ss opening v c.laws c.fits p (waiting_free t fit)) r) (λ r n y. absurd (o.unrefused r y)))
   on_turn (Place.WaitTurn pr) _ c s o e fit = absurd o
   on_turn (Place.TakeTurn pr) (Turn tn) c s o e fit =
       let row = turn_row v u (Place.TakeTurn pr) (Turn tn) s e in
       let did = gone_on tn o in
-      let mv = moved m l k ss opening ts v (Place.TakeTurn pr) (Turn tn) c afterwards row.sharing (decision t) tn did refl in
+      let mv = moved m l k ss opening ts v (Place.TakeTurn pr) (Turn tn) c afterwards row.sharing (decision t) tn did (inr (inr (wants_turn pr (Turn tn) c))) refl in
       facts (Place.TakeTurn pr) (Turn tn) c row (decision t) tn did mv (on_hold (decision t) tn did mv (taking_decided t fit)) c.no_writer c.no_readers (polled (Place.TakeTurn pr) pr tn (decision t) did mv (taking_decided t fit) e (λ r n. cause (Place.TakeTurn pr) (Turn tn) c refl refl c.no_writer c.no_readers (owns.no_turn l ss opening v c.laws c.fits p (undecided_free t fit n)) r) (λ r n y. idle_there pr tn did mv r n y e (owns.no_turn l ss opening v c.laws c.fits p (undecided_free t fit n))))
   on_turn (Place.TakeTurn pr) _ c s o e fit = absurd o
   on_turn (Place.TryTurn pr) (Turn tn) c s o e fit =
       let row = turn_row v u (Place.TryTurn pr) (Turn tn) s e in
       let did = begun LockCall.Try tn o in
-      let mv = moved m l k ss opening ts v (Place.TryTurn pr) (Turn tn) c afterwards row.sharing None tn did refl in
+      let mv = moved m l k ss opening ts v (Place.TryTurn pr) (Turn tn) c afterwards row.sharing None tn did (inl (o.at_once.looks refl).1) refl in
       facts (Place.TryTurn pr) (Turn tn) c row None tn did mv (on_hold None tn did mv (inl refl)) c.no_writer c.no_readers (tried pr tn mv.deed e)
   on_turn (Place.TryTurn pr) _ c s o e fit = absurd o
   on_turn Place.CancelTurn (Turn tn) c s o e fit =
       let row = turn_row v u Place.CancelTurn (Turn tn) s e in
       let did = begun LockCall.Cancel tn o in
-      let mv = moved m l k ss opening ts v Place.CancelTurn (Turn tn) c afterwards row.sharing (Some TurnEnd.GivenBack) tn did refl in
+      let mv = moved m l k ss opening ts v Place.CancelTurn (Turn tn) c afterwards row.sharing (Some TurnEnd.GivenBack) tn did (inr (inl (did.legal.kept TurnEnd.GivenBack refl).1)) refl in
       facts Place.CancelTurn (Turn tn) c row (Some TurnEnd.GivenBack) tn did mv (judged_so Answer.GivenBack mv.deed) c.no_writer c.no_readers ((now_cancelled v u tn e).0, mv.parting (did.legal.kept TurnEnd.GivenBack refl).1)
   on_turn Place.CancelTurn _ c s o e fit = absurd o
   on_turn Place.CancellingTurn (Turn tn) c s o e fit =
       let row = turn_row v u Place.CancellingTurn (Turn tn) s e in
       let did = gone_on tn o in
-      let mv = moved m l k ss opening ts v Place.CancellingTurn (Turn tn) c afterwards row.sharing (decision t) tn did refl in
+      let mv = moved m l k ss opening ts v Place.CancellingTurn (Turn tn) c afterwards row.sharing (decision t) tn did (inr (inl (did.legal.kept TurnEnd.GivenBack (cancelling_decided t fit)).1)) refl in
       facts Place.CancellingTurn (Turn tn) c row (decision t) tn did mv (judged_so Answer.GivenBack mv.deed) c.no_writer c.no_readers ((now_cancelled v u tn e).1, mv.parting (did.legal.kept TurnEnd.GivenBack (cancelling_decided t fit)).1)
   on_turn Place.CancellingTurn _ c s o e fit = absurd o
   on_turn (Place.ReleaseTurn Ending.Reading) (Turn tn) c s o e fit =
@@ -285,33 +293,33 @@ module _ (m : Move) (l k : RwLock) (ss : List Stage) (opening : ℕ) (ts : List 
   on_turn (Place.ReleaseTurn Ending.GivenBack) (Turn tn) c s o e fit =
       let row = turn_row v u (Place.ReleaseTurn Ending.GivenBack) (Turn tn) s e in
       let did = begun LockCall.Release tn o in
-      let mv = moved m l k ss opening ts v (Place.ReleaseTurn Ending.GivenBack) (Turn tn) c afterwards row.sharing (Some TurnEnd.GivenBack) tn did refl in
+      let mv = moved m l k ss opening ts v (Place.ReleaseTurn Ending.GivenBack) (Turn tn) c afterwards row.sharing (Some TurnEnd.GivenBack) tn did (inr (inl (did.legal.kept TurnEnd.GivenBack refl).1)) refl in
       facts (Place.ReleaseTurn Ending.GivenBack) (Turn tn) c row (Some TurnEnd.GivenBack) tn did mv (judged_so (verdict_until Ending.GivenBack) mv.deed) c.no_writer c.no_readers (now_released v u Ending.GivenBack tn e, mv.parting (did.legal.kept TurnEnd.GivenBack refl).1)
   on_turn (Place.ReleaseTurn (Ending.NotFree q)) (Turn tn) c s o e fit =
       let row = turn_row v u (Place.ReleaseTurn (Ending.NotFree q)) (Turn tn) s e in
       let did = begun LockCall.Release tn o in
-      let mv = moved m l k ss opening ts v (Place.ReleaseTurn (Ending.NotFree q)) (Turn tn) c afterwards row.sharing (Some TurnEnd.GivenBack) tn did refl in
+      let mv = moved m l k ss opening ts v (Place.ReleaseTurn (Ending.NotFree q)) (Turn tn) c afterwards row.sharing (Some TurnEnd.GivenBack) tn did (inr (inl (did.legal.kept TurnEnd.GivenBack refl).1)) refl in
       facts (Place.ReleaseTurn (Ending.NotFree q)) (Turn tn) c row (Some TurnEnd.GivenBack) tn did mv (judged_so (verdict_until (Ending.NotFree q)) mv.deed) c.no_writer c.no_readers (now_released v u (Ending.NotFree q) tn e, mv.parting (did.legal.kept TurnEnd.GivenBack refl).1)
   on_turn (Place.ReleaseTurn Ending.RefuseReaders) (Turn tn) c s o e fit =
       let row = turn_row v u (Place.ReleaseTurn Ending.RefuseReaders) (Turn tn) s e in
       let did = begun LockCall.Release tn o in
-      let mv = moved m l k ss opening ts v (Place.ReleaseTurn Ending.RefuseReaders) (Turn tn) c afterwards row.sharing (Some TurnEnd.GivenBack) tn did refl in
+      let mv = moved m l k ss opening ts v (Place.ReleaseTurn Ending.RefuseReaders) (Turn tn) c afterwards row.sharing (Some TurnEnd.GivenBack) tn did (inr (inl (did.legal.kept TurnEnd.GivenBack refl).1)) refl in
       facts (Place.ReleaseTurn Ending.RefuseReaders) (Turn tn) c row (Some TurnEnd.GivenBack) tn did mv (judged_so (verdict_until Ending.RefuseReaders) mv.deed) c.no_writer c.no_readers (now_released v u Ending.RefuseReaders tn e, mv.parting (did.legal.kept TurnEnd.GivenBack refl).1)
   on_turn (Place.ReleaseTurn Ending.RefuseMemory) (Turn tn) c s o e fit =
       let row = turn_row v u (Place.ReleaseTurn Ending.RefuseMemory) (Turn tn) s e in
       let did = begun LockCall.Release tn o in
-      let mv = moved m l k ss opening ts v (Place.ReleaseTurn Ending.RefuseMemory) (Turn tn) c afterwards row.sharing (Some TurnEnd.GivenBack) tn did refl in
+      let mv = moved m l k ss opening ts v (Place.ReleaseTurn Ending.RefuseMemory) (Turn tn) c afterwards row.sharing (Some TurnEnd.GivenBack) tn did (inr (inl (did.legal.kept TurnEnd.GivenBack refl).1)) refl in
       facts (Place.ReleaseTurn Ending.RefuseMemory) (Turn tn) c row (Some TurnEnd.GivenBack) tn did mv (judged_so (verdict_until Ending.RefuseMemory) mv.deed) c.no_writer c.no_readers (now_released v u Ending.RefuseMemory tn e, mv.parting (did.legal.kept TurnEnd.GivenBack refl).1)
   on_turn (Place.ReleaseTurn Ending.NotifyReaders) (Turn tn) c s o e fit =
       let row = turn_row v u (Place.ReleaseTurn Ending.NotifyReaders) (Turn tn) s e in
       let did = begun LockCall.Release tn o in
-      let mv = moved m l k ss opening ts v (Place.ReleaseTurn Ending.NotifyReaders) (Turn tn) c afterwards row.sharing (Some TurnEnd.GivenBack) tn did refl in
+      let mv = moved m l k ss opening ts v (Place.ReleaseTurn Ending.NotifyReaders) (Turn tn) c afterwards row.sharing (Some TurnEnd.GivenBack) tn did (inr (inl (did.legal.kept TurnEnd.GivenBack refl).1)) refl in
       facts (Place.ReleaseTurn Ending.NotifyReaders) (Turn tn) c row (Some TurnEnd.GivenBack) tn did mv (judged_so (verdict_until Ending.NotifyReaders) mv.deed) c.no_writer c.no_readers (now_released v u Ending.NotifyReaders tn e, mv.parting (did.legal.kept TurnEnd.GivenBack refl).1)
   on_turn (Place.ReleaseTurn q) _ c s o e fit = absurd o
   on_turn (Place.ReleasingTurn q) (Turn tn) c s o e fit =
       let row = turn_row v u (Place.ReleasingTurn q) (Turn tn) s e in
       let did = gone_on tn o in
-      let mv = moved m l k ss opening ts v (Place.ReleasingTurn q) (Turn tn) c afterwards row.sharing (decision t) tn did refl in
+      let mv = moved m l k ss opening ts v (Place.ReleasingTurn q) (Turn tn) c afterwards row.sharing (decision t) tn did (inr (inl (did.legal.kept TurnEnd.GivenBack (releasing_decided t fit)).1)) refl in
       facts (Place.ReleasingTurn q) (Turn tn) c row (decision t) tn did mv (judged_so (verdict_until q) mv.deed) c.no_writer c.no_readers (now_releasing v u q tn e, mv.parting (did.legal.kept TurnEnd.GivenBack (releasing_decided t fit)).1)
   on_turn (Place.ReleasingTurn q) _ c s o e fit = absurd o
   on_turn _ f c s o e fit = absurd (cc)

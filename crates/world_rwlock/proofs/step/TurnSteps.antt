@@ -1,5 +1,5 @@
 -- What one action on the turn does, as callers see it.
-use Rattle.world_rwlock.proofs.Prelude.{◌≡◌, ◌≢◌, ℕ, zero, suc, ◌+◌, ◌<◌, ◌⊎◌, inl, inr, Bool, true, false, List, [], ◌∷◌, length, Option, Some, None, refl, arith, ap, sym, ◌∙◌, get_or, get_or-set_same, set, ℕ_discrete, cases_Bool, false≢true, Entry, Move, Stage, how_many, inputs_of, Deed, ListFunction, nothing, changes, does, joins, none_some, TurnCourse, holds, counted, TurnStep, End as TurnEnd, Mutex, turn_at, is_holder, is_counted, holder_of, starved_of, TakenFairly, IsLegal, Found, Place, next_of, place_after, RwLock, place_at, IsRwLock, Change, takes_turn, leaves_turn, starves, recovers, turn_after, readers_after, starved_after, value_after, IsAllowed, gives_back, gives_up, entries_after, ListName, for_the_turn, for_no_readers, for_no_writer, World, passing, upgrading, turn_as, share_of, turn_by, seen, asks, leaves, notifies, notifies_additionally, MayDo, listed, may_tell, taking, releasing, undecided, called, counting, has_lock, giving_up, HasTurn, Share, waiting, writing}
+use Rattle.world_rwlock.proofs.Prelude.{◌≡◌, ◌≢◌, ℕ, zero, suc, ◌+◌, ◌<◌, ◌⊎◌, inl, inr, Bool, true, false, List, [], ◌∷◌, length, Option, Some, None, refl, arith, ap, sym, ◌∙◌, get_or, get_or-set_same, set, ℕ_discrete, cases_Bool, false≢true, Entry, Move, Stage, how_many, inputs_of, Deed, ListFunction, nothing, changes, does, joins, none_some, TurnCourse, holds, counted, TurnStep, End as TurnEnd, Mutex, turn_at, is_holder, is_counted, holder_of, starved_of, TakenFairly, IsLegal, Found, Place, next_of, place_after, RwLock, place_at, IsRwLock, Change, takes_turn, leaves_turn, starves, recovers, turn_after, readers_after, starved_after, value_after, IsAllowed, gives_back, gives_up, entries_after, ListName, for_the_turn, for_no_readers, for_no_writer, World, passing, upgrading, turn_as, share_of, turn_by, seen, asks, leaves, notifies, notifies_additionally, MayDo, listed, may_tell, taking, releasing, undecided, called, counting, has_lock, giving_up, HasTurn, Share, waiting, writing, sought_by, is_for_turn}
 use Rattle.world_mutex.specs.machine.Course as turn_roles
 use Rattle.world_mutex.specs.machine.Deeds as mutex
 use Rattle.world_mutex.proofs.of_machine.callers.Holders as sees
@@ -172,24 +172,34 @@ module _ (m : Move) (l k : RwLock) (ss : List Stage) (opening : ℕ) (ts : List 
     lists_so asks may = tt
     lists_so leaves may = tt
 
+    -- whoever is counted wants the turn
+    wants : how_many (starved_of k.turn) ≡ how_many (starved_of l.turn) + 1 → (starved_of k.turn ≡ starved_of l.turn) ⊎ ((mutex.gives_back (changes mutex.starves) ≡ true) ⊎ (is_for_turn (sought_by w p) ≡ true)) → is_for_turn (sought_by w p) ≡ true
+    wants more (inl same) = absurd (omega (arith, more, ap how_many same))
+    wants more (inr (inl back)) = absurd (false≢true back)
+    wants more (inr (inr wanted)) = wanted
+
+    -- why its party may be counted as starved, if it is
+    abbrev pub MayCount : Type 0
+    MayCount = (starved_of k.turn ≡ starved_of l.turn) ⊎ ((mutex.gives_back did.legal.deed ≡ true) ⊎ (is_for_turn (sought_by w p) ≡ true))
+
     -- where the party only passes, each deed of the mutex is one of the turn, or nothing
-    moved_by : (d : Deed mutex.Change mutex.ListName) → MayDo p d l.turn → holder_of k.turn ≡ mutex.holder_after p d (holder_of l.turn) → starved_of k.turn ≡ mutex.starved_after p d (starved_of l.turn) → k.turn.entries ≡ mutex.entries_after p d l.turn.entries
+    moved_by : (d : Deed mutex.Change mutex.ListName) → ((starved_of k.turn ≡ starved_of l.turn) ⊎ ((mutex.gives_back d ≡ true) ⊎ (is_for_turn (sought_by w p) ≡ true))) → MayDo p d l.turn → holder_of k.turn ≡ mutex.holder_after p d (holder_of l.turn) → starved_of k.turn ≡ mutex.starved_after p d (starved_of l.turn) → k.turn.entries ≡ mutex.entries_after p d l.turn.entries
         → share_of x ≡ passing → TurnMoved p l k w d
-    moved_by nothing may h s e own = record { deed = nothing; readers = λ rs. refl; turn = stays own h; starved = s; valued = λ n. refl; allowed = tt; turn_list = e; no_readers = λ es. refl; no_writer = λ es. refl; parting = λ g. refl; giving_up = λ g. absurd (false≢true g); joining = λ list j. absurd (nothing_joins list j); idle = λ i. refl }
-    moved_by (does mutex.for_the_lock g) may h s e own = record { deed = does for_the_turn g; readers = λ rs. refl; turn = stays own h; starved = s; valued = λ n. refl; allowed = lists_so g may; turn_list = e; no_readers = λ es. refl; no_writer = λ es. refl; parting = λ b. b; giving_up = λ g. absurd (false≢true g); joining = λ list j. joins_there g list j; idle = λ i. absurd (does_idle g i) }
-    moved_by (changes mutex.takes) may h s e own = elim (cases_Bool (is_holder t)) as (λ _. TurnMoved p l k w (changes mutex.takes)) [
+    moved_by nothing why may h s e own = record { deed = nothing; readers = λ rs. refl; turn = stays own h; starved = s; valued = λ n. refl; allowed = tt; turn_list = e; no_readers = λ es. refl; no_writer = λ es. refl; parting = λ g. refl; giving_up = λ g. absurd (false≢true g); joining = λ list j. absurd (nothing_joins list j); idle = λ i. refl }
+    moved_by (does mutex.for_the_lock g) why may h s e own = record { deed = does for_the_turn g; readers = λ rs. refl; turn = stays own h; starved = s; valued = λ n. refl; allowed = lists_so g may; turn_list = e; no_readers = λ es. refl; no_writer = λ es. refl; parting = λ b. b; giving_up = λ g. absurd (false≢true g); joining = λ list j. joins_there g list j; idle = λ i. absurd (does_idle g i) }
+    moved_by (changes mutex.takes) why may h s e own = elim (cases_Bool (is_holder t)) as (λ _. TurnMoved p l k w (changes mutex.takes)) [
       | inl held ↦ record { deed = nothing; readers = λ rs. refl; turn = stays own (h ∙ sym (held_by (is_holder t) refl held)); starved = s; valued = λ n. refl; allowed = tt; turn_list = e; no_readers = λ es. refl; no_writer = λ es. refl; parting = λ g. refl; giving_up = λ g. absurd (false≢true g); joining = λ list j. absurd (nothing_joins list j); idle = λ i. refl }
       | inr out ↦ record { deed = changes takes_turn; readers = λ rs. refl; turn = turn_own (holder_of k.turn) h; starved = s; valued = λ n. refl; allowed = took_free out h; turn_list = e; no_readers = λ es. refl; no_writer = λ es. refl; parting = λ g. absurd (false≢true g); giving_up = λ g. absurd (false≢true g); joining = λ list j. absurd (change_joins takes_turn list j); idle = λ i. absurd (change_idle mutex.takes i) }
     ]
-    moved_by (changes mutex.releases) may h s e own = elim (cases_Bool (is_holder t)) as (λ _. TurnMoved p l k w (changes mutex.releases)) [
+    moved_by (changes mutex.releases) why may h s e own = elim (cases_Bool (is_holder t)) as (λ _. TurnMoved p l k w (changes mutex.releases)) [
       | inl held ↦ record { deed = changes leaves_turn; readers = λ rs. refl; turn = turn_none (holder_of k.turn) k.places h; starved = s; valued = λ n. refl; allowed = inl (ap (λ o. turn_by o l.places) (held_by (is_holder t) refl held) ∙ ap (turn_as p) (sym c.share ∙ own)); turn_list = e; no_readers = λ es. refl; no_writer = λ es. refl; parting = λ g. refl; giving_up = λ g. refl; joining = λ list j. absurd (change_joins leaves_turn list j); idle = λ i. absurd (change_idle mutex.releases i) }
       | inr out ↦ record { deed = nothing; readers = λ rs. refl; turn = stays own (h ∙ sym (left_nobody (holder_of l.turn) refl h out)); starved = s; valued = λ n. refl; allowed = tt; turn_list = e; no_readers = λ es. refl; no_writer = λ es. refl; parting = λ g. refl; giving_up = λ g. absurd (false≢true g); joining = λ list j. absurd (nothing_joins list j); idle = λ i. refl }
     ]
-    moved_by (changes mutex.starves) may h s e own = elim (put_on (starved_of l.turn) (starved_of k.turn) p s) as (λ _. TurnMoved p l k w (changes mutex.starves)) [
+    moved_by (changes mutex.starves) why may h s e own = elim (put_on (starved_of l.turn) (starved_of k.turn) p s) as (λ _. TurnMoved p l k w (changes mutex.starves)) [
       | inl same ↦ record { deed = nothing; readers = λ rs. refl; turn = stays own h; starved = same; valued = λ n. refl; allowed = tt; turn_list = e; no_readers = λ es. refl; no_writer = λ es. refl; parting = λ g. absurd (false≢true g); giving_up = λ g. absurd (false≢true g); joining = λ list j. absurd (nothing_joins list j); idle = λ i. refl }
-      | inr one ↦ record { deed = changes starves; readers = λ rs. refl; turn = stays own h; starved = s; valued = λ n. refl; allowed = (one.0, omega (arith, one.1, sees.how_many_counted k.turn.courses, afterwards.turn.few_starved, did.legal.limit)); turn_list = e; no_readers = λ es. refl; no_writer = λ es. refl; parting = λ g. absurd (false≢true g); giving_up = λ g. absurd (false≢true g); joining = λ list j. absurd (change_joins starves list j); idle = λ i. absurd (change_idle mutex.starves i) }
+      | inr one ↦ record { deed = changes starves; readers = λ rs. refl; turn = stays own h; starved = s; valued = λ n. refl; allowed = (one.0, omega (arith, one.1, sees.how_many_counted k.turn.courses, afterwards.turn.few_starved, did.legal.limit), wants one.1 why); turn_list = e; no_readers = λ es. refl; no_writer = λ es. refl; parting = λ g. absurd (false≢true g); giving_up = λ g. absurd (false≢true g); joining = λ list j. absurd (change_joins starves list j); idle = λ i. absurd (change_idle mutex.starves i) }
     ]
-    moved_by (changes mutex.recovers) may h s e own = elim (put_off (starved_of l.turn) (starved_of k.turn) p s) as (λ _. TurnMoved p l k w (changes mutex.recovers)) [
+    moved_by (changes mutex.recovers) why may h s e own = elim (put_off (starved_of l.turn) (starved_of k.turn) p s) as (λ _. TurnMoved p l k w (changes mutex.recovers)) [
       | inl same ↦ record { deed = nothing; readers = λ rs. refl; turn = stays own h; starved = same; valued = λ n. refl; allowed = tt; turn_list = e; no_readers = λ es. refl; no_writer = λ es. refl; parting = λ g. refl; giving_up = λ g. absurd (false≢true g); joining = λ list j. absurd (nothing_joins list j); idle = λ i. refl }
       | inr one ↦ record { deed = changes recovers; readers = λ rs. refl; turn = stays own h; starved = s; valued = λ n. refl; allowed = one; turn_list = e; no_readers = λ es. refl; no_writer = λ es. refl; parting = λ g. refl; giving_up = λ g. absurd (false≢true g); joining = λ list j. absurd (change_joins recovers list j); idle = λ i. absurd (change_idle mutex.recovers i) }
     ]
@@ -207,8 +217,8 @@ module _ (m : Move) (l k : RwLock) (ss : List Stage) (opening : ℕ) (ts : List 
     left_by nothing h s e own held none = absurd (still_holds (holder_of l.turn) h held none)
     left_by (does mutex.for_the_lock g) h s e own held none = absurd (still_holds (holder_of l.turn) h held none)
 
-    pub moved : share_of x ≡ passing → TurnMoved p l k w did.legal.deed
-    moved own = moved_by did.legal.deed did.legal.allowed did.legal.holder did.legal.starved did.legal.entries own
+    pub moved : MayCount → share_of x ≡ passing → TurnMoved p l k w did.legal.deed
+    moved why own = moved_by did.legal.deed why did.legal.allowed did.legal.holder did.legal.starved did.legal.entries own
 
     pub left : share_of x ≡ upgrading → holder_of l.turn ≡ Some p → holds u ≡ 0 → TurnMoved p l k w did.legal.deed
     left own held none = left_by did.legal.deed did.legal.holder did.legal.starved did.legal.entries own held none

@@ -9,11 +9,12 @@ use Rattle.world_rwlock.proofs.step.Acting.{Acting, Way, impossible, over, puts,
 use Rattle.world_rwlock.proofs.bound.AloneSeen.{in_turn_list, future}
 use Rattle.world_rwlock.proofs.whole.Promises.{turn_uncounted, begins_quiet, starved_behind}
 
--- ---- a party that doesn't wait for the turn, or is decided there, won't wait for it again in this call
+-- ---- a party that doesn't wait for the turn, or is decided there, neither waits for it nor tries to take it again in this call
 
 abbrev pub is_past : Place → TurnCourse → Bool
 is_past (Place.EnterTurn q) t = false
 is_past (Place.WaitTurn q) t = false
+is_past (Place.TryTurn q) t = false
 is_past (Place.TakeTurn q) t = is_some (decision t)
 is_past _ t = true
 
@@ -21,14 +22,14 @@ past_waits : (x : Place) (t : TurnCourse) → is_past x t ≡ true → waits_for
 past_waits (Place.WaitTurn q) t h = absurd (false≢true h)
 past_waits _ t h = refl
 
-abbrev enters : Place → Bool
+abbrev pub enters : Place → Bool
 enters (Place.EnterTurn q) = true
 enters (Place.WaitTurn q) = true
 enters (Place.TakeTurn q) = true
 enters _ = false
 
 -- no place leads there but those of a poll that takes the turn
-stays_past : (x : Place) (f : Found) (t : TurnCourse) → enters x ≡ false → is_past (place_after (next_of x f)) t ≡ true
+pub stays_past : (x : Place) (f : Found) (t : TurnCourse) → enters x ≡ false → is_past (place_after (next_of x f)) t ≡ true
 stays_past Place.Out f t h = refl
 stays_past (Place.Made w) f t h = refl
 stays_past Place.Reading f t h = refl

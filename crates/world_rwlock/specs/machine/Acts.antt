@@ -103,6 +103,8 @@ pub record IsRwLock (v : RwLock) : Type 0 where
   pub one_entry : (p : ℕ) → entries_of p v.no_writer + entries_of p v.no_readers + entries_of p v.turn.entries ≤ 1
   pub in_order_no_writer : IsMarkedFirst v.no_writer
   pub in_order_no_readers : IsMarkedFirst v.no_readers
+  pub one_told_no_writer : marked_count v.no_writer ≤ 1
+  pub one_told_no_readers : marked_count v.no_readers ≤ 1
   -- what is free and waited for by a party that has looked has a marked entry, or is owed one
   pub owed_no_writer : IsOwed (marked v ≡ 0) (sum_by waits_no_writer v.places) (sum_by owes_no_writer v.places) (marked_count v.no_writer)
   pub owed_no_readers : IsOwed (readers v ≡ 0) (sum_by waits_no_readers v.places) (sum_by owes_no_readers v.places) (marked_count v.no_readers)

@@ -1,6 +1,7 @@
 -- A read-write lock: where each party stands, who waits in its two lists, and the turn.
-use Rattle.std.specs.Prelude.{◌≡◌, ℕ, true, List, [], length, slice_index_or, replicate}
+use Rattle.std.specs.Prelude.{◌≡◌, ℕ, ◌≤◌, true, List, [], length, slice_index_or, replicate}
 use Rattle.lock_event.specs.declared.event.Entry.{Entry}
+use Rattle.lock_event.specs.Lists.{marked_count}
 use Rattle.world_base.specs.queue.Parties.{entries_of}
 use Rattle.world_base.specs.queue.Queues.{Queue}
 use Rattle.world_mutex.specs.machine.Mutex.{Mutex, new_mutex, course_at as turn_at}
@@ -49,3 +50,6 @@ pub record IsMachine (w : Word) (places : List Place) (l m : Queue) (turn : Mute
   pub as_many : length turn.courses ≡ length places
   pub as_many_w : l.parties ≡ length places
   pub as_many_r : m.parties ≡ length places
+  -- one entry at most is marked in either list
+  pub one_told_w : marked_count l.entries ≤ 1
+  pub one_told_r : marked_count m.entries ≤ 1

@@ -97,6 +97,8 @@ module _ (w : Word) (ps : List Place) (l m : Queue) (t : Mutex) (i : IsMachine w
     one_entry = λ p. omega (arith, i.no_writer p, i.no_readers p, mutex.owners p, one_list (place_at ps p) (turn_at t.courses p) (i.in_turn p));
     in_order_no_writer = order_w;
     in_order_no_readers = order_r;
+    one_told_no_writer = i.one_told_w;
+    one_told_no_readers = i.one_told_r;
     owed_no_writer = λ free some. i.sound.no_writer.owed (omega (arith, free, i.sound.writer)) some;
     owed_no_readers = λ free some. i.sound.no_readers.owed (omega (arith, free, i.sound.readers)) some;
     wakes_no_writer = λ rest free some. paid_at_rest for_no_writer (bit w.writer ≡ 0) ps (length l.entries) (marked_count l.entries) (all_w ps rest) i.sound.no_writer.in_list i.sound.no_writer.owed (omega (arith, i.sound.writer)) some;

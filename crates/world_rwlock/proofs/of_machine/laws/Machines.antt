@@ -7,6 +7,7 @@ use Rattle.world_rwlock.proofs.of_machine.stages.Links.{links}
 use Rattle.world_rwlock.proofs.of_machine.laws.Lines.{Line, line_w, line_r}
 use Rattle.world_rwlock.proofs.of_machine.laws.Places.{turned_all, counted}
 use Rattle.world_rwlock.proofs.of_machine.laws.Kept.{Moves, Follows, follows, sound}
+use Rattle.world_rwlock.proofs.of_machine.laws.Marks.{one_marked_w, one_marked_r}
 
 module _ (ps : List Place) (p : ℕ) (x y : Place) where
   moves : p < length ps → SameRoles x (place_at ps p) → Moves x y (counts_of ps) (counts_of (set ps p y))
@@ -72,4 +73,6 @@ module _ (memory starving : Bool) (p : ℕ) (v w : Word) (ps : List Place) (l m 
         as_many = turn_length memory starving p t u (action_of x) f et ∙ (i.as_many ∙ sym size);
         as_many_w = lp ∙ (i.as_many_w ∙ sym size);
         as_many_r = mp ∙ (i.as_many_r ∙ sym size);
+        one_told_w = one_marked_w p (action_of x) f l.entries l'.entries el i.one_told_w;
+        one_told_r = one_marked_r p (action_of x) f m.entries m'.entries em i.one_told_r;
       }

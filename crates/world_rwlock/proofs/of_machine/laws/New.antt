@@ -17,4 +17,6 @@ new_is n starved limit = record {
   as_many = new_parties n starved ∙ sym (length-replicate n Out);
   as_many_w = sym (length-replicate n Out);
   as_many_r = sym (length-replicate n Out);
+  one_told_w = omega arith;
+  one_told_r = omega arith;
 }
