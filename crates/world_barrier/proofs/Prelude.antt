@@ -59,7 +59,7 @@ pub use Rattle.world_mutex.proofs.of_machine.callers.Holders.{held_at, none_held
 pub use Rattle.world_barrier.specs.AtOnce.{TakesAtOnce, AnswersAtOnce, entries_in, is_first_poll, is_later_poll}
 pub use Rattle.world_barrier.specs.Bound.{GivesWay, PassesOver, IsBounded, WaitsOn, ComesTo, IsSolo, IsNotified, IsToldOfLock, SoloPoll, Promises}
 pub use Rattle.world_barrier.specs.Changes.{Change, takes, releases, starves, recovers, arrives, arrivals_after, lock_after, wait_then, wait_after, lock_list_after, gives_back, gives_up, generation_list_after}
-pub use Rattle.world_barrier.specs.Laws.{IsSound, IsAwake, IsWanted, IsStillThere, is_at_rest, is_long_call, is_due, IsDue}
+pub use Rattle.world_barrier.specs.Laws.{IsSound, IsAwake, IsWanted, IsStillThere, is_at_rest, is_long_call, is_due, is_refused, IsDue}
 pub use Rattle.world_barrier.specs.Legal.{Legal, HasItsOwn, call_of, DecidesOn, MayTake, IsAllowed, ChangesOneThing, TellsOnRelease, IsTakenFairly, Carried, Carries, Waits, IsCause, IsRefusedForCause, LeavesClear, EndsProperly, HasToWait, IsAnswered, IsAsBefore, IsCounted}
 pub use Rattle.world_barrier.specs.Numbers.{Leads, generations_of, IsFinished, count_of}
 pub use Rattle.world_barrier.specs.Runs.{Runs, is_leaders, leaders_in, leaders, known_of, TellsNoRights, HoldsWell, no_account}

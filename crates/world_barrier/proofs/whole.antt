@@ -8,5 +8,6 @@ pub mod Polls
 pub mod Handing
 pub mod Patient
 pub mod Ring
+pub mod Newcomers
 pub mod Promises
 pub mod Whole

@@ -110,6 +110,10 @@ pub record Promises (w : World) (p : ℕ) (c : Call) (inputs : Inputs) (a : Answ
   pub patient : inputs.starving ≡ false → how_many w.lock.starved ≡ 0 → a ≢ refused refusal.Starved
   -- Nor has its call notified anybody in the inner lock's list then, if it waits there at its end: so waiting parties don't wake one another over a lock that none of them gets.
   pub tells_nobody : inputs.starving ≡ false → how_many w.lock.starved ≡ 0 → a ≡ answer.Pending → 0 < entries_of p v.lock_list → MarksNobody p w.lock_list v.lock_list
+  -- Nor is a first poll refused so then, whatever the clock says, nor its party starved at its end: it hasn't waited.
+  pub first_patient : is_first_poll (standing_of w p) (Begin c inputs) (entries_in w p) ≡ true → how_many w.lock.starved ≡ 0 → (a ≢ refused refusal.Starved) × (is_starved v.lock p ≡ false)
+  -- Beside a starved party a first poll is pending, and its party is starved from then on; or it is refused.
+  pub newcomer : is_first_poll (standing_of w p) (Begin c inputs) (entries_in w p) ≡ true → 0 < how_many w.lock.starved → ((a ≡ answer.Pending) × (is_starved v.lock p ≡ true)) ⊎ (is_refusal a ≡ true)
   -- A refused poll of a party that stood in the inner lock's list hands on what it was told: some entry is marked, if there is any.
   pub hands_on : c ≡ call.Poll → standing_of w p ≡ outside Pending → 0 < entries_of p w.lock_list → is_refusal a ≡ true → 0 < length v.lock_list → 0 < marked_count v.lock_list
 

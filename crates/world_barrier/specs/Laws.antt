@@ -35,9 +35,14 @@ is_due (inside within (Some (answer.Ready got))) = true
 is_due (inside within (Some (answer.Refused n))) = true
 is_due s = false
 
--- Such a party stands in that list only while its poll isn't decided and it is starved.
+abbrev pub is_refused : Standing → Bool
+is_refused (inside within (Some (answer.Refused n))) = true
+is_refused s = false
+
+-- Once its poll is decided it has to notify there, or it is refused. Such a party stands in that list only while its poll isn't decided and it is starved.
 pub record IsDue (w : World) (p : ℕ) : Type 0 where
   pub due : is_due (standing_of w p) ≡ true
+  pub owes : is_decided (standing_of w p) ≡ true → (has_to_tell w p ≡ true) ⊎ (is_refused (standing_of w p) ≡ true)
   pub unlisted : (is_starved w.lock p ≡ false) ⊎ (is_decided (standing_of w p) ≡ true) → entries_of p w.lock_list ≡ 0
 
 pub record IsSound (w : World) : Type 0 where
@@ -61,6 +66,8 @@ pub record IsSound (w : World) : Type 0 where
   -- No party has two entries, in both lists together, and the marked entries stand before the waiting ones.
   pub once : (p : ℕ) → entries_in w p ≤ 1
   pub in_order : (list : ListName) → IsMarkedFirst (list_in list w)
+  -- One entry at most is marked in the inner lock's list: one party at a time is told of it.
+  pub one_told : marked_count w.lock_list ≤ 1
 
 -- Nobody is inside a call.
 abbrev pub is_at_rest : World → Bool

@@ -1,5 +1,5 @@
 -- What always holds of a barrier's World, as callers see it.
-use Rattle.world_barrier.proofs.Prelude.{◌≡◌, ℕ, zero, suc, ◌+◌, ◌<◌, ◌≤◌, inl, inr, true, false, List, Option, Some, None, refl, arith, ap, sym, ◌∙◌, subst, list_all, is_marked_at, IsMarkedFirst, is_party, entries_of, Answer, Kind, Rest, Stage, Outside, Inside, Forgotten, Within, Standing, outside, inside, forgotten, is_outside, is_outside_stage, both, stage_at, stands_as, Table, by_stage_or_past, by_stage_or_past_at, rest_seen, outside_at, outside_so, none_decided, Course, bit, starved_there, listed_there, rests_there, out as out_of_lock, course_at, LockAtRest, out_rests, waiting_rests, out_unlisted, holding_unlisted, listed_once, Aim, Ending, Place, EnterLock, WaitLock, TakeLock, Arrive, NotifyAll, Check, JoinAgain, ReleaseLock, ReleasingLock, Ask, CancelLeave, Abandon, Position, Out, Made, Locking, Waiting, At, Progress, Words, arrivals_at, IsFollower, fits_lock, in_lock, listed, follows, HasOutcome, Outcome, is_resting, counted, wait_for, wait_until, wait_at, Barrier, IsBarrier, HasArrived, IsAtRest, goes_with, is_begun, is_abandoning, runs, position_at, arrival_at, ListName, Lock, Generation, IsFinished, World, list_in, standing_of, wait_of, is_starved, verdict_in, view_of, HasItsOwn, IsSound, IsAwake, IsStillThere, is_at_rest, is_long_call, IsBarrierTable, ◌⊎◌, false≢true, marked_count, is_decided, taking, releasing, undecided, called, counting, has_lock, giving_up, is_out as is_out_there, is_holding, is_waiting, is_cancelling, is_due_there, CancelLock, CancellingLock, verdict, is_due, IsDue}
+use Rattle.world_barrier.proofs.Prelude.{◌≡◌, ℕ, zero, suc, ◌+◌, ◌<◌, ◌≤◌, inl, inr, true, false, List, Option, Some, None, refl, arith, ap, sym, ◌∙◌, subst, list_all, is_marked_at, IsMarkedFirst, is_party, entries_of, Answer, Kind, Rest, Stage, Outside, Inside, Forgotten, Within, Standing, outside, inside, forgotten, is_outside, is_outside_stage, both, stage_at, stands_as, Table, by_stage_or_past, by_stage_or_past_at, rest_seen, outside_at, outside_so, none_decided, Course, bit, starved_there, listed_there, rests_there, out as out_of_lock, course_at, LockAtRest, out_rests, waiting_rests, out_unlisted, holding_unlisted, listed_once, Aim, Ending, Place, EnterLock, WaitLock, TakeLock, Arrive, NotifyAll, Check, JoinAgain, ReleaseLock, ReleasingLock, Ask, CancelLeave, Abandon, Position, Out, Made, Locking, Waiting, At, Progress, Words, arrivals_at, IsFollower, fits_lock, in_lock, listed, follows, HasOutcome, Outcome, is_resting, counted, wait_for, wait_until, wait_at, Barrier, IsBarrier, HasArrived, IsAtRest, goes_with, is_begun, is_abandoning, runs, position_at, arrival_at, ListName, Lock, Generation, IsFinished, World, list_in, standing_of, wait_of, is_starved, verdict_in, view_of, HasItsOwn, IsSound, IsAwake, IsStillThere, is_at_rest, is_long_call, IsBarrierTable, ◌⊎◌, false≢true, marked_count, is_decided, taking, releasing, undecided, called, counting, has_lock, giving_up, is_out as is_out_there, is_holding, is_waiting, is_cancelling, is_due_there, CancelLock, CancellingLock, verdict, is_due, is_refused, IsDue, is_releasing, has_to_tell}
 use Rattle.world_base.proofs.of_table.Mapped.{past_last}
 use Rattle.world_base.proofs.of_table.Resting.{all_at_rest, one_at_rest}
 use Rattle.world_mutex.proofs.of_machine.callers.Holders as sees
@@ -238,6 +238,30 @@ decided_unlisted s Out c link h d = absurd (none_decided s d)
 decided_unlisted s (Made a) c link h d = absurd (none_decided s d)
 decided_unlisted s Waiting c link h d = absurd (none_decided s d)
 
+-- once it is decided it releases the lock, or is refused
+polls_owe : (u : Within) (a : Aim) (c : Course) → is_due_there c ≡ true → is_decided (stands_as (verdict (At (TakeLock a)) c) (Inside u)) ≡ true → is_refused (stands_as (verdict (At (TakeLock a)) c) (Inside u)) ≡ true
+polls_owe u a (taking undecided x l b) h d = absurd (none_decided (Inside u) d)
+polls_owe u a (taking called x l b) h d = absurd (none_decided (Inside u) d)
+polls_owe u a (taking counting x l b) h d = absurd (none_decided (Inside u) d)
+polls_owe u a (taking (giving_up r) x l b) h d = refl
+polls_owe u a (taking has_lock x l b) h d = absurd (cc h)
+polls_owe u a releasing h d = absurd (none_decided (Inside u) d)
+polls_owe u a _ h d = absurd (cc h)
+
+owes_inside : (u : Within) (y : Place) (c : Course) → fits_lock (in_lock (At y)) c ≡ true → is_due_there c ≡ true → Moves c → is_decided (stands_as (verdict (At y) c) (Inside u)) ≡ true → (is_releasing c ≡ true) ⊎ (is_refused (stands_as (verdict (At y) c) (Inside u)) ≡ true)
+owes_inside u (TakeLock a) c link h m d = inr (polls_owe u a c h d)
+owes_inside u (ReleasingLock e) c link h m d = inl link
+owes_inside u (WaitLock a) c link h m d = absurd (false≢true (sym m.not_waiting ∙ link))
+owes_inside u CancelLock c link h m d = absurd (false≢true (sym m.not_waiting ∙ link))
+owes_inside u CancellingLock c link h m d = absurd (false≢true (sym m.not_cancelling ∙ link))
+owes_inside u _ c link h m d = absurd (cc (link, m.not_out, m.not_holding))
+
+owes_at : (s : Stage) (x : Position) (c : Course) → goes_with s x ≡ true → fits_lock (in_lock x) c ≡ true → is_due_there c ≡ true → is_decided (stands_as (verdict x c) s) ≡ true → (is_releasing c ≡ true) ⊎ (is_refused (stands_as (verdict x c) s) ≡ true)
+owes_at (Inside u) (At y) c g link h d = owes_inside u y c link h (due_moves c h) d
+owes_at (Inside u) _ c g link h d = absurd (cc g)
+owes_at (Outside r) x c g link h d = absurd (rest_undue x c (resting (Outside r) x g refl) link (due_moves c h))
+owes_at Forgotten x c g link h d = absurd (rest_undue x c (resting Forgotten x g refl) link (due_moves c h))
+
 module _ (t : Table Barrier) (laws : IsBarrier t.machine) (fits : IsBarrierTable t) where
   abbrev xs : List Position
   xs = t.machine.positions
@@ -294,6 +318,10 @@ module _ (t : Table Barrier) (laws : IsBarrier t.machine) (fits : IsBarrierTable
       let goes = stands_at q (λ e. never_out (c_of q) h (let P : Position → Type 0 = λ x. fits_lock (in_lock x) (c_of q) ≡ true in subst P e (laws.links q))) in
       record {
         due = ap is_due (seen.standing_seen t q) ∙ due_at (stage_at t.stages q) (x_of q) (c_of q) goes (laws.links q) h;
+        owes = λ d. elim (owes_at (stage_at t.stages q) (x_of q) (c_of q) goes (laws.links q) h (ap is_decided (sym (seen.standing_seen t q)) ∙ d)) as (λ _. (has_to_tell (view_of t) q ≡ true) ⊎ (is_refused (standing_of (view_of t) q) ≡ true)) [
+          | inl o ↦ inl (seen.telling_seen t q ∙ o)
+          | inr r ↦ inr (ap is_refused (seen.standing_seen t q) ∙ r)
+        ];
         unlisted = λ why. laws.lock.owners q ∙ elim why as (λ _. listed_there (c_of q) ≡ 0) [
           | inl fresh ↦ due_unstarved (c_of q) h (sym (sees.counted_bit (c_of q)) ∙ ap bit (sym (sees.starved_at t.machine.lock.courses q) ∙ fresh))
           | inr d ↦ decided_unlisted (stage_at t.stages q) (x_of q) (c_of q) (laws.links q) h (ap is_decided (sym (seen.standing_seen t q)) ∙ d)
@@ -323,6 +351,7 @@ module _ (t : Table Barrier) (laws : IsBarrier t.machine) (fits : IsBarrierTable
     told = told;
     once = λ q. (let l = laws.lock.owners q in let b = laws.owners q in let few = both_lists (x_of q) (c_of q) (laws.links q) in omega arith);
     in_order = in_order;
+    one_told = laws.lock.one_told;
   } where
     in_order : (list : ListName) → IsMarkedFirst (list_in list (view_of t))
     in_order Lock = laws.lock.in_order

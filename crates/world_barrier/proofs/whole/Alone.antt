@@ -124,13 +124,13 @@ module _ (t : Table Barrier) (p : ℕ) (i : Inputs) (Going : Position → Barrie
   abbrev pub AreInside : Type 0
   AreInside = (z : Position) (x : Barrier) → Going z x → (y : Place) × (z ≡ At y)
 
-  by_step : (x v : World) (what : What) (from : Place) (a : Answer) → Elsewhere x → (d : Did x.behind p what from a v.behind) → Then Going AtEnd (next_of from d.found) v.behind.machine → Onward GoesAt EndsAt a v
+  pub by_step : (x v : World) (what : What) (from : Place) (a : Answer) → Elsewhere x → (d : Did x.behind p what from a v.behind) → Then Going AtEnd (next_of from d.found) v.behind.machine → Onward GoesAt EndsAt a v
   by_step x v what from a before d h =
       let others : Elsewhere v = λ q apart. ap (λ ss. stage_at ss q) d.stages ∙ (get_or-set_other x.behind.stages p q (stage_after Rest.Finished d.within a) Forgotten apart ∙ before q apart) in
       on_by (next_of from d.found) a v d.within d.answer d.step.to others (ap (λ ss. stage_at ss p) d.stages ∙ get_or-set_same x.behind.stages p (stage_after Rest.Finished d.within a) Forgotten d.known) h
 
   module _ (inside : AreInside) (leads : LeadsOn) where
-    onward : (x : World) (a : Answer) (v : World) → GoesAt x → Steps x (going_on p i) a v → Onward GoesAt EndsAt a v
+    pub onward : (x : World) (a : Answer) (v : World) → GoesAt x → Steps x (going_on p i) a v → Onward GoesAt EndsAt a v
     onward x a v so s =
         let place = inside (position_at x.behind.machine.positions p) x.behind.machine so.going in
         let d = went x.behind v.behind p a s.did.stood.laws s.did.stood.fits i place.0 place.1 s.did.step in

@@ -35,7 +35,7 @@ abbrev ThenUnmarked : Ending → ℕ → Barrier → Type 0
 ThenUnmarked Ending.Wait p x = is_own_marked x p ≡ false
 ThenUnmarked e p x = Unit {0}
 
-abbrev PastIn : Place → ℕ → Barrier → Type 0
+abbrev pub PastIn : Place → ℕ → Barrier → Type 0
 PastIn (EnterLock a) p x = ⊥
 PastIn (WaitLock a) p x = ⊥
 PastIn (TakeLock a) p x = is_some (decision (course_at x.lock.courses p)) ≡ true
@@ -101,7 +101,7 @@ module _ (i : Inputs) (p : ℕ) (x y : Barrier) (laws : IsBarrier x) where
   link_at : (from : Place) → position_at x.positions p ≡ At from → fits_lock (in_lock (At from)) (course_at x.lock.courses p) ≡ true
   link_at from here = let P : Position → Type 0 = λ z. fits_lock (in_lock z) (course_at x.lock.courses p) ≡ true in subst P here (laws.links p)
 
-  stays_past : (from : Place) (f : Found) → position_at x.positions p ≡ At from → PastIn from p x → Step i p from f x y → Then from f
+  pub stays_past : (from : Place) (f : Found) → position_at x.positions p ≡ At from → PastIn from p x → Step i p from f x y → Then from f
   stays_past (EnterLock a) f here h k = absurd h
   stays_past (WaitLock a) f here h k = absurd h
   stays_past (TakeLock a) f here h k = takes_past a f (link_at (TakeLock a) here) h k
