@@ -64,7 +64,7 @@ pub use Rattle.world_mutex.proofs.of_machine.callers.Callers.{out_unlisted, hold
 pub use Rattle.world_rwlock.specs.Bound.{IsSoloForTurn, IsToldOfTurn, IsToldToRead, IsSoloToWrite, TakesTurn, GivesTurnWay, SoloPollForTurn, TakesToRead, TakesToWrite, Promises, PassesTurnOver, IsTurnBounded, IsReadingBounded, IsWritingBounded}
 pub use Rattle.world_rwlock.specs.Changes.{turn_after, readers_after, IsAllowed, Change, takes_turn, leaves_turn, starves, recovers, begins_to_read, stops_reading, becomes_upgradable, stops_upgradable, begins_to_wait, begins_to_write, upgrades_at_once, unmarks, downgrades_to_upgradable, puts, starved_after, value_after, gives_back, entries_after, gives_up}
 pub use Rattle.world_rwlock.specs.Guarded.{Guarded, answer_by, Does, with_value, parties, knows as knows_there, Moves as MovesThere, place_for, place_of, Acted, new_guarded}
-pub use Rattle.world_rwlock.specs.Laws.{is_at_rest, IsSound, IsAwake, IsTurnWanted, IsReadingWanted, IsWritingWanted, is_due_for_turn, is_due_to_readers, is_due_to_writer, is_drop_kind, HasRight, IsDueForTurn, IsDueToReaders, IsDueToWriter, is_long_call}
+pub use Rattle.world_rwlock.specs.Laws.{is_at_rest, IsSound, IsAwake, IsTurnWanted, IsReadingWanted, IsWritingWanted, is_due_for_turn, is_due_to_readers, is_due_to_writer, is_drop_kind, is_refused, is_to_read, OwesIn, HasRight, IsDueForTurn, IsDueToReaders, IsDueToWriter, is_long_call}
 pub use Rattle.world_rwlock.specs.Legal.{HasItsOwn, knows_of, HasJust, knows, Legal, call_of, DecidesOn, AsksIn, is_first_poll, is_try_for_turn, MayMeet, IsCause, HasSought, may_read, granted_if, AnswersAtOnce, TellsOnRelease, LeavesLists, IsPossible, ChangesOneThing, LeavesClear, Carries, Waits, list_for, IsRefusedForCause, IsValueKept, EndsProperly, KeepsUpgrades, HasNothing, is_first}
 pub use Rattle.world_rwlock.specs.Runs.{Runs, accounts_of, HoldsWell, TellsRights, right_by, right_in, HasJustItsRights, HasItsRights}
 pub use Rattle.world_rwlock.specs.Stages.{Course, upgrades, course_of, is_on_course, is_future, goes_with, sought_at, drops, tries_upgrade, is_inside, right_for, tries, polls, downgrades, strays, course_until, is_guard}

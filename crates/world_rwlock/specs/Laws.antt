@@ -12,7 +12,7 @@ use Rattle.world_base.specs.declared.standing.Within.{Within}
 use Rattle.world_base.specs.Rights.{Right, read, upgradable, write, wait_to_write, excludes}
 use Rattle.world_base.specs.Rosters.{how_many}
 use Rattle.world_base.specs.Standings.{outside, inside, forgotten, is_outside}
-use Rattle.world_rwlock.specs.State.{ListName, list_of, nobody, is_upgradable, waits_to_write, writes, World, standing_of, sought_by, reads, is_starved, is_marked, how_many_read, entries_in, has_to_tell}
+use Rattle.world_rwlock.specs.State.{ListName, list_of, nobody, is_upgradable, waits_to_write, writes, World, standing_of, sought_by, reads, is_starved, is_marked, how_many_read, entries_in, has_to_tell, is_for_turn, for_the_turn, for_no_readers, for_no_writer}
 use Rattle.world_rwlock.specs.Legal.{HasItsOwn}
 use Rattle.world_base.specs.declared.moves.Answer.TheVariants as answer
 use Rattle.world_base.specs.Standings.{Standing, is_decided}
@@ -39,6 +39,14 @@ abbrev pub is_drop_kind : Kind → Bool
 is_drop_kind kind.Drop = true
 is_drop_kind k = false
 
+-- Once its call is decided a party has to notify in a list, unless it is refused what it polls for there.
+abbrev pub is_refused : Standing → Bool
+is_refused (inside within (Some (answer.Refused n))) = true
+is_refused t = false
+
+abbrev pub OwesIn : ListName → World → ℕ → Bool → Type 0
+OwesIn list w p polls = is_decided (standing_of w p) ≡ true → (has_to_tell list w p ≡ true) ⊎ ((is_refused (standing_of w p) ≡ true) × (polls ≡ true))
+
 -- Whether a party that stands so and seeks this has still to notify in the turn's list, or to look at the turn: one in a poll for the turn that isn't decided; and whoever gives something back, by a drop or a downgrade, in a try in vain or as it is refused.
 abbrev pub is_due_for_turn : Standing → Option Right → Bool
 is_due_for_turn (inside within None) (Some upgradable) = true
@@ -51,7 +59,12 @@ is_due_for_turn t s = false
 -- Such a party stands in that list only while its poll isn't decided and it is starved.
 pub record IsDueForTurn (w : World) (p : ℕ) : Type 0 where
   pub due : is_due_for_turn (standing_of w p) (sought_by w p) ≡ true
+  pub owes : OwesIn for_the_turn w p (is_for_turn (sought_by w p))
   pub unlisted : (is_starved w p ≡ false) ⊎ (is_decided (standing_of w p) ≡ true) → entries_of p w.turn_list ≡ 0
+
+abbrev pub is_to_read : Option Right → Bool
+is_to_read (Some read) = true
+is_to_read s = false
 
 -- Whether it has still to notify readers, or to look for them: one in the poll of a read that isn't decided, and whoever gives something back or is refused.
 abbrev pub is_due_to_readers : Standing → Option Right → Bool
@@ -63,6 +76,7 @@ is_due_to_readers t s = false
 -- Such a party, not in their list.
 pub record IsDueToReaders (w : World) (p : ℕ) : Type 0 where
   pub due : is_due_to_readers (standing_of w p) (sought_by w p) ≡ true
+  pub owes : OwesIn for_no_writer w p (is_to_read (sought_by w p))
   pub unlisted : entries_of p w.no_writer ≡ 0
 
 -- Whether it has still to notify the one that waits to write: whoever is in a drop.
@@ -70,9 +84,10 @@ abbrev pub is_due_to_writer : Standing → Bool
 is_due_to_writer (inside within (Some answer.GivenBack)) = is_drop_kind within.kind
 is_due_to_writer t = false
 
--- Such a party, not in its list.
+-- Such a party, that has to notify there and isn't in its list.
 pub record IsDueToWriter (w : World) (p : ℕ) : Type 0 where
   pub due : is_due_to_writer (standing_of w p) ≡ true
+  pub owes : has_to_tell for_no_readers w p ≡ true
   pub unlisted : entries_of p w.no_readers ≡ 0
 
 pub record IsSound (w : World) : Type 0 where

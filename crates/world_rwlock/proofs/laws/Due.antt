@@ -1,5 +1,5 @@
 -- Who has still to notify in a list, or to look, by the place at which a party stands.
-use Rattle.world_rwlock.proofs.Prelude.{◌≡◌, ℕ, ◌<◌, true, false, refl, arith, sym, ◌∙◌, false≢true, Kind, Rest, Stage, Outside, Inside, Forgotten, Within, is_outside_stage, is_decided, none_decided, TurnCourse, out, holding, taking, releasing, undecided, called, counting, has_lock, giving_up as gives_up, is_out, is_holding, is_waiting, is_cancelling, is_releasing, is_due, counted, listed, Ending, Place, Purpose, in_no_writer, waits_no_writer, owes_no_writer, in_no_readers, waits_no_readers, owes_no_readers, fits_turn, is_resting, sought_at, goes_with, is_on_course, drops, standing_at, is_due_for_turn, is_due_to_readers, is_due_to_writer, is_drop_kind}
+use Rattle.world_rwlock.proofs.Prelude.{◌≡◌, ℕ, ◌<◌, true, false, refl, arith, sym, ◌∙◌, false≢true, Kind, Rest, Stage, Outside, Inside, Forgotten, Within, is_outside_stage, is_decided, none_decided, TurnCourse, out, holding, taking, releasing, undecided, called, counting, has_lock, giving_up as gives_up, is_out, is_holding, is_waiting, is_cancelling, is_releasing, is_due, counted, listed, Ending, Place, Purpose, in_no_writer, waits_no_writer, owes_no_writer, in_no_readers, waits_no_readers, owes_no_readers, fits_turn, is_resting, sought_at, goes_with, is_on_course, drops, standing_at, is_due_for_turn, is_due_to_readers, is_due_to_writer, is_drop_kind, is_refused, is_to_read, Bool, Right, Option, ◌⊎◌, inl, inr, ListName, for_the_turn, for_no_writer, for_no_readers, owes_in, owing_at, is_for_turn}
 
 -- ---- who rests
 
@@ -173,6 +173,56 @@ decided_by v s _ t f h m d = absurd (cc (f, m.not_out, m.not_holding))
 
 pub decided_unlisted : (v : ℕ) (s : Stage) (x : Place) (t : TurnCourse) → fits_turn x t ≡ true → is_due t ≡ true → is_decided (standing_at v s x t) ≡ true → listed t ≡ 0
 decided_unlisted v s x t f h d = decided_by v s x t f h (due_moves t h) d
+
+-- ---- what a due party owes once it is decided
+
+abbrev pub Owing : ListName → ℕ → Stage → Place → TurnCourse → Bool → Type 0
+Owing list v s x t polls = is_decided (standing_at v s x t) ≡ true → (owes_in list (owing_at x) ≡ true) ⊎ ((is_refused (standing_at v s x t) ≡ true) × (polls ≡ true))
+
+polls_owe : (v : ℕ) (w : Within) (p : _) (t : TurnCourse) → is_due t ≡ true → Owing for_the_turn v (Inside w) (Place.TakeTurn p) t (is_for_turn (sought_at (Place.TakeTurn p)))
+polls_owe v w p (taking undecided c l b) h = λ d. absurd (none_decided (Inside w) d)
+polls_owe v w p (taking called c l b) h = λ d. absurd (none_decided (Inside w) d)
+polls_owe v w p (taking counting c l b) h = λ d. absurd (none_decided (Inside w) d)
+polls_owe v w Purpose.UpgradableRead (taking (gives_up r) c l b) h = λ d. inr (refl, refl)
+polls_owe v w Purpose.Write (taking (gives_up r) c l b) h = λ d. inr (refl, refl)
+polls_owe v w p (taking has_lock c l b) h = absurd (cc h)
+polls_owe v w p releasing h = λ d. absurd (none_decided (Inside w) d)
+polls_owe v w p _ h = absurd (cc h)
+
+owes_by : (v : ℕ) (w : Within) (x : Place) (t : TurnCourse) → fits_turn x t ≡ true → is_due t ≡ true → Moves t → Owing for_the_turn v (Inside w) x t (is_for_turn (sought_at x))
+owes_by v w (Place.TakeTurn p) t f h m = polls_owe v w p t h
+owes_by v w (Place.ReleasingTurn e) t f h m = λ d. inl refl
+owes_by v w (Place.WaitTurn p) t f h m = absurd (false≢true (sym m.not_waiting ∙ f))
+owes_by v w Place.CancelTurn t f h m = absurd (false≢true (sym m.not_waiting ∙ f))
+owes_by v w Place.CancellingTurn t f h m = absurd (false≢true (sym m.not_cancelling ∙ f))
+owes_by v w _ t f h m = absurd (cc (f, m.not_out, m.not_holding))
+
+pub owes_for_turn : (v : ℕ) (s : Stage) (x : Place) (t : TurnCourse) → (is_outside_stage s ≡ true → is_resting x ≡ true) → fits_turn x t ≡ true → is_due t ≡ true → Owing for_the_turn v s x t (is_for_turn (sought_at x))
+owes_for_turn v (Inside w) x t rests f h = owes_by v w x t f h (due_moves t h)
+owes_for_turn v (Outside r) x t rests f h = absurd (rest_undue x t (rests refl) f (due_moves t h))
+owes_for_turn v Forgotten x t rests f h = absurd (rest_undue x t (rests refl) f (due_moves t h))
+
+reads_owe : (v : ℕ) (w : Within) (x : Place) (t : TurnCourse) → 0 < owes_no_writer x → Owing for_no_writer v (Inside w) x t (is_to_read (sought_at x))
+reads_owe v w Place.PassOn t some = λ d. absurd (none_decided (Inside w) d)
+reads_owe v w (Place.RefuseNotify r) t some = λ d. inr (refl, refl)
+reads_owe v w (Place.ReleaseTurn Ending.NotifyReaders) t some = λ d. inl refl
+reads_owe v w (Place.ReleasingTurn Ending.NotifyReaders) t some = λ d. inl refl
+reads_owe v w (Place.ReleaseTurn _) t some = absurd (omega arith)
+reads_owe v w (Place.ReleasingTurn _) t some = absurd (omega arith)
+reads_owe v w (Place.UnmarkNotify refused) t some = λ d. inl refl
+reads_owe v w Place.DownNotify t some = λ d. inl refl
+reads_owe v w Place.DowngradeNotify t some = λ d. inl refl
+reads_owe v w _ t some = absurd (omega arith)
+
+pub owes_to_readers : (v : ℕ) (s : Stage) (x : Place) (t : TurnCourse) → (is_outside_stage s ≡ true → is_resting x ≡ true) → 0 < owes_no_writer x → Owing for_no_writer v s x t (is_to_read (sought_at x))
+owes_to_readers v (Inside w) x t rests some = reads_owe v w x t some
+owes_to_readers v (Outside r) x t rests some = let none = rest_owes_writer x (rests refl) in absurd (omega (arith, some, none))
+owes_to_readers v Forgotten x t rests some = let none = rest_owes_writer x (rests refl) in absurd (omega (arith, some, none))
+
+pub owes_to_writer : (x : Place) → 0 < owes_no_readers x → owes_in for_no_readers (owing_at x) ≡ true
+owes_to_writer Place.DropReadNotify some = refl
+owes_to_writer Place.DropUpgradableNotify some = refl
+owes_to_writer _ some = absurd (omega arith)
 
 -- ---- who is due to readers, and to the writer
 

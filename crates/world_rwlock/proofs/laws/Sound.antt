@@ -1,8 +1,8 @@
 -- What always holds of a read-write lock's World, and that no notification is lost at rest.
-use Rattle.world_rwlock.proofs.Prelude.{◌≡◌, ℕ, ◌<◌, ◌≤◌, ◌⊎◌, inl, inr, Bool, true, false, List, [], ◌∷◌, length, zero, suc, Option, Some, None, refl, arith, ap, sym, ◌∙◌, subst, list_all, sum_by, sum_by-cons, IsMarkedFirst, entries_of, Rest, Stage, Outside, Inside, Forgotten, outside, forgotten, is_outside_stage, outside_so, Right, read, upgradable, write, wait_to_write, excludes, out as turn_out, counted, rests_in_turn, turn_at, is_counted, holder_of, Ending, Place, bit, reads, marks, has_turn, is_resting, RwLock, place_at, IsRwLock, IsAtRest, writers, marked, stage_at, goes_with, Table, ListName, for_the_turn, for_no_readers, for_no_writer, list_of, nobody, passes, is_upgradable, waits_to_write, World, standing_of, is_marked, entries_in, HasTurn, HasItsOwn, HasRight, IsSound, is_at_rest, IsAwake, Guarded, with_value, IsRwLockTable, verdict_of, Share, passing, upgrading, waiting, writing, turn_as, share_of, turn_by, is_reading, standing_at, view_of, rest_seen, outside_at, inside_or_past, marked_count, is_outside, is_decided, listed, is_due, waits_no_writer, owes_no_writer, waits_no_readers, owes_no_readers, readers, is_due_for_turn, is_due_to_readers, is_due_to_writer, IsDueForTurn, IsDueToReaders, IsDueToWriter}
+use Rattle.world_rwlock.proofs.Prelude.{◌≡◌, ℕ, ◌<◌, ◌≤◌, ◌⊎◌, inl, inr, Bool, true, false, List, [], ◌∷◌, length, zero, suc, Option, Some, None, refl, arith, ap, sym, ◌∙◌, subst, list_all, sum_by, sum_by-cons, IsMarkedFirst, entries_of, Rest, Stage, Outside, Inside, Forgotten, outside, forgotten, is_outside_stage, outside_so, Right, read, upgradable, write, wait_to_write, excludes, out as turn_out, counted, rests_in_turn, turn_at, is_counted, holder_of, Ending, Place, bit, reads, marks, has_turn, is_resting, RwLock, place_at, IsRwLock, IsAtRest, writers, marked, stage_at, goes_with, Table, ListName, for_the_turn, for_no_readers, for_no_writer, list_of, nobody, passes, is_upgradable, waits_to_write, World, standing_of, is_marked, entries_in, HasTurn, HasItsOwn, HasRight, IsSound, is_at_rest, IsAwake, Guarded, with_value, IsRwLockTable, verdict_of, Share, passing, upgrading, waiting, writing, turn_as, share_of, turn_by, is_reading, standing_at, view_of, rest_seen, outside_at, inside_or_past, marked_count, is_outside, is_decided, listed, is_due, waits_no_writer, owes_no_writer, waits_no_readers, owes_no_readers, readers, is_due_for_turn, is_due_to_readers, is_due_to_writer, IsDueForTurn, IsDueToReaders, IsDueToWriter, OwesIn, is_refused, is_to_read, is_for_turn, has_to_tell, sought_at}
 use Rattle.world_mutex.specs.machine.Mutex as lock
 use Rattle.world_mutex.proofs.of_machine.callers.Holders as sees
-use Rattle.world_rwlock.proofs.step.Owed.{owes_outside}
+use Rattle.world_rwlock.proofs.step.Owed.{owes_outside, owes_seen}
 use Rattle.world_rwlock.specs.machine.Roles as roles
 use Rattle.world_rwlock.proofs.of_machine.laws.Places.{share as share_in}
 use Rattle.world_rwlock.proofs.of_machine.laws.Laws.{rests_t}
@@ -254,10 +254,17 @@ module _ (t : Table Guarded) (laws : IsRwLock t.machine.lock) (fits : IsRwLockTa
   rests_outside : (q : ℕ) → is_outside (standing_of w q) ≡ true → is_resting (place_at l.places q) ≡ true
   rests_outside q out = rests_there q (sym (outside_so (verdict_of t.machine q) (stage_at t.stages q)) ∙ (sym (ap is_outside (stood q)) ∙ out))
 
+  owes_there : (list : ListName) (polls : Option Right → Bool) (q : ℕ) → due.Owing list t.machine.value (stage_at t.stages q) (place_at l.places q) (turn_at l.turn.courses q) (polls (sought_at (place_at l.places q))) → OwesIn list w q (polls (state.sought_by w q))
+  owes_there list polls q have = λ d. elim (have (sym (ap is_decided (stood q)) ∙ d)) as (λ _. (has_to_tell list w q ≡ true) ⊎ ((is_refused (standing_of w q) ≡ true) × (polls (state.sought_by w q) ≡ true))) [
+    | inl o ↦ inl (owes_seen t list q ∙ o)
+    | inr r ↦ inr (ap is_refused (stood q) ∙ r.0, ap polls (view.seeks_at l.places q) ∙ r.1)
+  ]
+
   due_turn : (q : ℕ) → is_due (turn_at l.turn.courses q) ≡ true → IsDueForTurn w q
   due_turn q h = record {
     due = ap (λ z. is_due_for_turn z (state.sought_by w q)) (stood q) ∙ (ap (is_due_for_turn (standing_at t.machine.value (stage_at t.stages q) (place_at l.places q) (turn_at l.turn.courses q))) (view.seeks_at l.places q)
         ∙ due.due_at t.machine.value (stage_at t.stages q) (place_at l.places q) (turn_at l.turn.courses q) (rests_there q) (laws.in_turn q) h);
+    owes = owes_there for_the_turn is_for_turn q (due.owes_for_turn t.machine.value (stage_at t.stages q) (place_at l.places q) (turn_at l.turn.courses q) (rests_there q) (laws.in_turn q) h);
     unlisted = λ why. laws.turn.owners q ∙ elim why as (λ _. listed (turn_at l.turn.courses q) ≡ 0) [
       | inl fresh ↦ due.due_unstarved (turn_at l.turn.courses q) h (sym (sees.counted_bit (turn_at l.turn.courses q)) ∙ ap bit (sym (sees.starved_at l.turn.courses q) ∙ fresh))
       | inr d ↦ due.decided_unlisted t.machine.value (stage_at t.stages q) (place_at l.places q) (turn_at l.turn.courses q) (laws.in_turn q) h (sym (ap is_decided (stood q)) ∙ d)
@@ -280,6 +287,7 @@ module _ (t : Table Guarded) (laws : IsRwLock t.machine.lock) (fits : IsRwLockTa
           record {
             due = ap (λ z. is_due_to_readers z (state.sought_by w one.0)) (stood one.0) ∙ (ap (is_due_to_readers (standing_at t.machine.value (stage_at t.stages one.0) (place_at l.places one.0) (turn_at l.turn.courses one.0))) (view.seeks_at l.places one.0)
                 ∙ due.due_to_readers t.machine.value (stage_at t.stages one.0) (place_at l.places one.0) (turn_at l.turn.courses one.0) (rests_there one.0) one.2);
+            owes = owes_there for_no_writer is_to_read one.0 (due.owes_to_readers t.machine.value (stage_at t.stages one.0) (place_at l.places one.0) (turn_at l.turn.courses one.0) (rests_there one.0) one.2);
             unlisted = laws.owners_no_writer one.0 ∙ due.unlisted_to_readers (place_at l.places one.0) one.2;
           },
         )
@@ -295,6 +303,7 @@ module _ (t : Table Guarded) (laws : IsRwLock t.machine.lock) (fits : IsRwLockTa
           one.0,
           record {
             due = ap is_due_to_writer (stood one.0) ∙ due.due_to_writer t.machine.value (stage_at t.stages one.0) (place_at l.places one.0) (turn_at l.turn.courses one.0) (fits.stands one.0 (omega (arith, one.1, fits.as_many))) (rests_there one.0) one.2;
+            owes = owes_seen t for_no_readers one.0 ∙ due.owes_to_writer (place_at l.places one.0) one.2;
             unlisted = laws.owners_no_readers one.0 ∙ due.unlisted_to_writer (place_at l.places one.0) one.2;
           },
         )
