@@ -191,7 +191,7 @@ with open('crates/world_rwlock/proofs/step/Paths.antt', 'w', encoding='utf-8') a
 
 
 ROWS_HEAD = f'''-- What each action on the word or on a list changes and decides, place by place. Written by generators/rwlock_world_rows.py.
-use Rattle.world_rwlock.proofs.Prelude.{{◌≡◌, ℕ, ◌+◌, ◌<◌, ◌≤◌, ◌==◌, ◌⊎◌, ◌||◌, not, inl, inr, if◌then◌else◌, Bool, true, false, List, Option, Some, None, refl, sym, ◌∙◌, Entry, is_marked_at, without, is_party, Answer, Value, Refusal, number_of, Right, read, upgradable, Deed, nothing, changes, does, joins, asks, leaves, notifies, chosen, TurnCourse, is_out as is_out_there, is_holding, Action, Pending, Refused, Next, Found, Done, Writer, Full, NoneLeft, SomeLeft, NoMemory, Yes, No, Turn, TurnStep as Step, End, Purpose, Ending, Place, Out, Made, Reading, Upgradable, Writing, EnterRead, JoinNoWriter, LookNoWriter, AskNoWriter, PassOn, LeaveNoWriter, RefuseLeave, RefuseNotify, CancelRead, TryRead, EnterTurn, WaitTurn, TakeTurn, TryTurn, CancelTurn, CancellingTurn, ReleaseTurn, ReleasingTurn, Add, TryUpgrade, Upgrade, Mark, TryWrite, JoinNoReaders, LookNoReaders, AskNoReaders, AwaitNoReaders, LookUnlisted, LeaveNoReaders, DropRead, DropReadNotify, DropUpgradable, DropUpgradableNotify, DropWrite, CancelAwait, Unmark, UnmarkNotify, Down, DownNotify, DowngradeNotify, action_of, next_of, place_after, has_turn, in_no_writer, in_no_readers, fits_turn, OnNoWriter, OnNoReaders, RwLock, Finds, readers, marked, Change, begins_to_read, stops_reading, becomes_upgradable, stops_upgradable, begins_to_wait, begins_to_write, upgrades_at_once, unmarks, downgrades_to_upgradable, turn_after, starved_after, value_after, entries_after, gives_back, gives_up, ListName, for_the_turn, for_no_readers, for_no_writer, decided_after, answer_by, strays, course_of, sought_at, passing, upgrading, waiting, writing, turn_as, share_of, is_reading, is_upgrade, verdict, notifies_additionally}}
+use Rattle.world_rwlock.proofs.Prelude.{{◌≡◌, ℕ, ◌+◌, ◌<◌, ◌≤◌, ◌==◌, ◌⊎◌, ◌||◌, not, inl, inr, if◌then◌else◌, Bool, true, false, List, Option, Some, None, refl, sym, ◌∙◌, Entry, is_marked_at, without, is_party, Answer, Value, Refusal, number_of, Right, read, upgradable, Deed, nothing, changes, does, joins, asks, leaves, notifies, chosen, TurnCourse, is_out as is_out_there, is_holding, Action, Pending, Refused, Next, Found, Done, Writer, Full, NoneLeft, SomeLeft, NoMemory, Yes, No, Turn, TurnStep as Step, End, Purpose, Ending, Place, Out, Made, Reading, Upgradable, Writing, EnterRead, JoinNoWriter, LookNoWriter, AskNoWriter, PassOn, LeaveNoWriter, RefuseLeave, RefuseNotify, CancelRead, TryRead, EnterTurn, WaitTurn, TakeTurn, TryTurn, CancelTurn, CancellingTurn, ReleaseTurn, ReleasingTurn, Add, TryUpgrade, Upgrade, Mark, TryWrite, JoinNoReaders, LookNoReaders, AskNoReaders, AwaitNoReaders, LookUnlisted, LeaveNoReaders, DropRead, DropReadNotify, DropUpgradable, DropUpgradableNotify, DropWrite, CancelAwait, Unmark, UnmarkNotify, Down, DownNotify, DowngradeNotify, action_of, next_of, place_after, has_turn, in_no_writer, in_no_readers, fits_turn, OnNoWriter, OnNoReaders, RwLock, Finds, readers, marked, Change, begins_to_read, stops_reading, becomes_upgradable, stops_upgradable, begins_to_wait, begins_to_write, upgrades_at_once, unmarks, downgrades_to_upgradable, turn_after, starved_after, value_after, entries_after, gives_back, gives_up, ListName, for_the_turn, for_no_readers, for_no_writer, decided_after, answer_by, strays, course_of, sought_at, passing, upgrading, waiting, writing, turn_as, share_of, is_reading, is_upgrade, verdict, notifies_additionally, owes_in, owing_at, reads}}
 use Rattle.world_rwlock.proofs.of_machine.stages.Leads.{{Led, steps_in_turn}}
 use Rattle.world_rwlock.specs.Changes.{{upgrades, downgrades}}
 use Rattle.world_rwlock.specs.State as state
@@ -249,6 +249,18 @@ Reads _ b c = c ≡ b
 abbrev pub Shares : Deed Change ListName → Place → Place → Type 0
 Shares d x q = ((has_turn x ≡ 1) × ((p : ℕ) → turn_after p d (turn_as p (share_of x)) ≡ turn_as p (share_of q))) ⊎ (((p : ℕ) (t : state.Turn) → turn_after p d t ≡ t) × (share_of q ≡ share_of x))
 
+-- no call begins at these places: in the midst of a poll that takes the turn, and where readers or the writer are notified
+abbrev pub is_midway : Place → Bool
+is_midway (TakeTurn q) = true
+is_midway PassOn = true
+is_midway (RefuseNotify r) = true
+is_midway DropReadNotify = true
+is_midway DropUpgradableNotify = true
+is_midway (UnmarkNotify r) = true
+is_midway DownNotify = true
+is_midway DowngradeNotify = true
+is_midway _ = false
+
 -- what a deed found
 abbrev pub Finding : Deed Change ListName → RwLock → Place → Type 0
 Finding (changes begins_to_read) l x = (marked l ≡ 0) × (readers l < l.limit)
@@ -264,7 +276,8 @@ Finding (changes downgrades) l x = (has_turn x ≡ 1) × (share_of x ≡ writing
 Finding (changes downgrades_to_upgradable) l x = (has_turn x ≡ 1) × (share_of x ≡ writing)
 Finding (changes _) l x = ⊥
 Finding (does for_the_turn f) l x = ⊥
-Finding (does list (notifies n)) l x = n ≡ 1
+Finding (does for_no_writer (notifies n)) l x = (n ≡ 1) × ((owes_in for_no_writer (owing_at x) ≡ true) ⊎ (sought_at x ≡ Some read)) × (is_midway x ≡ true)
+Finding (does for_no_readers (notifies n)) l x = (n ≡ 1) × (owes_in for_no_readers (owing_at x) ≡ true) × (is_midway x ≡ true)
 Finding (does list (notifies_additionally n)) l x = ⊥
 Finding _ l x = Unit {{0}}
 
@@ -349,6 +362,10 @@ abbrev pub RefusedAt : Place → Next → Type 0
 RefusedAt x (Next.End (Refused r) q) = ((is_made q ≡ true) × (is_upgrade x ≡ false)) ⊎ ((q ≡ LookUnlisted true) × (is_upgrade x ≡ true))
 RefusedAt x _ = Unit {{0}}
 
+-- only the last reader goes on to tell the one that waits to write
+abbrev pub IsLast : RwLock → Place → Place → Type 0
+IsLast l x y = (owes_in for_no_readers (owing_at y) ≡ false) ⊎ ((reads x ≡ 1) × (readers l ≡ 1) × (reads y ≡ 0))
+
 pub record Row (memory : Bool) (l : RwLock) (v : ℕ) (x : Place) (f : Found) : Type 0 where
   pub reading : Reads (deed_at x f) (is_reading x) (is_reading (place_after (next_of x f)))
   pub sharing : Shares (deed_at x f) x (place_after (next_of x f))
@@ -364,6 +381,7 @@ pub record Row (memory : Bool) (l : RwLock) (v : ℕ) (x : Place) (f : Found) : 
   pub over : is_after_ready (answer_by v (next_of x f)) ≡ false
   pub upgrade : KeepsUpgrade v x (next_of x f)
   pub refused : RefusedAt x (next_of x f)
+  pub last : IsLast l x (place_after (next_of x f))
 
 asks_so : (p : ℕ) (l m : List (Entry ℕ)) → (is_marked_at (is_party p) l ≡ true) × (m ≡ without (is_party p) l) → m ≡ (if is_marked_at (is_party p) l then without (is_party p) l else l)
 asks_so p l m o = o.1 ∙ sym (chosen (is_marked_at (is_party p) l) (without (is_party p) l) l o.0)
@@ -390,12 +408,18 @@ def full(many, taken):
     return f'(Refusal.Readers, refl, ({many}, {taken}))'
 
 
-def row(place, found, judged, sharing=STAYS, finding='tt', upgrade='tt', refused='tt', no_writer='λ p a b o. o', no_readers='λ p a b o. o'):
+# who notifies those that wait to read: whoever owes it, or reads
+OWED = '(refl, inl refl, refl)'
+FOR_READ = '(refl, inr refl, refl)'
+LAST = 'inr (refl, e, refl)'
+
+
+def row(place, found, judged, sharing=STAYS, finding='tt', upgrade='tt', refused='tt', no_writer='λ p a b o. o', no_readers='λ p a b o. o', last='inl refl'):
     room = 'e' if 'Join' in place and found == 'Done' else 'tt'
     if found == 'NotFree':
         found = 'Found.NotFree'
     rows.append(f'  row {place} {found} e n t = record {{ reading = refl; sharing = {sharing}; starving = λ p s. refl; valued = λ u. refl; unturned = λ p a. refl; no_writer = {no_writer}; no_readers = {no_readers}; '
-                f'finding = {finding}; judged = λ t u. {judged}; room = {room}; holds_on = λ t. refl; over = refl; upgrade = {upgrade}; refused = {refused} }}')
+                f'finding = {finding}; judged = λ t u. {judged}; room = {room}; holds_on = λ t. refl; over = refl; upgrade = {upgrade}; refused = {refused}; last = {last} }}')
 
 
 def rest(place):
@@ -440,7 +464,7 @@ rest('(LookNoWriter told)')
 row('AskNoWriter', 'Yes', UNDECIDED, upgrade=GOES, no_writer=ASKED)
 row('AskNoWriter', 'No', WAITS, upgrade='refl', no_writer=ASKED_IN_VAIN)
 rest('AskNoWriter')
-row('PassOn', 'Done', UNDECIDED, finding='refl', upgrade=GOES)
+row('PassOn', 'Done', UNDECIDED, finding=FOR_READ, upgrade=GOES)
 rest('PassOn')
 row('LeaveNoWriter', 'Done', KEPT)
 rest('LeaveNoWriter')
@@ -449,7 +473,7 @@ rest('(RefuseLeave true)')
 row('(RefuseLeave false)', 'Done', KEPT, upgrade='refl', refused=MADE)
 rest('(RefuseLeave false)')
 for r in ('Memory', 'Readers'):
-    row(f'(RefuseNotify Refusal.{r})', 'Done', KEPT, finding='refl', upgrade='refl', refused=MADE)
+    row(f'(RefuseNotify Refusal.{r})', 'Done', KEPT, finding=FOR_READ, upgrade='refl', refused=MADE)
     rest(f'(RefuseNotify Refusal.{r})')
 astray('(RefuseNotify _)')
 row('CancelRead', 'Done', KEPT)
@@ -497,15 +521,15 @@ row('(LookUnlisted u)', 'SomeLeft', UNDECIDED, upgrade=GOES)
 rest('(LookUnlisted u)')
 row('LeaveNoReaders', 'Done', KEPT)
 rest('LeaveNoReaders')
-row('DropRead', 'NoneLeft', KEPT, finding='refl', upgrade=GOES)
+row('DropRead', 'NoneLeft', KEPT, finding='refl', upgrade=GOES, last=LAST)
 row('DropRead', 'SomeLeft', KEPT, finding='refl')
 rest('DropRead')
-row('DropReadNotify', 'Done', KEPT, finding='refl')
+row('DropReadNotify', 'Done', KEPT, finding='(refl, refl, refl)')
 rest('DropReadNotify')
 for f in ('NoneLeft', 'SomeLeft'):
-    row('DropUpgradable', f, KEPT, sharing=MOVES, finding='(refl, refl)', upgrade=GOES)
+    row('DropUpgradable', f, KEPT, sharing=MOVES, finding='(refl, refl)', upgrade=GOES, last=LAST if f == 'NoneLeft' else 'inl refl')
 rest('DropUpgradable')
-row('DropUpgradableNotify', 'Done', KEPT, finding='refl', upgrade=GOES)
+row('DropUpgradableNotify', 'Done', KEPT, finding='(refl, refl, refl)', upgrade=GOES)
 rest('DropUpgradableNotify')
 row('DropWrite', 'Done', KEPT, sharing=MOVES, finding='(refl, inr refl)', upgrade=GOES)
 rest('DropWrite')
@@ -515,14 +539,14 @@ for r in ('true', 'false'):
     row(f'(Unmark {r})', 'Done', KEPT, sharing=MOVES, finding='(refl, inl refl)', upgrade=GOES)
     rest(f'(Unmark {r})')
 for r in ('true', 'false'):
-    row(f'(UnmarkNotify {r})', 'Done', KEPT, finding='refl', upgrade=GOES)
+    row(f'(UnmarkNotify {r})', 'Done', KEPT, finding=OWED, upgrade=GOES)
     rest(f'(UnmarkNotify {r})')
 for k in ('true', 'false'):
     row(f'(Down {k})', 'Done', FREE, sharing=MOVES, finding='(refl, refl)', upgrade=GOES)
     rest(f'(Down {k})')
-row('DownNotify', 'Done', KEPT, finding='refl')
+row('DownNotify', 'Done', KEPT, finding=OWED)
 rest('DownNotify')
-row('DowngradeNotify', 'Done', KEPT, finding='refl')
+row('DowngradeNotify', 'Done', KEPT, finding=OWED)
 rest('DowngradeNotify')
 
 TURN_ROWS = '''
@@ -534,6 +558,7 @@ pub record TurnRow (v : ℕ) (x : Place) (f : Found) : Type 0 where
   pub over : is_after_ready (answer_by v (next_of x f)) ≡ false
   pub upgrade : KeepsUpgrade v x (next_of x f)
   pub refused : RefusedAt x (next_of x f)
+  pub unowed : owes_in for_no_readers (owing_at (place_after (next_of x f))) ≡ false
 
 pub turn_row : (v : ℕ) (u : TurnCourse) (x : Place) (f : Found) → steps_in_turn x ≡ true → Led x f u → TurnRow v x f
 '''
@@ -549,7 +574,7 @@ def turn_row(place, found):
         upgrade = 'refl'
     elif found in (MEMORY, STARVED) or found == BACK and 'Refuse' in place:
         upgrade, refused = 'refl', MADE
-    turn_rows.append(f'turn_row v u {place} {found} t e = record {{ reading = refl; sharing = refl; over = refl; upgrade = {upgrade}; refused = {refused} }}')
+    turn_rows.append(f'turn_row v u {place} {found} t e = record {{ reading = refl; sharing = refl; over = refl; upgrade = {upgrade}; refused = {refused}; unowed = refl }}')
 
 
 def turn_rest(place):

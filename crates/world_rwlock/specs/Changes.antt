@@ -1,12 +1,13 @@
 -- What may change of a read-write lock's state in one step, and where.
-use Rattle.std.specs.Prelude.{◌≡◌, ℕ, ◌<◌, ◌⊎◌, Bool, true, false, List, slice_set}
+use Rattle.std.specs.Prelude.{◌≡◌, ℕ, ◌<◌, ◌⊎◌, Bool, true, false, List, Some, slice_set}
 use Rattle.lock_event.specs.declared.event.Entry.{Entry}
 use Rattle.world_base.specs.Rosters.{how_many}
 use Rattle.world_base.specs.Steps.{Deed, nothing, changes, does, leaves, list_after, is_parting}
 use Rattle.world_rwlock.specs.State.{ListName, for_the_turn, for_no_readers, for_no_writer, Turn, nobody, passes, is_upgradable, waits_to_write, writes, State, World, reads, is_starved, is_marked, how_many_read}
 use Rattle.world_base.specs.Steps.{notifies, notifies_additionally}
 use Rattle.world_base.specs.queue.Parties.{entries_of}
-use Rattle.world_rwlock.specs.State.{HasTurn, sought_by, is_for_turn}
+use Rattle.world_base.specs.Rights.{read}
+use Rattle.world_rwlock.specs.State.{HasTurn, sought_by, is_for_turn, has_to_tell}
 
 -- The changes of the state, each the moving party's own.
 pub data Change : Type 0 where
@@ -99,17 +100,19 @@ May p downgrades w = w.state.turn ≡ writes p
 May p downgrades_to_upgradable w = w.state.turn ≡ writes p
 May p (puts v) w = w.state.turn ≡ writes p
 
--- In the turn's list whoever has the turn notifies nobody, nor does a party that stands there unless it is starved.
+-- In the turn's list one notifies who has to tell there, or seeks the turn; whoever has it notifies nobody, nor does a party that stands there unless it is starved.
 pub record MayTell (w : World) (p n : ℕ) : Type 0 where
   pub one : n ≡ 1
+  pub cause : (has_to_tell for_the_turn w p ≡ true) ⊎ (is_for_turn (sought_by w p) ≡ true)
   pub without_turn : HasTurn w.state.turn p → ⊥
   pub starved : 0 < entries_of p w.turn_list → is_starved w p ≡ true
 
--- Beside the changes, one notifies one in each list, and not beside one that was notified before.
+-- Beside the changes, one notifies one in each list, and not beside one that was notified before: the writer whoever has to tell it, and readers whoever has to tell them or seeks to read.
 abbrev pub IsAllowed : ℕ → Deed Change ListName → World → Type 0
 IsAllowed p (changes c) w = May p c w
 IsAllowed p (does for_the_turn (notifies n)) w = MayTell w p n
-IsAllowed p (does list (notifies n)) w = n ≡ 1
+IsAllowed p (does for_no_writer (notifies n)) w = (n ≡ 1) × ((has_to_tell for_no_writer w p ≡ true) ⊎ (sought_by w p ≡ Some read))
+IsAllowed p (does for_no_readers (notifies n)) w = (n ≡ 1) × (has_to_tell for_no_readers w p ≡ true)
 IsAllowed p (does list (notifies_additionally n)) w = ⊥
 IsAllowed p _ w = Unit {0}
 

@@ -1,5 +1,5 @@
 -- Who has still to notify in a list, or to look, by the place at which a party stands.
-use Rattle.world_rwlock.proofs.Prelude.{◌≡◌, ℕ, ◌<◌, true, false, refl, arith, sym, ◌∙◌, false≢true, Kind, Rest, Stage, Outside, Inside, Forgotten, Within, is_outside_stage, is_decided, none_decided, TurnCourse, out, holding, taking, releasing, undecided, called, counting, has_lock, giving_up as gives_up, is_out, is_holding, is_waiting, is_cancelling, is_releasing, is_due, counted, listed, Ending, Place, Purpose, in_no_writer, waits_no_writer, owes_no_writer, in_no_readers, waits_no_readers, owes_no_readers, fits_turn, is_resting, sought_at, goes_with, is_on_course, drops, standing_at, is_due_for_turn, is_due_to_readers, is_due_to_writer, is_drop_kind, is_refused, is_to_read, Bool, Right, Option, ◌⊎◌, inl, inr, ListName, for_the_turn, for_no_writer, for_no_readers, owes_in, owing_at, is_for_turn}
+use Rattle.world_rwlock.proofs.Prelude.{◌≡◌, ℕ, ◌<◌, true, false, refl, arith, sym, ◌∙◌, false≢true, Kind, Rest, Stage, Outside, Inside, Forgotten, Within, is_outside_stage, is_decided, none_decided, TurnCourse, out, holding, taking, releasing, undecided, called, counting, has_lock, giving_up as gives_up, is_out, is_holding, is_waiting, is_cancelling, is_releasing, is_due, counted, listed, Ending, Place, Purpose, in_no_writer, waits_no_writer, owes_no_writer, in_no_readers, waits_no_readers, owes_no_readers, fits_turn, is_resting, sought_at, goes_with, is_on_course, drops, standing_at, is_due_for_turn, is_due_to_readers, is_due_to_writer, is_drop_kind, is_refused, is_to_read, Bool, ◌⊎◌, inl, inr, ListName, for_the_turn, for_no_writer, for_no_readers, owes_in, owing_at, is_for_turn}
 
 -- ---- who rests
 

@@ -1,9 +1,10 @@
 -- An action of a party is a legal step, as callers see it.
-use Rattle.world_rwlock.proofs.Prelude.{◌≡◌, ℕ, ◌<◌, inl, inr, Bool, true, false, List, length, Option, Some, None, refl, ap, sym, ◌∙◌, subst, set, false≢true, cases_Bool, Answer, Call, Value, Move, What, Begin, Go, Refusal, Kind, Rest, Stage, Forgotten, Within, within, put_in, is_poll_after_ready, inputs_of, refused, some_eq, none_some, stage_at, call_at, polls_again, stage_after, Table, call_seen, again_seen, TurnCourse, turn_at, Next, Place, action_of, next_of, place_after, fits_turn, OnTurn, RwLock, place_at, Acts, knows, call_of, Legal, knows_at, Guarded, with_value, knows_there, answer_by, place_for, Does, MovesThere, sought_at, standing_of, TableSteps, verdict, view_of, set_same, inside_or_past, is_counting, DecidesOn, seen, Purpose, Wanted, first_poll, start_of}
+use Rattle.world_rwlock.proofs.Prelude.{◌≡◌, ℕ, ◌<◌, inl, inr, Bool, true, false, List, length, Option, Some, None, refl, ap, sym, ◌∙◌, subst, set, false≢true, cases_Bool, Answer, Call, Value, Move, What, Begin, Go, Refusal, Kind, Rest, Stage, Forgotten, Within, within, put_in, is_poll_after_ready, inputs_of, refused, some_eq, none_some, stage_at, call_at, polls_again, stage_after, Table, call_seen, again_seen, TurnCourse, turn_at, Next, Place, action_of, next_of, place_after, fits_turn, OnTurn, RwLock, place_at, Acts, knows, call_of, Legal, knows_at, Guarded, with_value, knows_there, answer_by, place_for, Does, MovesThere, sought_at, standing_of, TableSteps, verdict, view_of, set_same, inside_or_past, is_counting, DecidesOn, seen, Wanted, first_poll, start_of}
 use Rattle.world_base.proofs.of_table.Ways as ways
 use Rattle.world_rwlock.proofs.of_machine.stages.Leads.{led, steps_in_turn}
 use Rattle.world_rwlock.proofs.table.Begun.{known_at}
 use Rattle.world_rwlock.proofs.table.Calls.{Moves, moving}
+use Rattle.world_rwlock.proofs.step.Rows.{is_midway}
 use Rattle.world_rwlock.proofs.step.Facts as word
 use Rattle.world_rwlock.proofs.step.Facts.{Facts}
 use Rattle.world_rwlock.proofs.step.Idle.{Laws, stood, sought_is}
@@ -127,50 +128,46 @@ module _ (t u : Table Guarded) (m : Move) (a : Answer) (old : Laws t) (new : Law
 
 -- ---- a step of a call
 
--- no call begins in the midst of a poll that takes the turn
-abbrev pub is_take : Place → Bool
-is_take (Place.TakeTurn q) = true
-is_take _ = false
-
-first_apart : (w : Wanted) → is_take (first_poll w) ≡ false
+-- no call begins at such a place
+first_apart : (w : Wanted) → is_midway (first_poll w) ≡ false
 first_apart Wanted.Read = refl
 first_apart Wanted.UpgradableRead = refl
 first_apart Wanted.Write = refl
 
-pub begins_apart : (c : Call) (x y : Place) → start_of c x ≡ Some y → is_take y ≡ false
-begins_apart Call.Read Place.Out y e = ap is_take (sym (some_eq e))
-begins_apart Call.UpgradableRead Place.Out y e = ap is_take (sym (some_eq e))
-begins_apart Call.Write Place.Out y e = ap is_take (sym (some_eq e))
-begins_apart Call.TryRead Place.Out y e = ap is_take (sym (some_eq e))
-begins_apart Call.TryUpgradableRead Place.Out y e = ap is_take (sym (some_eq e))
-begins_apart Call.TryWrite Place.Out y e = ap is_take (sym (some_eq e))
-begins_apart Call.Poll (Place.Made w) y e = ap is_take (sym (some_eq e)) ∙ first_apart w
-begins_apart Call.Poll Place.AskNoWriter y e = ap is_take (sym (some_eq e))
-begins_apart Call.Poll (Place.WaitTurn q) y e = ap is_take (sym (some_eq e))
-begins_apart Call.Poll (Place.AwaitNoReaders upgrade) y e = ap is_take (sym (some_eq e))
-begins_apart Call.Poll (Place.LookUnlisted true) y e = ap is_take (sym (some_eq e))
+pub begins_apart : (c : Call) (x y : Place) → start_of c x ≡ Some y → is_midway y ≡ false
+begins_apart Call.Read Place.Out y e = ap is_midway (sym (some_eq e))
+begins_apart Call.UpgradableRead Place.Out y e = ap is_midway (sym (some_eq e))
+begins_apart Call.Write Place.Out y e = ap is_midway (sym (some_eq e))
+begins_apart Call.TryRead Place.Out y e = ap is_midway (sym (some_eq e))
+begins_apart Call.TryUpgradableRead Place.Out y e = ap is_midway (sym (some_eq e))
+begins_apart Call.TryWrite Place.Out y e = ap is_midway (sym (some_eq e))
+begins_apart Call.Poll (Place.Made w) y e = ap is_midway (sym (some_eq e)) ∙ first_apart w
+begins_apart Call.Poll Place.AskNoWriter y e = ap is_midway (sym (some_eq e))
+begins_apart Call.Poll (Place.WaitTurn q) y e = ap is_midway (sym (some_eq e))
+begins_apart Call.Poll (Place.AwaitNoReaders upgrade) y e = ap is_midway (sym (some_eq e))
+begins_apart Call.Poll (Place.LookUnlisted true) y e = ap is_midway (sym (some_eq e))
 begins_apart Call.Poll (Place.LookUnlisted false) y e = absurd (none_some e)
 begins_apart Call.Poll _ y e = absurd (none_some e)
-begins_apart Call.Drop (Place.Made w) y e = ap is_take (sym (some_eq e))
-begins_apart Call.Drop Place.AskNoWriter y e = ap is_take (sym (some_eq e))
-begins_apart Call.Drop (Place.WaitTurn q) y e = ap is_take (sym (some_eq e))
-begins_apart Call.Drop (Place.AwaitNoReaders upgrade) y e = ap is_take (sym (some_eq e))
-begins_apart Call.Drop (Place.LookUnlisted true) y e = ap is_take (sym (some_eq e))
+begins_apart Call.Drop (Place.Made w) y e = ap is_midway (sym (some_eq e))
+begins_apart Call.Drop Place.AskNoWriter y e = ap is_midway (sym (some_eq e))
+begins_apart Call.Drop (Place.WaitTurn q) y e = ap is_midway (sym (some_eq e))
+begins_apart Call.Drop (Place.AwaitNoReaders upgrade) y e = ap is_midway (sym (some_eq e))
+begins_apart Call.Drop (Place.LookUnlisted true) y e = ap is_midway (sym (some_eq e))
 begins_apart Call.Drop (Place.LookUnlisted false) y e = absurd (none_some e)
-begins_apart Call.Drop Place.Reading y e = ap is_take (sym (some_eq e))
-begins_apart Call.Drop Place.Upgradable y e = ap is_take (sym (some_eq e))
-begins_apart Call.Drop Place.Writing y e = ap is_take (sym (some_eq e))
+begins_apart Call.Drop Place.Reading y e = ap is_midway (sym (some_eq e))
+begins_apart Call.Drop Place.Upgradable y e = ap is_midway (sym (some_eq e))
+begins_apart Call.Drop Place.Writing y e = ap is_midway (sym (some_eq e))
 begins_apart Call.Drop _ y e = absurd (none_some e)
-begins_apart Call.Upgrade Place.Upgradable y e = ap is_take (sym (some_eq e))
-begins_apart Call.TryUpgrade Place.Upgradable y e = ap is_take (sym (some_eq e))
-begins_apart Call.Downgrade Place.Upgradable y e = ap is_take (sym (some_eq e))
-begins_apart Call.Downgrade Place.Writing y e = ap is_take (sym (some_eq e))
-begins_apart Call.DowngradeToUpgradable Place.Writing y e = ap is_take (sym (some_eq e))
+begins_apart Call.Upgrade Place.Upgradable y e = ap is_midway (sym (some_eq e))
+begins_apart Call.TryUpgrade Place.Upgradable y e = ap is_midway (sym (some_eq e))
+begins_apart Call.Downgrade Place.Upgradable y e = ap is_midway (sym (some_eq e))
+begins_apart Call.Downgrade Place.Writing y e = ap is_midway (sym (some_eq e))
+begins_apart Call.DowngradeToUpgradable Place.Writing y e = ap is_midway (sym (some_eq e))
 begins_apart _ _ y e = absurd (none_some e)
 
-took_from : (what : What) (x : Place) (q : Purpose) → place_for what x ≡ Some (Place.TakeTurn q) → x ≡ Place.TakeTurn q
-took_from (Begin c i) x q e = absurd (false≢true (sym (begins_apart c x (Place.TakeTurn q) e)))
-took_from (Go i) x q e = some_eq e
+stays_from : (what : What) (x y : Place) → place_for what x ≡ Some y → is_midway y ≡ true → x ≡ y
+stays_from (Begin c i) x y e h = absurd (false≢true (sym (begins_apart c x y e) ∙ h))
+stays_from (Go i) x y e h = some_eq e
 
 still : (memory starving : Bool) (p : ℕ) (x : Place) (f : _) (l k : _) → OnTurn memory starving p (action_of x) f l k → steps_in_turn x ≡ false → k ≡ l
 still memory starving p (Place.EnterTurn q) f l k e h = absurd (cc)
@@ -229,7 +226,7 @@ module _ (t u : Table Guarded) (m : Move) (a : Answer) (w : Within) (c : Acting 
         same = c.moves.same;
         share = c.moves.share;
         straight = strays_not w c.from c.moves.course;
-        taking = λ q e. took_from m.what (place_at l.places m.party) q (c.starts ∙ ap Some e) ∙ sym e;
+        midway = λ h. stays_from m.what (place_at l.places m.party) c.from c.starts h;
       } in
       let facts : Facts m l k t.stages t.opening ts v c.from n = elim (cases_Bool (steps_in_turn c.from)) as (λ _. Facts m l k t.stages t.opening ts v c.from n) [
         | inl y ↦ on_turn m l k t.stages t.opening ts v c.new.lock c.from c.acts.found given y c.acts.turn (led memory starving m.party l.turn k.turn c.from c.acts.found c.acts.turn fit) fit

@@ -1,12 +1,12 @@
 -- What one action does, as callers see it: its deed, that the deed is allowed, and why the call is decided. Here for the actions on the word and on the two lists.
-use Rattle.world_rwlock.proofs.Prelude.{◌≡◌, ◌≢◌, ℕ, ◌+◌, ◌<◌, ◌≤◌, ◌==◌, ◌⊎◌, inl, inr, Bool, true, false, List, map, length, Option, Some, None, refl, arith, ap, sym, ◌∙◌, subst, get_or-set_same, get_or-set_other, set, ℕ_discrete, Purpose, map-set, entries_of, Answer, Value, Move, Refusal, Stage, number_of, Right, read, upgradable, how_many, inputs_of, Deed, nothing, changes, does, listed, turn_at, holder_of, starved_of, out_unlisted, holding_unlisted, out_free, Found, No, Next, Place, action_of, next_of, place_after, has_turn, in_no_writer, in_no_readers, fits_turn, OnNoWriter, OnNoReaders, RwLock, SameRoles, place_at, IsRwLock, Finds, Change, takes_turn, leaves_turn, starves, recovers, begins_to_read, stops_reading, becomes_upgradable, stops_upgradable, begins_to_wait, begins_to_write, upgrades_at_once, unmarks, downgrades_to_upgradable, puts, turn_after, readers_after, starved_after, value_after, IsAllowed, gives_back, entries_after, ListName, for_the_turn, for_no_readers, for_no_writer, World, list_of, told_in, entries_in, how_many_read, MayMeet, IsCause, answer_by, strays, course_of, sought_at, Share, passing, upgrading, waiting, writing, turn_as, share_of, turn_by, is_reading, verdict, seen, notifies, notifies_additionally, is_starved, is_counting}
+use Rattle.world_rwlock.proofs.Prelude.{◌≡◌, ◌≢◌, ℕ, ◌+◌, ◌<◌, ◌≤◌, ◌==◌, ◌⊎◌, inl, inr, Bool, true, false, List, map, length, Option, Some, None, refl, arith, ap, sym, ◌∙◌, subst, get_or-set_same, get_or-set_other, set, ℕ_discrete, map-set, entries_of, Answer, Value, Move, Refusal, Stage, number_of, Right, read, upgradable, how_many, inputs_of, Deed, nothing, changes, does, listed, turn_at, holder_of, starved_of, out_unlisted, holding_unlisted, out_free, Found, No, Next, Place, action_of, next_of, place_after, has_turn, in_no_writer, in_no_readers, fits_turn, OnNoWriter, OnNoReaders, RwLock, SameRoles, place_at, IsRwLock, Finds, Change, takes_turn, leaves_turn, starves, recovers, begins_to_read, stops_reading, becomes_upgradable, stops_upgradable, begins_to_wait, begins_to_write, upgrades_at_once, unmarks, downgrades_to_upgradable, puts, turn_after, readers_after, starved_after, value_after, IsAllowed, gives_back, entries_after, ListName, for_the_turn, for_no_readers, for_no_writer, World, list_of, told_in, entries_in, how_many_read, MayMeet, IsCause, answer_by, strays, course_of, sought_at, Share, passing, upgrading, waiting, writing, turn_as, share_of, turn_by, is_reading, verdict, seen, notifies, notifies_additionally, is_starved, is_counting, owes_in, owing_at, has_to_tell, mapped_at}
 use Rattle.std.proofs.Math.Seq.{map-set_same}
 use Rattle.lock_event.specs.declared.event.Mark.{Mark}
 use Rattle.world_base.proofs.of_queue.Told.{waits_at}
 use Rattle.world_rwlock.proofs.of_machine.stages.Leads.{steps_in_turn}
 use Rattle.world_rwlock.specs.Changes.{upgrades, downgrades}
 use Rattle.world_rwlock.specs.State as state
-use Rattle.world_rwlock.proofs.step.Rows.{deed_at, verdict_then, is_after_ready, Reads, Shares, Finding, is_got, WaitsAt, JoinsAt, MeetsReaders, Refuses, Reason, Judged, Room, keeps_what_it_has, lacks_memory, KeepsUpgrade, RefusedAt, Row, row}
+use Rattle.world_rwlock.proofs.step.Rows.{is_midway, deed_at, verdict_then, is_after_ready, Reads, Shares, Finding, is_got, WaitsAt, JoinsAt, MeetsReaders, Refuses, Reason, Judged, Room, keeps_what_it_has, lacks_memory, KeepsUpgrade, RefusedAt, Row, row}
 use Rattle.world_rwlock.proofs.step.Owns as owns
 use Rattle.world_rwlock.proofs.laws.Sound.{none_marked}
 use Rattle.world_rwlock.proofs.table.Views as view
@@ -105,7 +105,7 @@ pub record Known (m : Move) (l k : RwLock) (ss : List Stage) (v : ℕ) (x : Plac
   pub same : SameRoles x (place_at l.places m.party)
   pub share : share_of x ≡ share_of (place_at l.places m.party)
   pub straight : course_of x ≡ strays → ⊥
-  pub taking : (q : Purpose) → x ≡ Place.TakeTurn q → place_at l.places m.party ≡ x
+  pub midway : is_midway x ≡ true → place_at l.places m.party ≡ x
 
 module _ (m : Move) (l k : RwLock) (ss : List Stage) (opening : ℕ) (ts : List Stage) (v : ℕ) (x : Place) (f : Found) (c : Known m l k ss v x f) where
   abbrev p : ℕ
@@ -126,6 +126,13 @@ module _ (m : Move) (l k : RwLock) (ss : List Stage) (opening : ℕ) (ts : List 
   turn_here : (s : Share) → has_turn x ≡ 1 → share_of x ≡ s → turn_by (holder_of l.turn) l.places ≡ turn_as p s
   turn_here s h e = owns.turn_is l ss opening v c.laws c.fits p (has_here h) ∙ ap (turn_as p) (sym c.share ∙ e)
 
+  abbrev w : World
+  w = seen l ss opening v
+
+  -- what its place owes a list it has to tell there
+  tells : (list : ListName) → is_midway x ≡ true → owes_in list (owing_at x) ≡ true → has_to_tell list w p ≡ true
+  tells list h o = ap (owes_in list) (mapped_at owing_at l.places p Place.Out ∙ ap owing_at (c.midway h)) ∙ o
+
   allows : (d : Deed Change ListName) → Finding d l x → IsAllowed p d (seen l ss opening v)
   allows (changes begins_to_read) h = (none_marked l h.0, omega (arith, view.how_many-read l.places, h.1))
   allows (changes stops_reading) h = view.reads_at l.places p ∙ (sym reads_same ∙ h)
@@ -145,10 +152,10 @@ module _ (m : Move) (l k : RwLock) (ss : List Stage) (opening : ℕ) (ts : List 
   allows (changes (puts u)) h = absurd h
   allows nothing h = tt
   allows (does for_the_turn g) h = absurd h
-  allows (does for_no_readers (notifies k)) h = h
+  allows (does for_no_readers (notifies k)) h = (h.0, tells for_no_readers h.2 h.1)
   allows (does for_no_readers (notifies_additionally k)) h = h
   allows (does for_no_readers _) h = tt
-  allows (does for_no_writer (notifies k)) h = h
+  allows (does for_no_writer (notifies k)) h = (h.0, elim h.1 as (λ _. (has_to_tell for_no_writer w p ≡ true) ⊎ (state.sought_by w p ≡ Some read)) [ inl owed ↦ inl (tells for_no_writer h.2 owed) | inr reader ↦ inr (view.seeks_at l.places p ∙ (ap sought_at (c.midway h.2) ∙ reader)) ])
   allows (does for_no_writer (notifies_additionally k)) h = h
   allows (does for_no_writer _) h = tt
 

@@ -1,8 +1,11 @@
 -- Whoever gives something back goes on until it has told of that.
-use Rattle.world_rwlock.proofs.Prelude.{◌≡◌, ℕ, ◌<◌, ◌≤◌, ◌⊎◌, inl, inr, Bool, true, false, Option, Some, None, List, length, refl, arith, ap, sym, ◌∙◌, subst, get_or, get_or-set_same, get_or-set_other, set, sum_by, sum_by-set, get_or-le-sum_by, false≢true, true≢false, eqb-true, has_turn, notified, Answer, Call, Move, What, Begin, Within, is_drop, inputs_of, is_possible, Deed, nothing, changes, does, some_eq, none_some, stage_at, Table, End, TurnStep, Ending, Found, Place, IsLegal, TurnCourse, waiting_there, taking, has_lock, holds, decision, is_taking, is_cancelling, cancelling, Mutex, turn_at, holder_of, out_free, waiting_free, releasing_free, OnNoWriter, OnNoReaders, action_of, next_of, place_after, drop_from, OnTurn, Finds, readers, RwLock, place_at, fits_turn, reads as reads_there, Guarded, answer_by, place_for, TellsOnRelease, ListName, for_the_turn, for_no_readers, for_no_writer, list_of, is_marked, World, how_many_read, HasTurn, nothing_owed, owes_in, has_to_tell, Share, passing, upgrading, waiting, writing, turn_as, turn_by, share_of, owing_at, view_of, knows_at}
+use Rattle.world_rwlock.proofs.Prelude.{◌≡◌, ℕ, ◌<◌, ◌≤◌, ◌==◌, ◌⊎◌, inl, inr, Bool, true, false, Option, Some, None, List, length, refl, arith, ap, sym, ◌∙◌, subst, get_or, get_or-set_same, get_or-set_other, set, sum_by, sum_by-set, get_or-le-sum_by, false≢true, true≢false, eqb-true, has_turn, notified, Answer, Call, Move, What, Begin, Within, is_drop, inputs_of, is_possible, Deed, nothing, changes, does, some_eq, none_some, stage_at, Table, End, TurnStep, Ending, Found, Place, IsLegal, TurnCourse, waiting_there, taking, has_lock, holds, decision, is_taking, is_cancelling, cancelling, Mutex, turn_at, holder_of, out_free, waiting_free, releasing_free, OnNoWriter, OnNoReaders, action_of, next_of, place_after, drop_from, OnTurn, Finds, readers, RwLock, place_at, fits_turn, reads as reads_there, Guarded, answer_by, place_for, TellsOnRelease, ListName, for_the_turn, for_no_readers, for_no_writer, list_of, is_marked, World, how_many_read, HasTurn, nothing_owed, owes_in, has_to_tell, Share, passing, upgrading, waiting, writing, turn_as, turn_by, share_of, owing_at, view_of, knows_at}
 use Rattle.world_mutex.specs.machine.Deeds as mutex
 use Rattle.world_mutex.proofs.of_machine.callers.Holders as sees
 use Rattle.world_rwlock.specs.State.{Turn, reads}
+use Rattle.world_rwlock.proofs.of_machine.stages.Leads.{led, steps_in_turn}
+use Rattle.world_rwlock.proofs.table.Stages.{strays_not}
+use Rattle.world_rwlock.proofs.step.Rows.{IsLast, row, turn_row}
 use Rattle.world_rwlock.proofs.step.Acting.{Acting, fit, says}
 use Rattle.world_rwlock.proofs.step.Owed.{Owes, not_owed, owes_seen, owes_inside}
 use Rattle.world_rwlock.proofs.step.Refusing.{going_here, has_by}
@@ -305,6 +308,27 @@ module _ (t u : Table Guarded) (m : Move) (a : Answer) (w : Within) (k : Acting 
         ]
       ]
 
+  -- nobody else comes to have to tell the one that waits to write
+  its_last : (in_turn : Bool) → steps_in_turn from ≡ in_turn → IsLast t.machine.lock from to
+  its_last true h = inl ((turn_row v (turn_at n.courses p) from fnd h (led memory starving p l n from fnd k.acts.turn (fit t u m a w k))).unowed)
+  its_last false h = (row memory t.machine.lock v from fnd k.acts.finds (strays_not w from k.moves.course) h).last
+
+  only_last : has_to_tell for_no_readers old p ≡ false → has_to_tell for_no_readers new p ≡ true → (reads old p ≡ true) × (how_many_read new ≡ 0)
+  only_last had has =
+      let owes : Owes for_no_readers to = ap (λ z. owes_in for_no_readers (owing_at z)) (sym lands) ∙ (sym (owes_seen u for_no_readers p) ∙ has) in
+      elim (its_last (steps_in_turn from) refl) as (λ _. (reads old p ≡ true) × (how_many_read new ≡ 0)) [
+        | inl not ↦ absurd (false≢true (sym not ∙ owes))
+        | inr last ↦ (
+          view.reads_at t.machine.lock.places p ∙ ap (λ (z : ℕ). z == 1) (here last.0),
+          view.how_many-read u.machine.lock.places ∙ omega (arith, sum, sum_by-set reads_there t.machine.lock.places p to Place.Out known, here last.0, last.1, last.2),
+        )
+      ] where
+        here : reads_there from ≡ 1 → reads_there x ≡ 1
+        here one = sym k.moves.same.reading ∙ one
+
+        sum : readers u.machine.lock ≡ sum_by reads_there (set t.machine.lock.places p to)
+        sum = ap (sum_by reads_there) (k.acts.places ∙ ap (λ z. set t.machine.lock.places p (place_after z)) k.acts.next_is)
+
   -- ---- who has to tell
 
   abbrev Told : ListName → Place → Found → Type 0
@@ -370,6 +394,7 @@ module _ (t u : Table Guarded) (m : Move) (a : Answer) (w : Within) (k : Acting 
     turn = turn;
     bit = bit;
     last_reader = last_reader;
+    only_last = only_last;
     tells = λ list h possible. elim (told_now list h) as (λ _. (list_of new list ≡ notified (list_of old list) 1) ⊎ ((a ≡ Answer.Stepped) × (has_to_tell list new p ≡ true))) [ inl told ↦ inl told | inr later ↦ inr (told_by list later) ];
     tells_at_once = λ h possible. turn_now from fnd (owed_here for_the_turn (sym (owes_seen t for_the_turn p) ∙ h)) (told_now for_the_turn h) (fit t u m a w k) k.acts.turn;
     others = λ list q apart. owes_seen u list q ∙ (ap (λ z. owes_in list (owing_at z)) (ap (λ xs. place_at xs q) k.acts.places ∙ get_or-set_other t.machine.lock.places p q (place_after k.next) Place.Out apart) ∙ sym (owes_seen t list q));
@@ -383,6 +408,7 @@ keeps_owing w m a v same owing drops quiet = record {
   turn = λ has lost. absurd (lost (let T : Turn → Type 0 = λ z. HasTurn z m.party in subst T (sym same) has));
   bit = λ has was now. absurd (cc (was, now, same));
   last_reader = λ r none why. absurd (drops r none);
+  only_last = λ had has. absurd (false≢true (sym had ∙ (sym (ap (λ os. owes_in for_no_readers (get_or os m.party nothing_owed)) owing) ∙ has)));
   tells = λ list h possible. absurd (quiet list h possible);
   tells_at_once = λ h possible. absurd (quiet for_the_turn h possible);
   others = λ list q apart. ap (λ os. owes_in list (get_or os q nothing_owed)) owing;

@@ -1,5 +1,5 @@
 -- What each action on the word or on a list changes and decides, place by place. Written by generators/rwlock_world_rows.py.
-use Rattle.world_rwlock.proofs.Prelude.{◌≡◌, ℕ, ◌+◌, ◌<◌, ◌≤◌, ◌==◌, ◌⊎◌, ◌||◌, not, inl, inr, if◌then◌else◌, Bool, true, false, List, Option, Some, None, refl, sym, ◌∙◌, Entry, is_marked_at, without, is_party, Answer, Value, Refusal, number_of, Right, read, upgradable, Deed, nothing, changes, does, joins, asks, leaves, notifies, chosen, TurnCourse, is_out as is_out_there, is_holding, Action, Pending, Refused, Next, Found, Done, Writer, Full, NoneLeft, SomeLeft, NoMemory, Yes, No, Turn, TurnStep as Step, End, Purpose, Ending, Place, Out, Made, Reading, Upgradable, Writing, EnterRead, JoinNoWriter, LookNoWriter, AskNoWriter, PassOn, LeaveNoWriter, RefuseLeave, RefuseNotify, CancelRead, TryRead, EnterTurn, WaitTurn, TakeTurn, TryTurn, CancelTurn, CancellingTurn, ReleaseTurn, ReleasingTurn, Add, TryUpgrade, Upgrade, Mark, TryWrite, JoinNoReaders, LookNoReaders, AskNoReaders, AwaitNoReaders, LookUnlisted, LeaveNoReaders, DropRead, DropReadNotify, DropUpgradable, DropUpgradableNotify, DropWrite, CancelAwait, Unmark, UnmarkNotify, Down, DownNotify, DowngradeNotify, action_of, next_of, place_after, has_turn, in_no_writer, in_no_readers, fits_turn, OnNoWriter, OnNoReaders, RwLock, Finds, readers, marked, Change, begins_to_read, stops_reading, becomes_upgradable, stops_upgradable, begins_to_wait, begins_to_write, upgrades_at_once, unmarks, downgrades_to_upgradable, turn_after, starved_after, value_after, entries_after, gives_back, gives_up, ListName, for_the_turn, for_no_readers, for_no_writer, decided_after, answer_by, strays, course_of, sought_at, passing, upgrading, waiting, writing, turn_as, share_of, is_reading, is_upgrade, verdict, notifies_additionally}
+use Rattle.world_rwlock.proofs.Prelude.{◌≡◌, ℕ, ◌+◌, ◌<◌, ◌≤◌, ◌==◌, ◌⊎◌, ◌||◌, not, inl, inr, if◌then◌else◌, Bool, true, false, List, Option, Some, None, refl, sym, ◌∙◌, Entry, is_marked_at, without, is_party, Answer, Value, Refusal, number_of, Right, read, upgradable, Deed, nothing, changes, does, joins, asks, leaves, notifies, chosen, TurnCourse, is_out as is_out_there, is_holding, Action, Pending, Refused, Next, Found, Done, Writer, Full, NoneLeft, SomeLeft, NoMemory, Yes, No, Turn, TurnStep as Step, End, Purpose, Ending, Place, Out, Made, Reading, Upgradable, Writing, EnterRead, JoinNoWriter, LookNoWriter, AskNoWriter, PassOn, LeaveNoWriter, RefuseLeave, RefuseNotify, CancelRead, TryRead, EnterTurn, WaitTurn, TakeTurn, TryTurn, CancelTurn, CancellingTurn, ReleaseTurn, ReleasingTurn, Add, TryUpgrade, Upgrade, Mark, TryWrite, JoinNoReaders, LookNoReaders, AskNoReaders, AwaitNoReaders, LookUnlisted, LeaveNoReaders, DropRead, DropReadNotify, DropUpgradable, DropUpgradableNotify, DropWrite, CancelAwait, Unmark, UnmarkNotify, Down, DownNotify, DowngradeNotify, action_of, next_of, place_after, has_turn, in_no_writer, in_no_readers, fits_turn, OnNoWriter, OnNoReaders, RwLock, Finds, readers, marked, Change, begins_to_read, stops_reading, becomes_upgradable, stops_upgradable, begins_to_wait, begins_to_write, upgrades_at_once, unmarks, downgrades_to_upgradable, turn_after, starved_after, value_after, entries_after, gives_back, gives_up, ListName, for_the_turn, for_no_readers, for_no_writer, decided_after, answer_by, strays, course_of, sought_at, passing, upgrading, waiting, writing, turn_as, share_of, is_reading, is_upgrade, verdict, notifies_additionally, owes_in, owing_at, reads}
 use Rattle.world_rwlock.proofs.of_machine.stages.Leads.{Led, steps_in_turn}
 use Rattle.world_rwlock.specs.Changes.{upgrades, downgrades}
 use Rattle.world_rwlock.specs.State as state
@@ -57,6 +57,18 @@ Reads _ b c = c ≡ b
 abbrev pub Shares : Deed Change ListName → Place → Place → Type 0
 Shares d x q = ((has_turn x ≡ 1) × ((p : ℕ) → turn_after p d (turn_as p (share_of x)) ≡ turn_as p (share_of q))) ⊎ (((p : ℕ) (t : state.Turn) → turn_after p d t ≡ t) × (share_of q ≡ share_of x))
 
+-- no call begins at these places: in the midst of a poll that takes the turn, and where readers or the writer are notified
+abbrev pub is_midway : Place → Bool
+is_midway (TakeTurn q) = true
+is_midway PassOn = true
+is_midway (RefuseNotify r) = true
+is_midway DropReadNotify = true
+is_midway DropUpgradableNotify = true
+is_midway (UnmarkNotify r) = true
+is_midway DownNotify = true
+is_midway DowngradeNotify = true
+is_midway _ = false
+
 -- what a deed found
 abbrev pub Finding : Deed Change ListName → RwLock → Place → Type 0
 Finding (changes begins_to_read) l x = (marked l ≡ 0) × (readers l < l.limit)
@@ -72,7 +84,8 @@ Finding (changes downgrades) l x = (has_turn x ≡ 1) × (share_of x ≡ writing
 Finding (changes downgrades_to_upgradable) l x = (has_turn x ≡ 1) × (share_of x ≡ writing)
 Finding (changes _) l x = ⊥
 Finding (does for_the_turn f) l x = ⊥
-Finding (does list (notifies n)) l x = n ≡ 1
+Finding (does for_no_writer (notifies n)) l x = (n ≡ 1) × ((owes_in for_no_writer (owing_at x) ≡ true) ⊎ (sought_at x ≡ Some read)) × (is_midway x ≡ true)
+Finding (does for_no_readers (notifies n)) l x = (n ≡ 1) × (owes_in for_no_readers (owing_at x) ≡ true) × (is_midway x ≡ true)
 Finding (does list (notifies_additionally n)) l x = ⊥
 Finding _ l x = Unit {0}
 
@@ -157,6 +170,10 @@ abbrev pub RefusedAt : Place → Next → Type 0
 RefusedAt x (Next.End (Refused r) q) = ((is_made q ≡ true) × (is_upgrade x ≡ false)) ⊎ ((q ≡ LookUnlisted true) × (is_upgrade x ≡ true))
 RefusedAt x _ = Unit {0}
 
+-- only the last reader goes on to tell the one that waits to write
+abbrev pub IsLast : RwLock → Place → Place → Type 0
+IsLast l x y = (owes_in for_no_readers (owing_at y) ≡ false) ⊎ ((reads x ≡ 1) × (readers l ≡ 1) × (reads y ≡ 0))
+
 pub record Row (memory : Bool) (l : RwLock) (v : ℕ) (x : Place) (f : Found) : Type 0 where
   pub reading : Reads (deed_at x f) (is_reading x) (is_reading (place_after (next_of x f)))
   pub sharing : Shares (deed_at x f) x (place_after (next_of x f))
@@ -172,60 +189,61 @@ pub record Row (memory : Bool) (l : RwLock) (v : ℕ) (x : Place) (f : Found) : 
   pub over : is_after_ready (answer_by v (next_of x f)) ≡ false
   pub upgrade : KeepsUpgrade v x (next_of x f)
   pub refused : RefusedAt x (next_of x f)
+  pub last : IsLast l x (place_after (next_of x f))
 
 asks_so : (p : ℕ) (l m : List (Entry ℕ)) → (is_marked_at (is_party p) l ≡ true) × (m ≡ without (is_party p) l) → m ≡ (if is_marked_at (is_party p) l then without (is_party p) l else l)
 asks_so p l m o = o.1 ∙ sym (chosen (is_marked_at (is_party p) l) (without (is_party p) l) l o.0)
 
 module _ (memory : Bool) (l : RwLock) (v : ℕ) where
   pub row : (x : Place) (f : Found) → Finds memory (action_of x) f l → (course_of x ≡ strays → ⊥) → steps_in_turn x ≡ false → Row memory l v x f
-  row Out Done e n t = record { reading = refl; sharing = inr ((λ p t. refl), refl); starving = λ p s. refl; valued = λ u. refl; unturned = λ p a. refl; no_writer = λ p a b o. o; no_readers = λ p a b o. o; finding = tt; judged = λ t u. (refl, refl); room = tt; holds_on = λ t. refl; over = refl; upgrade = tt; refused = tt }
+  row Out Done e n t = record { reading = refl; sharing = inr ((λ p t. refl), refl); starving = λ p s. refl; valued = λ u. refl; unturned = λ p a. refl; no_writer = λ p a b o. o; no_readers = λ p a b o. o; finding = tt; judged = λ t u. (refl, refl); room = tt; holds_on = λ t. refl; over = refl; upgrade = tt; refused = tt; last = inl refl }
   row Out _ e n t = absurd e
   row (Made w) _ e n t = absurd (n refl)
-  row Reading Done e n t = record { reading = refl; sharing = inr ((λ p t. refl), refl); starving = λ p s. refl; valued = λ u. refl; unturned = λ p a. refl; no_writer = λ p a b o. o; no_readers = λ p a b o. o; finding = tt; judged = λ t u. (refl, refl); room = tt; holds_on = λ t. refl; over = refl; upgrade = tt; refused = tt }
+  row Reading Done e n t = record { reading = refl; sharing = inr ((λ p t. refl), refl); starving = λ p s. refl; valued = λ u. refl; unturned = λ p a. refl; no_writer = λ p a b o. o; no_readers = λ p a b o. o; finding = tt; judged = λ t u. (refl, refl); room = tt; holds_on = λ t. refl; over = refl; upgrade = tt; refused = tt; last = inl refl }
   row Reading _ e n t = absurd e
-  row Upgradable Done e n t = record { reading = refl; sharing = inr ((λ p t. refl), refl); starving = λ p s. refl; valued = λ u. refl; unturned = λ p a. refl; no_writer = λ p a b o. o; no_readers = λ p a b o. o; finding = tt; judged = λ t u. (refl, refl); room = tt; holds_on = λ t. refl; over = refl; upgrade = tt; refused = tt }
+  row Upgradable Done e n t = record { reading = refl; sharing = inr ((λ p t. refl), refl); starving = λ p s. refl; valued = λ u. refl; unturned = λ p a. refl; no_writer = λ p a b o. o; no_readers = λ p a b o. o; finding = tt; judged = λ t u. (refl, refl); room = tt; holds_on = λ t. refl; over = refl; upgrade = tt; refused = tt; last = inl refl }
   row Upgradable _ e n t = absurd e
-  row Writing Done e n t = record { reading = refl; sharing = inr ((λ p t. refl), refl); starving = λ p s. refl; valued = λ u. refl; unturned = λ p a. refl; no_writer = λ p a b o. o; no_readers = λ p a b o. o; finding = tt; judged = λ t u. (refl, refl); room = tt; holds_on = λ t. refl; over = refl; upgrade = tt; refused = tt }
+  row Writing Done e n t = record { reading = refl; sharing = inr ((λ p t. refl), refl); starving = λ p s. refl; valued = λ u. refl; unturned = λ p a. refl; no_writer = λ p a b o. o; no_readers = λ p a b o. o; finding = tt; judged = λ t u. (refl, refl); room = tt; holds_on = λ t. refl; over = refl; upgrade = tt; refused = tt; last = inl refl }
   row Writing _ e n t = absurd e
-  row (EnterRead true) Done e n t = record { reading = refl; sharing = inr ((λ p t. refl), refl); starving = λ p s. refl; valued = λ u. refl; unturned = λ p a. refl; no_writer = λ p a b o. o; no_readers = λ p a b o. o; finding = e; judged = λ t u. (refl, refl); room = tt; holds_on = λ t. refl; over = refl; upgrade = tt; refused = tt }
-  row (EnterRead true) Writer e n t = record { reading = refl; sharing = inr ((λ p t. refl), refl); starving = λ p s. refl; valued = λ u. refl; unturned = λ p a. refl; no_writer = λ p a b o. o; no_readers = λ p a b o. o; finding = tt; judged = λ t u. tt; room = tt; holds_on = λ t. refl; over = refl; upgrade = λ t h. refl; refused = tt }
-  row (EnterRead true) Full e n t = record { reading = refl; sharing = inr ((λ p t. refl), refl); starving = λ p s. refl; valued = λ u. refl; unturned = λ p a. refl; no_writer = λ p a b o. o; no_readers = λ p a b o. o; finding = tt; judged = λ t u. (Refusal.Readers, refl, (e.1, e.0)); room = tt; holds_on = λ t. refl; over = refl; upgrade = λ t h. refl; refused = tt }
+  row (EnterRead true) Done e n t = record { reading = refl; sharing = inr ((λ p t. refl), refl); starving = λ p s. refl; valued = λ u. refl; unturned = λ p a. refl; no_writer = λ p a b o. o; no_readers = λ p a b o. o; finding = e; judged = λ t u. (refl, refl); room = tt; holds_on = λ t. refl; over = refl; upgrade = tt; refused = tt; last = inl refl }
+  row (EnterRead true) Writer e n t = record { reading = refl; sharing = inr ((λ p t. refl), refl); starving = λ p s. refl; valued = λ u. refl; unturned = λ p a. refl; no_writer = λ p a b o. o; no_readers = λ p a b o. o; finding = tt; judged = λ t u. tt; room = tt; holds_on = λ t. refl; over = refl; upgrade = λ t h. refl; refused = tt; last = inl refl }
+  row (EnterRead true) Full e n t = record { reading = refl; sharing = inr ((λ p t. refl), refl); starving = λ p s. refl; valued = λ u. refl; unturned = λ p a. refl; no_writer = λ p a b o. o; no_readers = λ p a b o. o; finding = tt; judged = λ t u. (Refusal.Readers, refl, (e.1, e.0)); room = tt; holds_on = λ t. refl; over = refl; upgrade = λ t h. refl; refused = tt; last = inl refl }
   row (EnterRead true) _ e n t = absurd e
-  row (EnterRead false) Done e n t = record { reading = refl; sharing = inr ((λ p t. refl), refl); starving = λ p s. refl; valued = λ u. refl; unturned = λ p a. refl; no_writer = λ p a b o. o; no_readers = λ p a b o. o; finding = e; judged = λ t u. (refl, refl); room = tt; holds_on = λ t. refl; over = refl; upgrade = tt; refused = tt }
-  row (EnterRead false) Writer e n t = record { reading = refl; sharing = inr ((λ p t. refl), refl); starving = λ p s. refl; valued = λ u. refl; unturned = λ p a. refl; no_writer = λ p a b o. o; no_readers = λ p a b o. o; finding = tt; judged = λ t u. tt; room = tt; holds_on = λ t. refl; over = refl; upgrade = λ t h. refl; refused = tt }
-  row (EnterRead false) Full e n t = record { reading = refl; sharing = inr ((λ p t. refl), refl); starving = λ p s. refl; valued = λ u. refl; unturned = λ p a. refl; no_writer = λ p a b o. o; no_readers = λ p a b o. o; finding = tt; judged = λ t u. (Refusal.Readers, refl, (e.1, e.0)); room = tt; holds_on = λ t. refl; over = refl; upgrade = refl; refused = inl (refl, refl) }
+  row (EnterRead false) Done e n t = record { reading = refl; sharing = inr ((λ p t. refl), refl); starving = λ p s. refl; valued = λ u. refl; unturned = λ p a. refl; no_writer = λ p a b o. o; no_readers = λ p a b o. o; finding = e; judged = λ t u. (refl, refl); room = tt; holds_on = λ t. refl; over = refl; upgrade = tt; refused = tt; last = inl refl }
+  row (EnterRead false) Writer e n t = record { reading = refl; sharing = inr ((λ p t. refl), refl); starving = λ p s. refl; valued = λ u. refl; unturned = λ p a. refl; no_writer = λ p a b o. o; no_readers = λ p a b o. o; finding = tt; judged = λ t u. tt; room = tt; holds_on = λ t. refl; over = refl; upgrade = λ t h. refl; refused = tt; last = inl refl }
+  row (EnterRead false) Full e n t = record { reading = refl; sharing = inr ((λ p t. refl), refl); starving = λ p s. refl; valued = λ u. refl; unturned = λ p a. refl; no_writer = λ p a b o. o; no_readers = λ p a b o. o; finding = tt; judged = λ t u. (Refusal.Readers, refl, (e.1, e.0)); room = tt; holds_on = λ t. refl; over = refl; upgrade = refl; refused = inl (refl, refl); last = inl refl }
   row (EnterRead false) _ e n t = absurd e
-  row (JoinNoWriter true) Done e n t = record { reading = refl; sharing = inr ((λ p t. refl), refl); starving = λ p s. refl; valued = λ u. refl; unturned = λ p a. refl; no_writer = λ p a b o. o; no_readers = λ p a b o. o; finding = tt; judged = λ t u. tt; room = e; holds_on = λ t. refl; over = refl; upgrade = λ t h. refl; refused = tt }
-  row (JoinNoWriter true) NoMemory e n t = record { reading = refl; sharing = inr ((λ p t. refl), refl); starving = λ p s. refl; valued = λ u. refl; unturned = λ p a. refl; no_writer = λ p a b o. o; no_readers = λ p a b o. o; finding = tt; judged = λ t u. (Refusal.Memory, refl, (e, refl, refl, (λ t h. inl h), refl)); room = tt; holds_on = λ t. refl; over = refl; upgrade = λ t h. refl; refused = tt }
+  row (JoinNoWriter true) Done e n t = record { reading = refl; sharing = inr ((λ p t. refl), refl); starving = λ p s. refl; valued = λ u. refl; unturned = λ p a. refl; no_writer = λ p a b o. o; no_readers = λ p a b o. o; finding = tt; judged = λ t u. tt; room = e; holds_on = λ t. refl; over = refl; upgrade = λ t h. refl; refused = tt; last = inl refl }
+  row (JoinNoWriter true) NoMemory e n t = record { reading = refl; sharing = inr ((λ p t. refl), refl); starving = λ p s. refl; valued = λ u. refl; unturned = λ p a. refl; no_writer = λ p a b o. o; no_readers = λ p a b o. o; finding = tt; judged = λ t u. (Refusal.Memory, refl, (e, refl, refl, (λ t h. inl h), refl)); room = tt; holds_on = λ t. refl; over = refl; upgrade = λ t h. refl; refused = tt; last = inl refl }
   row (JoinNoWriter true) _ e n t = absurd e
-  row (JoinNoWriter false) Done e n t = record { reading = refl; sharing = inr ((λ p t. refl), refl); starving = λ p s. refl; valued = λ u. refl; unturned = λ p a. refl; no_writer = λ p a b o. o; no_readers = λ p a b o. o; finding = tt; judged = λ t u. tt; room = e; holds_on = λ t. refl; over = refl; upgrade = λ t h. refl; refused = tt }
-  row (JoinNoWriter false) NoMemory e n t = record { reading = refl; sharing = inr ((λ p t. refl), refl); starving = λ p s. refl; valued = λ u. refl; unturned = λ p a. refl; no_writer = λ p a b o. o; no_readers = λ p a b o. o; finding = tt; judged = λ t u. (Refusal.Memory, refl, (e, refl, refl, (λ t h. inl h), refl)); room = tt; holds_on = λ t. refl; over = refl; upgrade = refl; refused = inl (refl, refl) }
+  row (JoinNoWriter false) Done e n t = record { reading = refl; sharing = inr ((λ p t. refl), refl); starving = λ p s. refl; valued = λ u. refl; unturned = λ p a. refl; no_writer = λ p a b o. o; no_readers = λ p a b o. o; finding = tt; judged = λ t u. tt; room = e; holds_on = λ t. refl; over = refl; upgrade = λ t h. refl; refused = tt; last = inl refl }
+  row (JoinNoWriter false) NoMemory e n t = record { reading = refl; sharing = inr ((λ p t. refl), refl); starving = λ p s. refl; valued = λ u. refl; unturned = λ p a. refl; no_writer = λ p a b o. o; no_readers = λ p a b o. o; finding = tt; judged = λ t u. (Refusal.Memory, refl, (e, refl, refl, (λ t h. inl h), refl)); room = tt; holds_on = λ t. refl; over = refl; upgrade = refl; refused = inl (refl, refl); last = inl refl }
   row (JoinNoWriter false) _ e n t = absurd e
-  row (LookNoWriter told) Done e n t = record { reading = refl; sharing = inr ((λ p t. refl), refl); starving = λ p s. refl; valued = λ u. refl; unturned = λ p a. refl; no_writer = λ p a b o. o; no_readers = λ p a b o. o; finding = e; judged = λ t u. (refl, refl); room = tt; holds_on = λ t. refl; over = refl; upgrade = λ t h. refl; refused = tt }
-  row (LookNoWriter told) Writer e n t = record { reading = refl; sharing = inr ((λ p t. refl), refl); starving = λ p s. refl; valued = λ u. refl; unturned = λ p a. refl; no_writer = λ p a b o. o; no_readers = λ p a b o. o; finding = tt; judged = λ t u. tt; room = tt; holds_on = λ t. refl; over = refl; upgrade = λ t h. refl; refused = tt }
-  row (LookNoWriter told) Full e n t = record { reading = refl; sharing = inr ((λ p t. refl), refl); starving = λ p s. refl; valued = λ u. refl; unturned = λ p a. refl; no_writer = λ p a b o. o; no_readers = λ p a b o. o; finding = tt; judged = λ t u. (Refusal.Readers, refl, (e.1, e.0)); room = tt; holds_on = λ t. refl; over = refl; upgrade = λ t h. refl; refused = tt }
+  row (LookNoWriter told) Done e n t = record { reading = refl; sharing = inr ((λ p t. refl), refl); starving = λ p s. refl; valued = λ u. refl; unturned = λ p a. refl; no_writer = λ p a b o. o; no_readers = λ p a b o. o; finding = e; judged = λ t u. (refl, refl); room = tt; holds_on = λ t. refl; over = refl; upgrade = λ t h. refl; refused = tt; last = inl refl }
+  row (LookNoWriter told) Writer e n t = record { reading = refl; sharing = inr ((λ p t. refl), refl); starving = λ p s. refl; valued = λ u. refl; unturned = λ p a. refl; no_writer = λ p a b o. o; no_readers = λ p a b o. o; finding = tt; judged = λ t u. tt; room = tt; holds_on = λ t. refl; over = refl; upgrade = λ t h. refl; refused = tt; last = inl refl }
+  row (LookNoWriter told) Full e n t = record { reading = refl; sharing = inr ((λ p t. refl), refl); starving = λ p s. refl; valued = λ u. refl; unturned = λ p a. refl; no_writer = λ p a b o. o; no_readers = λ p a b o. o; finding = tt; judged = λ t u. (Refusal.Readers, refl, (e.1, e.0)); room = tt; holds_on = λ t. refl; over = refl; upgrade = λ t h. refl; refused = tt; last = inl refl }
   row (LookNoWriter told) _ e n t = absurd e
-  row AskNoWriter Yes e n t = record { reading = refl; sharing = inr ((λ p t. refl), refl); starving = λ p s. refl; valued = λ u. refl; unturned = λ p a. refl; no_writer = λ p a b o. asks_so p a b o; no_readers = λ p a b o. o; finding = tt; judged = λ t u. tt; room = tt; holds_on = λ t. refl; over = refl; upgrade = λ t h. refl; refused = tt }
-  row AskNoWriter No e n t = record { reading = refl; sharing = inr ((λ p t. refl), refl); starving = λ p s. refl; valued = λ u. refl; unturned = λ p a. refl; no_writer = λ p a b o. o.1; no_readers = λ p a b o. o; finding = tt; judged = λ t u. refl; room = tt; holds_on = λ t. refl; over = refl; upgrade = refl; refused = tt }
+  row AskNoWriter Yes e n t = record { reading = refl; sharing = inr ((λ p t. refl), refl); starving = λ p s. refl; valued = λ u. refl; unturned = λ p a. refl; no_writer = λ p a b o. asks_so p a b o; no_readers = λ p a b o. o; finding = tt; judged = λ t u. tt; room = tt; holds_on = λ t. refl; over = refl; upgrade = λ t h. refl; refused = tt; last = inl refl }
+  row AskNoWriter No e n t = record { reading = refl; sharing = inr ((λ p t. refl), refl); starving = λ p s. refl; valued = λ u. refl; unturned = λ p a. refl; no_writer = λ p a b o. o.1; no_readers = λ p a b o. o; finding = tt; judged = λ t u. refl; room = tt; holds_on = λ t. refl; over = refl; upgrade = refl; refused = tt; last = inl refl }
   row AskNoWriter _ e n t = absurd e
-  row PassOn Done e n t = record { reading = refl; sharing = inr ((λ p t. refl), refl); starving = λ p s. refl; valued = λ u. refl; unturned = λ p a. refl; no_writer = λ p a b o. o; no_readers = λ p a b o. o; finding = refl; judged = λ t u. tt; room = tt; holds_on = λ t. refl; over = refl; upgrade = λ t h. refl; refused = tt }
+  row PassOn Done e n t = record { reading = refl; sharing = inr ((λ p t. refl), refl); starving = λ p s. refl; valued = λ u. refl; unturned = λ p a. refl; no_writer = λ p a b o. o; no_readers = λ p a b o. o; finding = (refl, inr refl, refl); judged = λ t u. tt; room = tt; holds_on = λ t. refl; over = refl; upgrade = λ t h. refl; refused = tt; last = inl refl }
   row PassOn _ e n t = absurd e
-  row LeaveNoWriter Done e n t = record { reading = refl; sharing = inr ((λ p t. refl), refl); starving = λ p s. refl; valued = λ u. refl; unturned = λ p a. refl; no_writer = λ p a b o. o; no_readers = λ p a b o. o; finding = tt; judged = λ t u. (refl, refl); room = tt; holds_on = λ t. refl; over = refl; upgrade = tt; refused = tt }
+  row LeaveNoWriter Done e n t = record { reading = refl; sharing = inr ((λ p t. refl), refl); starving = λ p s. refl; valued = λ u. refl; unturned = λ p a. refl; no_writer = λ p a b o. o; no_readers = λ p a b o. o; finding = tt; judged = λ t u. (refl, refl); room = tt; holds_on = λ t. refl; over = refl; upgrade = tt; refused = tt; last = inl refl }
   row LeaveNoWriter _ e n t = absurd e
-  row (RefuseLeave true) Done e n t = record { reading = refl; sharing = inr ((λ p t. refl), refl); starving = λ p s. refl; valued = λ u. refl; unturned = λ p a. refl; no_writer = λ p a b o. o; no_readers = λ p a b o. o; finding = tt; judged = λ t u. (refl, refl); room = tt; holds_on = λ t. refl; over = refl; upgrade = λ t h. refl; refused = tt }
+  row (RefuseLeave true) Done e n t = record { reading = refl; sharing = inr ((λ p t. refl), refl); starving = λ p s. refl; valued = λ u. refl; unturned = λ p a. refl; no_writer = λ p a b o. o; no_readers = λ p a b o. o; finding = tt; judged = λ t u. (refl, refl); room = tt; holds_on = λ t. refl; over = refl; upgrade = λ t h. refl; refused = tt; last = inl refl }
   row (RefuseLeave true) _ e n t = absurd e
-  row (RefuseLeave false) Done e n t = record { reading = refl; sharing = inr ((λ p t. refl), refl); starving = λ p s. refl; valued = λ u. refl; unturned = λ p a. refl; no_writer = λ p a b o. o; no_readers = λ p a b o. o; finding = tt; judged = λ t u. (refl, refl); room = tt; holds_on = λ t. refl; over = refl; upgrade = refl; refused = inl (refl, refl) }
+  row (RefuseLeave false) Done e n t = record { reading = refl; sharing = inr ((λ p t. refl), refl); starving = λ p s. refl; valued = λ u. refl; unturned = λ p a. refl; no_writer = λ p a b o. o; no_readers = λ p a b o. o; finding = tt; judged = λ t u. (refl, refl); room = tt; holds_on = λ t. refl; over = refl; upgrade = refl; refused = inl (refl, refl); last = inl refl }
   row (RefuseLeave false) _ e n t = absurd e
-  row (RefuseNotify Refusal.Memory) Done e n t = record { reading = refl; sharing = inr ((λ p t. refl), refl); starving = λ p s. refl; valued = λ u. refl; unturned = λ p a. refl; no_writer = λ p a b o. o; no_readers = λ p a b o. o; finding = refl; judged = λ t u. (refl, refl); room = tt; holds_on = λ t. refl; over = refl; upgrade = refl; refused = inl (refl, refl) }
+  row (RefuseNotify Refusal.Memory) Done e n t = record { reading = refl; sharing = inr ((λ p t. refl), refl); starving = λ p s. refl; valued = λ u. refl; unturned = λ p a. refl; no_writer = λ p a b o. o; no_readers = λ p a b o. o; finding = (refl, inr refl, refl); judged = λ t u. (refl, refl); room = tt; holds_on = λ t. refl; over = refl; upgrade = refl; refused = inl (refl, refl); last = inl refl }
   row (RefuseNotify Refusal.Memory) _ e n t = absurd e
-  row (RefuseNotify Refusal.Readers) Done e n t = record { reading = refl; sharing = inr ((λ p t. refl), refl); starving = λ p s. refl; valued = λ u. refl; unturned = λ p a. refl; no_writer = λ p a b o. o; no_readers = λ p a b o. o; finding = refl; judged = λ t u. (refl, refl); room = tt; holds_on = λ t. refl; over = refl; upgrade = refl; refused = inl (refl, refl) }
+  row (RefuseNotify Refusal.Readers) Done e n t = record { reading = refl; sharing = inr ((λ p t. refl), refl); starving = λ p s. refl; valued = λ u. refl; unturned = λ p a. refl; no_writer = λ p a b o. o; no_readers = λ p a b o. o; finding = (refl, inr refl, refl); judged = λ t u. (refl, refl); room = tt; holds_on = λ t. refl; over = refl; upgrade = refl; refused = inl (refl, refl); last = inl refl }
   row (RefuseNotify Refusal.Readers) _ e n t = absurd e
   row (RefuseNotify _) _ e n t = absurd (n refl)
-  row CancelRead Done e n t = record { reading = refl; sharing = inr ((λ p t. refl), refl); starving = λ p s. refl; valued = λ u. refl; unturned = λ p a. refl; no_writer = λ p a b o. o; no_readers = λ p a b o. o; finding = tt; judged = λ t u. (refl, refl); room = tt; holds_on = λ t. refl; over = refl; upgrade = tt; refused = tt }
+  row CancelRead Done e n t = record { reading = refl; sharing = inr ((λ p t. refl), refl); starving = λ p s. refl; valued = λ u. refl; unturned = λ p a. refl; no_writer = λ p a b o. o; no_readers = λ p a b o. o; finding = tt; judged = λ t u. (refl, refl); room = tt; holds_on = λ t. refl; over = refl; upgrade = tt; refused = tt; last = inl refl }
   row CancelRead _ e n t = absurd e
-  row TryRead Done e n t = record { reading = refl; sharing = inr ((λ p t. refl), refl); starving = λ p s. refl; valued = λ u. refl; unturned = λ p a. refl; no_writer = λ p a b o. o; no_readers = λ p a b o. o; finding = e; judged = λ t u. (refl, refl); room = tt; holds_on = λ t. refl; over = refl; upgrade = tt; refused = tt }
-  row TryRead Writer e n t = record { reading = refl; sharing = inr ((λ p t. refl), refl); starving = λ p s. refl; valued = λ u. refl; unturned = λ p a. refl; no_writer = λ p a b o. o; no_readers = λ p a b o. o; finding = tt; judged = λ t u. tt; room = tt; holds_on = λ t. refl; over = refl; upgrade = tt; refused = tt }
-  row TryRead Full e n t = record { reading = refl; sharing = inr ((λ p t. refl), refl); starving = λ p s. refl; valued = λ u. refl; unturned = λ p a. refl; no_writer = λ p a b o. o; no_readers = λ p a b o. o; finding = tt; judged = λ t u. tt; room = tt; holds_on = λ t. refl; over = refl; upgrade = tt; refused = tt }
+  row TryRead Done e n t = record { reading = refl; sharing = inr ((λ p t. refl), refl); starving = λ p s. refl; valued = λ u. refl; unturned = λ p a. refl; no_writer = λ p a b o. o; no_readers = λ p a b o. o; finding = e; judged = λ t u. (refl, refl); room = tt; holds_on = λ t. refl; over = refl; upgrade = tt; refused = tt; last = inl refl }
+  row TryRead Writer e n t = record { reading = refl; sharing = inr ((λ p t. refl), refl); starving = λ p s. refl; valued = λ u. refl; unturned = λ p a. refl; no_writer = λ p a b o. o; no_readers = λ p a b o. o; finding = tt; judged = λ t u. tt; room = tt; holds_on = λ t. refl; over = refl; upgrade = tt; refused = tt; last = inl refl }
+  row TryRead Full e n t = record { reading = refl; sharing = inr ((λ p t. refl), refl); starving = λ p s. refl; valued = λ u. refl; unturned = λ p a. refl; no_writer = λ p a b o. o; no_readers = λ p a b o. o; finding = tt; judged = λ t u. tt; room = tt; holds_on = λ t. refl; over = refl; upgrade = tt; refused = tt; last = inl refl }
   row TryRead _ e n t = absurd e
   row (EnterTurn p) f e n t = absurd (cc)
   row (WaitTurn p) f e n t = absurd (cc)
@@ -235,72 +253,72 @@ module _ (memory : Bool) (l : RwLock) (v : ℕ) where
   row CancellingTurn f e n t = absurd (cc)
   row (ReleaseTurn k) f e n t = absurd (cc)
   row (ReleasingTurn k) f e n t = absurd (cc)
-  row (Add true) Done e n t = record { reading = refl; sharing = inl (refl, λ p. refl); starving = λ p s. refl; valued = λ u. refl; unturned = λ p a. refl; no_writer = λ p a b o. o; no_readers = λ p a b o. o; finding = (refl, refl, e); judged = λ t u. (refl, refl); room = tt; holds_on = λ t. refl; over = refl; upgrade = tt; refused = tt }
-  row (Add true) Full e n t = record { reading = refl; sharing = inr ((λ p t. refl), refl); starving = λ p s. refl; valued = λ u. refl; unturned = λ p a. refl; no_writer = λ p a b o. o; no_readers = λ p a b o. o; finding = tt; judged = λ t u. tt; room = tt; holds_on = λ t. refl; over = refl; upgrade = λ t h. refl; refused = tt }
+  row (Add true) Done e n t = record { reading = refl; sharing = inl (refl, λ p. refl); starving = λ p s. refl; valued = λ u. refl; unturned = λ p a. refl; no_writer = λ p a b o. o; no_readers = λ p a b o. o; finding = (refl, refl, e); judged = λ t u. (refl, refl); room = tt; holds_on = λ t. refl; over = refl; upgrade = tt; refused = tt; last = inl refl }
+  row (Add true) Full e n t = record { reading = refl; sharing = inr ((λ p t. refl), refl); starving = λ p s. refl; valued = λ u. refl; unturned = λ p a. refl; no_writer = λ p a b o. o; no_readers = λ p a b o. o; finding = tt; judged = λ t u. tt; room = tt; holds_on = λ t. refl; over = refl; upgrade = λ t h. refl; refused = tt; last = inl refl }
   row (Add true) _ e n t = absurd e
-  row (Add false) Done e n t = record { reading = refl; sharing = inl (refl, λ p. refl); starving = λ p s. refl; valued = λ u. refl; unturned = λ p a. refl; no_writer = λ p a b o. o; no_readers = λ p a b o. o; finding = (refl, refl, e); judged = λ t u. (refl, refl); room = tt; holds_on = λ t. refl; over = refl; upgrade = tt; refused = tt }
-  row (Add false) Full e n t = record { reading = refl; sharing = inr ((λ p t. refl), refl); starving = λ p s. refl; valued = λ u. refl; unturned = λ p a. refl; no_writer = λ p a b o. o; no_readers = λ p a b o. o; finding = tt; judged = λ t u. (Refusal.Readers, refl, (e, refl)); room = tt; holds_on = λ t. refl; over = refl; upgrade = λ t h. refl; refused = tt }
+  row (Add false) Done e n t = record { reading = refl; sharing = inl (refl, λ p. refl); starving = λ p s. refl; valued = λ u. refl; unturned = λ p a. refl; no_writer = λ p a b o. o; no_readers = λ p a b o. o; finding = (refl, refl, e); judged = λ t u. (refl, refl); room = tt; holds_on = λ t. refl; over = refl; upgrade = tt; refused = tt; last = inl refl }
+  row (Add false) Full e n t = record { reading = refl; sharing = inr ((λ p t. refl), refl); starving = λ p s. refl; valued = λ u. refl; unturned = λ p a. refl; no_writer = λ p a b o. o; no_readers = λ p a b o. o; finding = tt; judged = λ t u. (Refusal.Readers, refl, (e, refl)); room = tt; holds_on = λ t. refl; over = refl; upgrade = λ t h. refl; refused = tt; last = inl refl }
   row (Add false) _ e n t = absurd e
-  row TryUpgrade Done e n t = record { reading = refl; sharing = inl (refl, λ p. refl); starving = λ p s. refl; valued = λ u. refl; unturned = λ p a. refl; no_writer = λ p a b o. o; no_readers = λ p a b o. o; finding = (refl, refl, e.1); judged = λ t u. (refl, refl); room = tt; holds_on = λ t. refl; over = refl; upgrade = tt; refused = tt }
-  row TryUpgrade Found.NotFree e n t = record { reading = refl; sharing = inr ((λ p t. refl), refl); starving = λ p s. refl; valued = λ u. refl; unturned = λ p a. refl; no_writer = λ p a b o. o; no_readers = λ p a b o. o; finding = tt; judged = λ t u. tt; room = tt; holds_on = λ t. refl; over = refl; upgrade = tt; refused = tt }
+  row TryUpgrade Done e n t = record { reading = refl; sharing = inl (refl, λ p. refl); starving = λ p s. refl; valued = λ u. refl; unturned = λ p a. refl; no_writer = λ p a b o. o; no_readers = λ p a b o. o; finding = (refl, refl, e.1); judged = λ t u. (refl, refl); room = tt; holds_on = λ t. refl; over = refl; upgrade = tt; refused = tt; last = inl refl }
+  row TryUpgrade Found.NotFree e n t = record { reading = refl; sharing = inr ((λ p t. refl), refl); starving = λ p s. refl; valued = λ u. refl; unturned = λ p a. refl; no_writer = λ p a b o. o; no_readers = λ p a b o. o; finding = tt; judged = λ t u. tt; room = tt; holds_on = λ t. refl; over = refl; upgrade = tt; refused = tt; last = inl refl }
   row TryUpgrade _ e n t = absurd e
-  row Upgrade Done e n t = record { reading = refl; sharing = inl (refl, λ p. refl); starving = λ p s. refl; valued = λ u. refl; unturned = λ p a. refl; no_writer = λ p a b o. o; no_readers = λ p a b o. o; finding = (refl, refl); judged = λ t u. tt; room = tt; holds_on = λ t. refl; over = refl; upgrade = refl; refused = tt }
+  row Upgrade Done e n t = record { reading = refl; sharing = inl (refl, λ p. refl); starving = λ p s. refl; valued = λ u. refl; unturned = λ p a. refl; no_writer = λ p a b o. o; no_readers = λ p a b o. o; finding = (refl, refl); judged = λ t u. tt; room = tt; holds_on = λ t. refl; over = refl; upgrade = refl; refused = tt; last = inl refl }
   row Upgrade _ e n t = absurd e
-  row Mark NoneLeft e n t = record { reading = refl; sharing = inl (refl, λ p. refl); starving = λ p s. refl; valued = λ u. refl; unturned = λ p a. refl; no_writer = λ p a b o. o; no_readers = λ p a b o. o; finding = (refl, inl refl, e); judged = λ t u. (refl, refl); room = tt; holds_on = λ t. refl; over = refl; upgrade = tt; refused = tt }
-  row Mark SomeLeft e n t = record { reading = refl; sharing = inl (refl, λ p. refl); starving = λ p s. refl; valued = λ u. refl; unturned = λ p a. refl; no_writer = λ p a b o. o; no_readers = λ p a b o. o; finding = (refl, refl, e); judged = λ t u. tt; room = tt; holds_on = λ t. refl; over = refl; upgrade = λ t h. refl; refused = tt }
+  row Mark NoneLeft e n t = record { reading = refl; sharing = inl (refl, λ p. refl); starving = λ p s. refl; valued = λ u. refl; unturned = λ p a. refl; no_writer = λ p a b o. o; no_readers = λ p a b o. o; finding = (refl, inl refl, e); judged = λ t u. (refl, refl); room = tt; holds_on = λ t. refl; over = refl; upgrade = tt; refused = tt; last = inl refl }
+  row Mark SomeLeft e n t = record { reading = refl; sharing = inl (refl, λ p. refl); starving = λ p s. refl; valued = λ u. refl; unturned = λ p a. refl; no_writer = λ p a b o. o; no_readers = λ p a b o. o; finding = (refl, refl, e); judged = λ t u. tt; room = tt; holds_on = λ t. refl; over = refl; upgrade = λ t h. refl; refused = tt; last = inl refl }
   row Mark _ e n t = absurd e
-  row TryWrite Done e n t = record { reading = refl; sharing = inl (refl, λ p. refl); starving = λ p s. refl; valued = λ u. refl; unturned = λ p a. refl; no_writer = λ p a b o. o; no_readers = λ p a b o. o; finding = (refl, inl refl, e.1); judged = λ t u. (refl, refl); room = tt; holds_on = λ t. refl; over = refl; upgrade = tt; refused = tt }
-  row TryWrite Found.NotFree e n t = record { reading = refl; sharing = inr ((λ p t. refl), refl); starving = λ p s. refl; valued = λ u. refl; unturned = λ p a. refl; no_writer = λ p a b o. o; no_readers = λ p a b o. o; finding = tt; judged = λ t u. tt; room = tt; holds_on = λ t. refl; over = refl; upgrade = λ t h. refl; refused = tt }
+  row TryWrite Done e n t = record { reading = refl; sharing = inl (refl, λ p. refl); starving = λ p s. refl; valued = λ u. refl; unturned = λ p a. refl; no_writer = λ p a b o. o; no_readers = λ p a b o. o; finding = (refl, inl refl, e.1); judged = λ t u. (refl, refl); room = tt; holds_on = λ t. refl; over = refl; upgrade = tt; refused = tt; last = inl refl }
+  row TryWrite Found.NotFree e n t = record { reading = refl; sharing = inr ((λ p t. refl), refl); starving = λ p s. refl; valued = λ u. refl; unturned = λ p a. refl; no_writer = λ p a b o. o; no_readers = λ p a b o. o; finding = tt; judged = λ t u. tt; room = tt; holds_on = λ t. refl; over = refl; upgrade = λ t h. refl; refused = tt; last = inl refl }
   row TryWrite _ e n t = absurd e
-  row (JoinNoReaders true) Done e n t = record { reading = refl; sharing = inr ((λ p t. refl), refl); starving = λ p s. refl; valued = λ u. refl; unturned = λ p a. refl; no_writer = λ p a b o. o; no_readers = λ p a b o. o; finding = tt; judged = λ t u. tt; room = e; holds_on = λ t. refl; over = refl; upgrade = λ t h. refl; refused = tt }
-  row (JoinNoReaders true) NoMemory e n t = record { reading = refl; sharing = inr ((λ p t. refl), refl); starving = λ p s. refl; valued = λ u. refl; unturned = λ p a. refl; no_writer = λ p a b o. o; no_readers = λ p a b o. o; finding = tt; judged = λ t u. (Refusal.Memory, refl, (e, refl, refl, (λ t h. inr (h, refl, refl)), refl)); room = tt; holds_on = λ t. refl; over = refl; upgrade = refl; refused = inr (refl, refl) }
+  row (JoinNoReaders true) Done e n t = record { reading = refl; sharing = inr ((λ p t. refl), refl); starving = λ p s. refl; valued = λ u. refl; unturned = λ p a. refl; no_writer = λ p a b o. o; no_readers = λ p a b o. o; finding = tt; judged = λ t u. tt; room = e; holds_on = λ t. refl; over = refl; upgrade = λ t h. refl; refused = tt; last = inl refl }
+  row (JoinNoReaders true) NoMemory e n t = record { reading = refl; sharing = inr ((λ p t. refl), refl); starving = λ p s. refl; valued = λ u. refl; unturned = λ p a. refl; no_writer = λ p a b o. o; no_readers = λ p a b o. o; finding = tt; judged = λ t u. (Refusal.Memory, refl, (e, refl, refl, (λ t h. inr (h, refl, refl)), refl)); room = tt; holds_on = λ t. refl; over = refl; upgrade = refl; refused = inr (refl, refl); last = inl refl }
   row (JoinNoReaders true) _ e n t = absurd e
-  row (JoinNoReaders false) Done e n t = record { reading = refl; sharing = inr ((λ p t. refl), refl); starving = λ p s. refl; valued = λ u. refl; unturned = λ p a. refl; no_writer = λ p a b o. o; no_readers = λ p a b o. o; finding = tt; judged = λ t u. tt; room = e; holds_on = λ t. refl; over = refl; upgrade = λ t h. refl; refused = tt }
-  row (JoinNoReaders false) NoMemory e n t = record { reading = refl; sharing = inr ((λ p t. refl), refl); starving = λ p s. refl; valued = λ u. refl; unturned = λ p a. refl; no_writer = λ p a b o. o; no_readers = λ p a b o. o; finding = tt; judged = λ t u. (Refusal.Memory, refl, (e, refl, refl, (λ t h. inr (h, refl, refl)), refl)); room = tt; holds_on = λ t. refl; over = refl; upgrade = λ t h. refl; refused = tt }
+  row (JoinNoReaders false) Done e n t = record { reading = refl; sharing = inr ((λ p t. refl), refl); starving = λ p s. refl; valued = λ u. refl; unturned = λ p a. refl; no_writer = λ p a b o. o; no_readers = λ p a b o. o; finding = tt; judged = λ t u. tt; room = e; holds_on = λ t. refl; over = refl; upgrade = λ t h. refl; refused = tt; last = inl refl }
+  row (JoinNoReaders false) NoMemory e n t = record { reading = refl; sharing = inr ((λ p t. refl), refl); starving = λ p s. refl; valued = λ u. refl; unturned = λ p a. refl; no_writer = λ p a b o. o; no_readers = λ p a b o. o; finding = tt; judged = λ t u. (Refusal.Memory, refl, (e, refl, refl, (λ t h. inr (h, refl, refl)), refl)); room = tt; holds_on = λ t. refl; over = refl; upgrade = λ t h. refl; refused = tt; last = inl refl }
   row (JoinNoReaders false) _ e n t = absurd e
-  row (LookNoReaders u) NoneLeft e n t = record { reading = refl; sharing = inl (refl, λ p. refl); starving = λ p s. refl; valued = λ u. refl; unturned = λ p a. refl; no_writer = λ p a b o. o; no_readers = λ p a b o. o; finding = (refl, inr refl, e); judged = λ t u. (refl, refl); room = tt; holds_on = λ t. refl; over = refl; upgrade = λ t h. absurd (cc); refused = tt }
-  row (LookNoReaders u) SomeLeft e n t = record { reading = refl; sharing = inr ((λ p t. refl), refl); starving = λ p s. refl; valued = λ u. refl; unturned = λ p a. refl; no_writer = λ p a b o. o; no_readers = λ p a b o. o; finding = tt; judged = λ t u. tt; room = tt; holds_on = λ t. refl; over = refl; upgrade = λ t h. refl; refused = tt }
+  row (LookNoReaders u) NoneLeft e n t = record { reading = refl; sharing = inl (refl, λ p. refl); starving = λ p s. refl; valued = λ u. refl; unturned = λ p a. refl; no_writer = λ p a b o. o; no_readers = λ p a b o. o; finding = (refl, inr refl, e); judged = λ t u. (refl, refl); room = tt; holds_on = λ t. refl; over = refl; upgrade = λ t h. absurd (cc); refused = tt; last = inl refl }
+  row (LookNoReaders u) SomeLeft e n t = record { reading = refl; sharing = inr ((λ p t. refl), refl); starving = λ p s. refl; valued = λ u. refl; unturned = λ p a. refl; no_writer = λ p a b o. o; no_readers = λ p a b o. o; finding = tt; judged = λ t u. tt; room = tt; holds_on = λ t. refl; over = refl; upgrade = λ t h. refl; refused = tt; last = inl refl }
   row (LookNoReaders u) _ e n t = absurd e
-  row (AskNoReaders u) Yes e n t = record { reading = refl; sharing = inr ((λ p t. refl), refl); starving = λ p s. refl; valued = λ u. refl; unturned = λ p a. refl; no_writer = λ p a b o. o; no_readers = λ p a b o. asks_so p a b o; finding = tt; judged = λ t u. tt; room = tt; holds_on = λ t. refl; over = refl; upgrade = λ t h. refl; refused = tt }
-  row (AskNoReaders u) No e n t = record { reading = refl; sharing = inr ((λ p t. refl), refl); starving = λ p s. refl; valued = λ u. refl; unturned = λ p a. refl; no_writer = λ p a b o. o; no_readers = λ p a b o. o.1; finding = tt; judged = λ t u. refl; room = tt; holds_on = λ t. refl; over = refl; upgrade = refl; refused = tt }
+  row (AskNoReaders u) Yes e n t = record { reading = refl; sharing = inr ((λ p t. refl), refl); starving = λ p s. refl; valued = λ u. refl; unturned = λ p a. refl; no_writer = λ p a b o. o; no_readers = λ p a b o. asks_so p a b o; finding = tt; judged = λ t u. tt; room = tt; holds_on = λ t. refl; over = refl; upgrade = λ t h. refl; refused = tt; last = inl refl }
+  row (AskNoReaders u) No e n t = record { reading = refl; sharing = inr ((λ p t. refl), refl); starving = λ p s. refl; valued = λ u. refl; unturned = λ p a. refl; no_writer = λ p a b o. o; no_readers = λ p a b o. o.1; finding = tt; judged = λ t u. refl; room = tt; holds_on = λ t. refl; over = refl; upgrade = refl; refused = tt; last = inl refl }
   row (AskNoReaders u) _ e n t = absurd e
-  row (AwaitNoReaders u) NoneLeft e n t = record { reading = refl; sharing = inl (refl, λ p. refl); starving = λ p s. refl; valued = λ u. refl; unturned = λ p a. refl; no_writer = λ p a b o. o; no_readers = λ p a b o. o; finding = (refl, inr refl, e); judged = λ t u. (refl, refl); room = tt; holds_on = λ t. refl; over = refl; upgrade = λ t h. absurd (cc); refused = tt }
-  row (AwaitNoReaders u) SomeLeft e n t = record { reading = refl; sharing = inr ((λ p t. refl), refl); starving = λ p s. refl; valued = λ u. refl; unturned = λ p a. refl; no_writer = λ p a b o. o; no_readers = λ p a b o. o; finding = tt; judged = λ t u. tt; room = tt; holds_on = λ t. refl; over = refl; upgrade = λ t h. refl; refused = tt }
+  row (AwaitNoReaders u) NoneLeft e n t = record { reading = refl; sharing = inl (refl, λ p. refl); starving = λ p s. refl; valued = λ u. refl; unturned = λ p a. refl; no_writer = λ p a b o. o; no_readers = λ p a b o. o; finding = (refl, inr refl, e); judged = λ t u. (refl, refl); room = tt; holds_on = λ t. refl; over = refl; upgrade = λ t h. absurd (cc); refused = tt; last = inl refl }
+  row (AwaitNoReaders u) SomeLeft e n t = record { reading = refl; sharing = inr ((λ p t. refl), refl); starving = λ p s. refl; valued = λ u. refl; unturned = λ p a. refl; no_writer = λ p a b o. o; no_readers = λ p a b o. o; finding = tt; judged = λ t u. tt; room = tt; holds_on = λ t. refl; over = refl; upgrade = λ t h. refl; refused = tt; last = inl refl }
   row (AwaitNoReaders u) _ e n t = absurd e
-  row (LookUnlisted u) NoneLeft e n t = record { reading = refl; sharing = inl (refl, λ p. refl); starving = λ p s. refl; valued = λ u. refl; unturned = λ p a. refl; no_writer = λ p a b o. o; no_readers = λ p a b o. o; finding = (refl, inr refl, e); judged = λ t u. (refl, refl); room = tt; holds_on = λ t. refl; over = refl; upgrade = tt; refused = tt }
-  row (LookUnlisted u) SomeLeft e n t = record { reading = refl; sharing = inr ((λ p t. refl), refl); starving = λ p s. refl; valued = λ u. refl; unturned = λ p a. refl; no_writer = λ p a b o. o; no_readers = λ p a b o. o; finding = tt; judged = λ t u. tt; room = tt; holds_on = λ t. refl; over = refl; upgrade = λ t h. refl; refused = tt }
+  row (LookUnlisted u) NoneLeft e n t = record { reading = refl; sharing = inl (refl, λ p. refl); starving = λ p s. refl; valued = λ u. refl; unturned = λ p a. refl; no_writer = λ p a b o. o; no_readers = λ p a b o. o; finding = (refl, inr refl, e); judged = λ t u. (refl, refl); room = tt; holds_on = λ t. refl; over = refl; upgrade = tt; refused = tt; last = inl refl }
+  row (LookUnlisted u) SomeLeft e n t = record { reading = refl; sharing = inr ((λ p t. refl), refl); starving = λ p s. refl; valued = λ u. refl; unturned = λ p a. refl; no_writer = λ p a b o. o; no_readers = λ p a b o. o; finding = tt; judged = λ t u. tt; room = tt; holds_on = λ t. refl; over = refl; upgrade = λ t h. refl; refused = tt; last = inl refl }
   row (LookUnlisted u) _ e n t = absurd e
-  row LeaveNoReaders Done e n t = record { reading = refl; sharing = inr ((λ p t. refl), refl); starving = λ p s. refl; valued = λ u. refl; unturned = λ p a. refl; no_writer = λ p a b o. o; no_readers = λ p a b o. o; finding = tt; judged = λ t u. (refl, refl); room = tt; holds_on = λ t. refl; over = refl; upgrade = tt; refused = tt }
+  row LeaveNoReaders Done e n t = record { reading = refl; sharing = inr ((λ p t. refl), refl); starving = λ p s. refl; valued = λ u. refl; unturned = λ p a. refl; no_writer = λ p a b o. o; no_readers = λ p a b o. o; finding = tt; judged = λ t u. (refl, refl); room = tt; holds_on = λ t. refl; over = refl; upgrade = tt; refused = tt; last = inl refl }
   row LeaveNoReaders _ e n t = absurd e
-  row DropRead NoneLeft e n t = record { reading = refl; sharing = inr ((λ p t. refl), refl); starving = λ p s. refl; valued = λ u. refl; unturned = λ p a. refl; no_writer = λ p a b o. o; no_readers = λ p a b o. o; finding = refl; judged = λ t u. (refl, refl); room = tt; holds_on = λ t. refl; over = refl; upgrade = λ t h. refl; refused = tt }
-  row DropRead SomeLeft e n t = record { reading = refl; sharing = inr ((λ p t. refl), refl); starving = λ p s. refl; valued = λ u. refl; unturned = λ p a. refl; no_writer = λ p a b o. o; no_readers = λ p a b o. o; finding = refl; judged = λ t u. (refl, refl); room = tt; holds_on = λ t. refl; over = refl; upgrade = tt; refused = tt }
+  row DropRead NoneLeft e n t = record { reading = refl; sharing = inr ((λ p t. refl), refl); starving = λ p s. refl; valued = λ u. refl; unturned = λ p a. refl; no_writer = λ p a b o. o; no_readers = λ p a b o. o; finding = refl; judged = λ t u. (refl, refl); room = tt; holds_on = λ t. refl; over = refl; upgrade = λ t h. refl; refused = tt; last = inr (refl, e, refl) }
+  row DropRead SomeLeft e n t = record { reading = refl; sharing = inr ((λ p t. refl), refl); starving = λ p s. refl; valued = λ u. refl; unturned = λ p a. refl; no_writer = λ p a b o. o; no_readers = λ p a b o. o; finding = refl; judged = λ t u. (refl, refl); room = tt; holds_on = λ t. refl; over = refl; upgrade = tt; refused = tt; last = inl refl }
   row DropRead _ e n t = absurd e
-  row DropReadNotify Done e n t = record { reading = refl; sharing = inr ((λ p t. refl), refl); starving = λ p s. refl; valued = λ u. refl; unturned = λ p a. refl; no_writer = λ p a b o. o; no_readers = λ p a b o. o; finding = refl; judged = λ t u. (refl, refl); room = tt; holds_on = λ t. refl; over = refl; upgrade = tt; refused = tt }
+  row DropReadNotify Done e n t = record { reading = refl; sharing = inr ((λ p t. refl), refl); starving = λ p s. refl; valued = λ u. refl; unturned = λ p a. refl; no_writer = λ p a b o. o; no_readers = λ p a b o. o; finding = (refl, refl, refl); judged = λ t u. (refl, refl); room = tt; holds_on = λ t. refl; over = refl; upgrade = tt; refused = tt; last = inl refl }
   row DropReadNotify _ e n t = absurd e
-  row DropUpgradable NoneLeft e n t = record { reading = refl; sharing = inl (refl, λ p. refl); starving = λ p s. refl; valued = λ u. refl; unturned = λ p a. refl; no_writer = λ p a b o. o; no_readers = λ p a b o. o; finding = (refl, refl); judged = λ t u. (refl, refl); room = tt; holds_on = λ t. refl; over = refl; upgrade = λ t h. refl; refused = tt }
-  row DropUpgradable SomeLeft e n t = record { reading = refl; sharing = inl (refl, λ p. refl); starving = λ p s. refl; valued = λ u. refl; unturned = λ p a. refl; no_writer = λ p a b o. o; no_readers = λ p a b o. o; finding = (refl, refl); judged = λ t u. (refl, refl); room = tt; holds_on = λ t. refl; over = refl; upgrade = λ t h. refl; refused = tt }
+  row DropUpgradable NoneLeft e n t = record { reading = refl; sharing = inl (refl, λ p. refl); starving = λ p s. refl; valued = λ u. refl; unturned = λ p a. refl; no_writer = λ p a b o. o; no_readers = λ p a b o. o; finding = (refl, refl); judged = λ t u. (refl, refl); room = tt; holds_on = λ t. refl; over = refl; upgrade = λ t h. refl; refused = tt; last = inr (refl, e, refl) }
+  row DropUpgradable SomeLeft e n t = record { reading = refl; sharing = inl (refl, λ p. refl); starving = λ p s. refl; valued = λ u. refl; unturned = λ p a. refl; no_writer = λ p a b o. o; no_readers = λ p a b o. o; finding = (refl, refl); judged = λ t u. (refl, refl); room = tt; holds_on = λ t. refl; over = refl; upgrade = λ t h. refl; refused = tt; last = inl refl }
   row DropUpgradable _ e n t = absurd e
-  row DropUpgradableNotify Done e n t = record { reading = refl; sharing = inr ((λ p t. refl), refl); starving = λ p s. refl; valued = λ u. refl; unturned = λ p a. refl; no_writer = λ p a b o. o; no_readers = λ p a b o. o; finding = refl; judged = λ t u. (refl, refl); room = tt; holds_on = λ t. refl; over = refl; upgrade = λ t h. refl; refused = tt }
+  row DropUpgradableNotify Done e n t = record { reading = refl; sharing = inr ((λ p t. refl), refl); starving = λ p s. refl; valued = λ u. refl; unturned = λ p a. refl; no_writer = λ p a b o. o; no_readers = λ p a b o. o; finding = (refl, refl, refl); judged = λ t u. (refl, refl); room = tt; holds_on = λ t. refl; over = refl; upgrade = λ t h. refl; refused = tt; last = inl refl }
   row DropUpgradableNotify _ e n t = absurd e
-  row DropWrite Done e n t = record { reading = refl; sharing = inl (refl, λ p. refl); starving = λ p s. refl; valued = λ u. refl; unturned = λ p a. refl; no_writer = λ p a b o. o; no_readers = λ p a b o. o; finding = (refl, inr refl); judged = λ t u. (refl, refl); room = tt; holds_on = λ t. refl; over = refl; upgrade = λ t h. refl; refused = tt }
+  row DropWrite Done e n t = record { reading = refl; sharing = inl (refl, λ p. refl); starving = λ p s. refl; valued = λ u. refl; unturned = λ p a. refl; no_writer = λ p a b o. o; no_readers = λ p a b o. o; finding = (refl, inr refl); judged = λ t u. (refl, refl); room = tt; holds_on = λ t. refl; over = refl; upgrade = λ t h. refl; refused = tt; last = inl refl }
   row DropWrite _ e n t = absurd e
-  row CancelAwait Done e n t = record { reading = refl; sharing = inr ((λ p t. refl), refl); starving = λ p s. refl; valued = λ u. refl; unturned = λ p a. refl; no_writer = λ p a b o. o; no_readers = λ p a b o. o; finding = tt; judged = λ t u. (refl, refl); room = tt; holds_on = λ t. refl; over = refl; upgrade = λ t h. refl; refused = tt }
+  row CancelAwait Done e n t = record { reading = refl; sharing = inr ((λ p t. refl), refl); starving = λ p s. refl; valued = λ u. refl; unturned = λ p a. refl; no_writer = λ p a b o. o; no_readers = λ p a b o. o; finding = tt; judged = λ t u. (refl, refl); room = tt; holds_on = λ t. refl; over = refl; upgrade = λ t h. refl; refused = tt; last = inl refl }
   row CancelAwait _ e n t = absurd e
-  row (Unmark true) Done e n t = record { reading = refl; sharing = inl (refl, λ p. refl); starving = λ p s. refl; valued = λ u. refl; unturned = λ p a. refl; no_writer = λ p a b o. o; no_readers = λ p a b o. o; finding = (refl, inl refl); judged = λ t u. (refl, refl); room = tt; holds_on = λ t. refl; over = refl; upgrade = λ t h. refl; refused = tt }
+  row (Unmark true) Done e n t = record { reading = refl; sharing = inl (refl, λ p. refl); starving = λ p s. refl; valued = λ u. refl; unturned = λ p a. refl; no_writer = λ p a b o. o; no_readers = λ p a b o. o; finding = (refl, inl refl); judged = λ t u. (refl, refl); room = tt; holds_on = λ t. refl; over = refl; upgrade = λ t h. refl; refused = tt; last = inl refl }
   row (Unmark true) _ e n t = absurd e
-  row (Unmark false) Done e n t = record { reading = refl; sharing = inl (refl, λ p. refl); starving = λ p s. refl; valued = λ u. refl; unturned = λ p a. refl; no_writer = λ p a b o. o; no_readers = λ p a b o. o; finding = (refl, inl refl); judged = λ t u. (refl, refl); room = tt; holds_on = λ t. refl; over = refl; upgrade = λ t h. refl; refused = tt }
+  row (Unmark false) Done e n t = record { reading = refl; sharing = inl (refl, λ p. refl); starving = λ p s. refl; valued = λ u. refl; unturned = λ p a. refl; no_writer = λ p a b o. o; no_readers = λ p a b o. o; finding = (refl, inl refl); judged = λ t u. (refl, refl); room = tt; holds_on = λ t. refl; over = refl; upgrade = λ t h. refl; refused = tt; last = inl refl }
   row (Unmark false) _ e n t = absurd e
-  row (UnmarkNotify true) Done e n t = record { reading = refl; sharing = inr ((λ p t. refl), refl); starving = λ p s. refl; valued = λ u. refl; unturned = λ p a. refl; no_writer = λ p a b o. o; no_readers = λ p a b o. o; finding = refl; judged = λ t u. (refl, refl); room = tt; holds_on = λ t. refl; over = refl; upgrade = λ t h. refl; refused = tt }
+  row (UnmarkNotify true) Done e n t = record { reading = refl; sharing = inr ((λ p t. refl), refl); starving = λ p s. refl; valued = λ u. refl; unturned = λ p a. refl; no_writer = λ p a b o. o; no_readers = λ p a b o. o; finding = (refl, inl refl, refl); judged = λ t u. (refl, refl); room = tt; holds_on = λ t. refl; over = refl; upgrade = λ t h. refl; refused = tt; last = inl refl }
   row (UnmarkNotify true) _ e n t = absurd e
-  row (UnmarkNotify false) Done e n t = record { reading = refl; sharing = inr ((λ p t. refl), refl); starving = λ p s. refl; valued = λ u. refl; unturned = λ p a. refl; no_writer = λ p a b o. o; no_readers = λ p a b o. o; finding = refl; judged = λ t u. (refl, refl); room = tt; holds_on = λ t. refl; over = refl; upgrade = λ t h. refl; refused = tt }
+  row (UnmarkNotify false) Done e n t = record { reading = refl; sharing = inr ((λ p t. refl), refl); starving = λ p s. refl; valued = λ u. refl; unturned = λ p a. refl; no_writer = λ p a b o. o; no_readers = λ p a b o. o; finding = (refl, inl refl, refl); judged = λ t u. (refl, refl); room = tt; holds_on = λ t. refl; over = refl; upgrade = λ t h. refl; refused = tt; last = inl refl }
   row (UnmarkNotify false) _ e n t = absurd e
-  row (Down true) Done e n t = record { reading = refl; sharing = inl (refl, λ p. refl); starving = λ p s. refl; valued = λ u. refl; unturned = λ p a. refl; no_writer = λ p a b o. o; no_readers = λ p a b o. o; finding = (refl, refl); judged = λ t u. tt; room = tt; holds_on = λ t. refl; over = refl; upgrade = λ t h. refl; refused = tt }
+  row (Down true) Done e n t = record { reading = refl; sharing = inl (refl, λ p. refl); starving = λ p s. refl; valued = λ u. refl; unturned = λ p a. refl; no_writer = λ p a b o. o; no_readers = λ p a b o. o; finding = (refl, refl); judged = λ t u. tt; room = tt; holds_on = λ t. refl; over = refl; upgrade = λ t h. refl; refused = tt; last = inl refl }
   row (Down true) _ e n t = absurd e
-  row (Down false) Done e n t = record { reading = refl; sharing = inl (refl, λ p. refl); starving = λ p s. refl; valued = λ u. refl; unturned = λ p a. refl; no_writer = λ p a b o. o; no_readers = λ p a b o. o; finding = (refl, refl); judged = λ t u. tt; room = tt; holds_on = λ t. refl; over = refl; upgrade = λ t h. refl; refused = tt }
+  row (Down false) Done e n t = record { reading = refl; sharing = inl (refl, λ p. refl); starving = λ p s. refl; valued = λ u. refl; unturned = λ p a. refl; no_writer = λ p a b o. o; no_readers = λ p a b o. o; finding = (refl, refl); judged = λ t u. tt; room = tt; holds_on = λ t. refl; over = refl; upgrade = λ t h. refl; refused = tt; last = inl refl }
   row (Down false) _ e n t = absurd e
-  row DownNotify Done e n t = record { reading = refl; sharing = inr ((λ p t. refl), refl); starving = λ p s. refl; valued = λ u. refl; unturned = λ p a. refl; no_writer = λ p a b o. o; no_readers = λ p a b o. o; finding = refl; judged = λ t u. (refl, refl); room = tt; holds_on = λ t. refl; over = refl; upgrade = tt; refused = tt }
+  row DownNotify Done e n t = record { reading = refl; sharing = inr ((λ p t. refl), refl); starving = λ p s. refl; valued = λ u. refl; unturned = λ p a. refl; no_writer = λ p a b o. o; no_readers = λ p a b o. o; finding = (refl, inl refl, refl); judged = λ t u. (refl, refl); room = tt; holds_on = λ t. refl; over = refl; upgrade = tt; refused = tt; last = inl refl }
   row DownNotify _ e n t = absurd e
-  row DowngradeNotify Done e n t = record { reading = refl; sharing = inr ((λ p t. refl), refl); starving = λ p s. refl; valued = λ u. refl; unturned = λ p a. refl; no_writer = λ p a b o. o; no_readers = λ p a b o. o; finding = refl; judged = λ t u. (refl, refl); room = tt; holds_on = λ t. refl; over = refl; upgrade = tt; refused = tt }
+  row DowngradeNotify Done e n t = record { reading = refl; sharing = inr ((λ p t. refl), refl); starving = λ p s. refl; valued = λ u. refl; unturned = λ p a. refl; no_writer = λ p a b o. o; no_readers = λ p a b o. o; finding = (refl, inl refl, refl); judged = λ t u. (refl, refl); room = tt; holds_on = λ t. refl; over = refl; upgrade = tt; refused = tt; last = inl refl }
   row DowngradeNotify _ e n t = absurd e
 
 -- ---- actions on the turn
@@ -311,106 +329,107 @@ pub record TurnRow (v : ℕ) (x : Place) (f : Found) : Type 0 where
   pub over : is_after_ready (answer_by v (next_of x f)) ≡ false
   pub upgrade : KeepsUpgrade v x (next_of x f)
   pub refused : RefusedAt x (next_of x f)
+  pub unowed : owes_in for_no_readers (owing_at (place_after (next_of x f))) ≡ false
 
 pub turn_row : (v : ℕ) (u : TurnCourse) (x : Place) (f : Found) → steps_in_turn x ≡ true → Led x f u → TurnRow v x f
-turn_row v u (EnterTurn Purpose.UpgradableRead) (Turn Step.More) t e = record { reading = refl; sharing = refl; over = refl; upgrade = λ t h. refl; refused = tt }
-turn_row v u (EnterTurn Purpose.UpgradableRead) (Turn (Step.End End.Got)) t e = record { reading = refl; sharing = refl; over = refl; upgrade = λ t h. refl; refused = tt }
-turn_row v u (EnterTurn Purpose.UpgradableRead) (Turn (Step.End End.Pending)) t e = record { reading = refl; sharing = refl; over = refl; upgrade = refl; refused = tt }
-turn_row v u (EnterTurn Purpose.UpgradableRead) (Turn (Step.End (End.Refused Refusal.Memory))) t e = record { reading = refl; sharing = refl; over = refl; upgrade = refl; refused = inl (refl, refl) }
-turn_row v u (EnterTurn Purpose.UpgradableRead) (Turn (Step.End (End.Refused Refusal.Starved))) t e = record { reading = refl; sharing = refl; over = refl; upgrade = refl; refused = inl (refl, refl) }
+turn_row v u (EnterTurn Purpose.UpgradableRead) (Turn Step.More) t e = record { reading = refl; sharing = refl; over = refl; upgrade = λ t h. refl; refused = tt; unowed = refl }
+turn_row v u (EnterTurn Purpose.UpgradableRead) (Turn (Step.End End.Got)) t e = record { reading = refl; sharing = refl; over = refl; upgrade = λ t h. refl; refused = tt; unowed = refl }
+turn_row v u (EnterTurn Purpose.UpgradableRead) (Turn (Step.End End.Pending)) t e = record { reading = refl; sharing = refl; over = refl; upgrade = refl; refused = tt; unowed = refl }
+turn_row v u (EnterTurn Purpose.UpgradableRead) (Turn (Step.End (End.Refused Refusal.Memory))) t e = record { reading = refl; sharing = refl; over = refl; upgrade = refl; refused = inl (refl, refl); unowed = refl }
+turn_row v u (EnterTurn Purpose.UpgradableRead) (Turn (Step.End (End.Refused Refusal.Starved))) t e = record { reading = refl; sharing = refl; over = refl; upgrade = refl; refused = inl (refl, refl); unowed = refl }
 turn_row v u (EnterTurn Purpose.UpgradableRead) (Turn _) t e = absurd e
 turn_row v u (EnterTurn Purpose.UpgradableRead) _ t e = absurd e
-turn_row v u (EnterTurn Purpose.Write) (Turn Step.More) t e = record { reading = refl; sharing = refl; over = refl; upgrade = λ t h. refl; refused = tt }
-turn_row v u (EnterTurn Purpose.Write) (Turn (Step.End End.Got)) t e = record { reading = refl; sharing = refl; over = refl; upgrade = λ t h. refl; refused = tt }
-turn_row v u (EnterTurn Purpose.Write) (Turn (Step.End End.Pending)) t e = record { reading = refl; sharing = refl; over = refl; upgrade = refl; refused = tt }
-turn_row v u (EnterTurn Purpose.Write) (Turn (Step.End (End.Refused Refusal.Memory))) t e = record { reading = refl; sharing = refl; over = refl; upgrade = refl; refused = inl (refl, refl) }
-turn_row v u (EnterTurn Purpose.Write) (Turn (Step.End (End.Refused Refusal.Starved))) t e = record { reading = refl; sharing = refl; over = refl; upgrade = refl; refused = inl (refl, refl) }
+turn_row v u (EnterTurn Purpose.Write) (Turn Step.More) t e = record { reading = refl; sharing = refl; over = refl; upgrade = λ t h. refl; refused = tt; unowed = refl }
+turn_row v u (EnterTurn Purpose.Write) (Turn (Step.End End.Got)) t e = record { reading = refl; sharing = refl; over = refl; upgrade = λ t h. refl; refused = tt; unowed = refl }
+turn_row v u (EnterTurn Purpose.Write) (Turn (Step.End End.Pending)) t e = record { reading = refl; sharing = refl; over = refl; upgrade = refl; refused = tt; unowed = refl }
+turn_row v u (EnterTurn Purpose.Write) (Turn (Step.End (End.Refused Refusal.Memory))) t e = record { reading = refl; sharing = refl; over = refl; upgrade = refl; refused = inl (refl, refl); unowed = refl }
+turn_row v u (EnterTurn Purpose.Write) (Turn (Step.End (End.Refused Refusal.Starved))) t e = record { reading = refl; sharing = refl; over = refl; upgrade = refl; refused = inl (refl, refl); unowed = refl }
 turn_row v u (EnterTurn Purpose.Write) (Turn _) t e = absurd e
 turn_row v u (EnterTurn Purpose.Write) _ t e = absurd e
-turn_row v u (WaitTurn Purpose.UpgradableRead) (Turn Step.More) t e = record { reading = refl; sharing = refl; over = refl; upgrade = λ t h. refl; refused = tt }
-turn_row v u (WaitTurn Purpose.UpgradableRead) (Turn (Step.End End.Got)) t e = record { reading = refl; sharing = refl; over = refl; upgrade = λ t h. refl; refused = tt }
-turn_row v u (WaitTurn Purpose.UpgradableRead) (Turn (Step.End End.Pending)) t e = record { reading = refl; sharing = refl; over = refl; upgrade = refl; refused = tt }
-turn_row v u (WaitTurn Purpose.UpgradableRead) (Turn (Step.End (End.Refused Refusal.Memory))) t e = record { reading = refl; sharing = refl; over = refl; upgrade = refl; refused = inl (refl, refl) }
-turn_row v u (WaitTurn Purpose.UpgradableRead) (Turn (Step.End (End.Refused Refusal.Starved))) t e = record { reading = refl; sharing = refl; over = refl; upgrade = refl; refused = inl (refl, refl) }
+turn_row v u (WaitTurn Purpose.UpgradableRead) (Turn Step.More) t e = record { reading = refl; sharing = refl; over = refl; upgrade = λ t h. refl; refused = tt; unowed = refl }
+turn_row v u (WaitTurn Purpose.UpgradableRead) (Turn (Step.End End.Got)) t e = record { reading = refl; sharing = refl; over = refl; upgrade = λ t h. refl; refused = tt; unowed = refl }
+turn_row v u (WaitTurn Purpose.UpgradableRead) (Turn (Step.End End.Pending)) t e = record { reading = refl; sharing = refl; over = refl; upgrade = refl; refused = tt; unowed = refl }
+turn_row v u (WaitTurn Purpose.UpgradableRead) (Turn (Step.End (End.Refused Refusal.Memory))) t e = record { reading = refl; sharing = refl; over = refl; upgrade = refl; refused = inl (refl, refl); unowed = refl }
+turn_row v u (WaitTurn Purpose.UpgradableRead) (Turn (Step.End (End.Refused Refusal.Starved))) t e = record { reading = refl; sharing = refl; over = refl; upgrade = refl; refused = inl (refl, refl); unowed = refl }
 turn_row v u (WaitTurn Purpose.UpgradableRead) (Turn _) t e = absurd e
 turn_row v u (WaitTurn Purpose.UpgradableRead) _ t e = absurd e
-turn_row v u (WaitTurn Purpose.Write) (Turn Step.More) t e = record { reading = refl; sharing = refl; over = refl; upgrade = λ t h. refl; refused = tt }
-turn_row v u (WaitTurn Purpose.Write) (Turn (Step.End End.Got)) t e = record { reading = refl; sharing = refl; over = refl; upgrade = λ t h. refl; refused = tt }
-turn_row v u (WaitTurn Purpose.Write) (Turn (Step.End End.Pending)) t e = record { reading = refl; sharing = refl; over = refl; upgrade = refl; refused = tt }
-turn_row v u (WaitTurn Purpose.Write) (Turn (Step.End (End.Refused Refusal.Memory))) t e = record { reading = refl; sharing = refl; over = refl; upgrade = refl; refused = inl (refl, refl) }
-turn_row v u (WaitTurn Purpose.Write) (Turn (Step.End (End.Refused Refusal.Starved))) t e = record { reading = refl; sharing = refl; over = refl; upgrade = refl; refused = inl (refl, refl) }
+turn_row v u (WaitTurn Purpose.Write) (Turn Step.More) t e = record { reading = refl; sharing = refl; over = refl; upgrade = λ t h. refl; refused = tt; unowed = refl }
+turn_row v u (WaitTurn Purpose.Write) (Turn (Step.End End.Got)) t e = record { reading = refl; sharing = refl; over = refl; upgrade = λ t h. refl; refused = tt; unowed = refl }
+turn_row v u (WaitTurn Purpose.Write) (Turn (Step.End End.Pending)) t e = record { reading = refl; sharing = refl; over = refl; upgrade = refl; refused = tt; unowed = refl }
+turn_row v u (WaitTurn Purpose.Write) (Turn (Step.End (End.Refused Refusal.Memory))) t e = record { reading = refl; sharing = refl; over = refl; upgrade = refl; refused = inl (refl, refl); unowed = refl }
+turn_row v u (WaitTurn Purpose.Write) (Turn (Step.End (End.Refused Refusal.Starved))) t e = record { reading = refl; sharing = refl; over = refl; upgrade = refl; refused = inl (refl, refl); unowed = refl }
 turn_row v u (WaitTurn Purpose.Write) (Turn _) t e = absurd e
 turn_row v u (WaitTurn Purpose.Write) _ t e = absurd e
-turn_row v u (TakeTurn Purpose.UpgradableRead) (Turn Step.More) t e = record { reading = refl; sharing = refl; over = refl; upgrade = λ t h. refl; refused = tt }
-turn_row v u (TakeTurn Purpose.UpgradableRead) (Turn (Step.End End.Got)) t e = record { reading = refl; sharing = refl; over = refl; upgrade = λ t h. refl; refused = tt }
-turn_row v u (TakeTurn Purpose.UpgradableRead) (Turn (Step.End End.Pending)) t e = record { reading = refl; sharing = refl; over = refl; upgrade = refl; refused = tt }
-turn_row v u (TakeTurn Purpose.UpgradableRead) (Turn (Step.End (End.Refused Refusal.Memory))) t e = record { reading = refl; sharing = refl; over = refl; upgrade = refl; refused = inl (refl, refl) }
-turn_row v u (TakeTurn Purpose.UpgradableRead) (Turn (Step.End (End.Refused Refusal.Starved))) t e = record { reading = refl; sharing = refl; over = refl; upgrade = refl; refused = inl (refl, refl) }
+turn_row v u (TakeTurn Purpose.UpgradableRead) (Turn Step.More) t e = record { reading = refl; sharing = refl; over = refl; upgrade = λ t h. refl; refused = tt; unowed = refl }
+turn_row v u (TakeTurn Purpose.UpgradableRead) (Turn (Step.End End.Got)) t e = record { reading = refl; sharing = refl; over = refl; upgrade = λ t h. refl; refused = tt; unowed = refl }
+turn_row v u (TakeTurn Purpose.UpgradableRead) (Turn (Step.End End.Pending)) t e = record { reading = refl; sharing = refl; over = refl; upgrade = refl; refused = tt; unowed = refl }
+turn_row v u (TakeTurn Purpose.UpgradableRead) (Turn (Step.End (End.Refused Refusal.Memory))) t e = record { reading = refl; sharing = refl; over = refl; upgrade = refl; refused = inl (refl, refl); unowed = refl }
+turn_row v u (TakeTurn Purpose.UpgradableRead) (Turn (Step.End (End.Refused Refusal.Starved))) t e = record { reading = refl; sharing = refl; over = refl; upgrade = refl; refused = inl (refl, refl); unowed = refl }
 turn_row v u (TakeTurn Purpose.UpgradableRead) (Turn _) t e = absurd e
 turn_row v u (TakeTurn Purpose.UpgradableRead) _ t e = absurd e
-turn_row v u (TakeTurn Purpose.Write) (Turn Step.More) t e = record { reading = refl; sharing = refl; over = refl; upgrade = λ t h. refl; refused = tt }
-turn_row v u (TakeTurn Purpose.Write) (Turn (Step.End End.Got)) t e = record { reading = refl; sharing = refl; over = refl; upgrade = λ t h. refl; refused = tt }
-turn_row v u (TakeTurn Purpose.Write) (Turn (Step.End End.Pending)) t e = record { reading = refl; sharing = refl; over = refl; upgrade = refl; refused = tt }
-turn_row v u (TakeTurn Purpose.Write) (Turn (Step.End (End.Refused Refusal.Memory))) t e = record { reading = refl; sharing = refl; over = refl; upgrade = refl; refused = inl (refl, refl) }
-turn_row v u (TakeTurn Purpose.Write) (Turn (Step.End (End.Refused Refusal.Starved))) t e = record { reading = refl; sharing = refl; over = refl; upgrade = refl; refused = inl (refl, refl) }
+turn_row v u (TakeTurn Purpose.Write) (Turn Step.More) t e = record { reading = refl; sharing = refl; over = refl; upgrade = λ t h. refl; refused = tt; unowed = refl }
+turn_row v u (TakeTurn Purpose.Write) (Turn (Step.End End.Got)) t e = record { reading = refl; sharing = refl; over = refl; upgrade = λ t h. refl; refused = tt; unowed = refl }
+turn_row v u (TakeTurn Purpose.Write) (Turn (Step.End End.Pending)) t e = record { reading = refl; sharing = refl; over = refl; upgrade = refl; refused = tt; unowed = refl }
+turn_row v u (TakeTurn Purpose.Write) (Turn (Step.End (End.Refused Refusal.Memory))) t e = record { reading = refl; sharing = refl; over = refl; upgrade = refl; refused = inl (refl, refl); unowed = refl }
+turn_row v u (TakeTurn Purpose.Write) (Turn (Step.End (End.Refused Refusal.Starved))) t e = record { reading = refl; sharing = refl; over = refl; upgrade = refl; refused = inl (refl, refl); unowed = refl }
 turn_row v u (TakeTurn Purpose.Write) (Turn _) t e = absurd e
 turn_row v u (TakeTurn Purpose.Write) _ t e = absurd e
-turn_row v u (TryTurn Purpose.UpgradableRead) (Turn (Step.End End.Got)) t e = record { reading = refl; sharing = refl; over = refl; upgrade = λ t h. refl; refused = tt }
-turn_row v u (TryTurn Purpose.UpgradableRead) (Turn (Step.End End.NotFree)) t e = record { reading = refl; sharing = refl; over = refl; upgrade = tt; refused = tt }
+turn_row v u (TryTurn Purpose.UpgradableRead) (Turn (Step.End End.Got)) t e = record { reading = refl; sharing = refl; over = refl; upgrade = λ t h. refl; refused = tt; unowed = refl }
+turn_row v u (TryTurn Purpose.UpgradableRead) (Turn (Step.End End.NotFree)) t e = record { reading = refl; sharing = refl; over = refl; upgrade = tt; refused = tt; unowed = refl }
 turn_row v u (TryTurn Purpose.UpgradableRead) (Turn _) t e = absurd e
 turn_row v u (TryTurn Purpose.UpgradableRead) _ t e = absurd e
-turn_row v u (TryTurn Purpose.Write) (Turn (Step.End End.Got)) t e = record { reading = refl; sharing = refl; over = refl; upgrade = λ t h. refl; refused = tt }
-turn_row v u (TryTurn Purpose.Write) (Turn (Step.End End.NotFree)) t e = record { reading = refl; sharing = refl; over = refl; upgrade = tt; refused = tt }
+turn_row v u (TryTurn Purpose.Write) (Turn (Step.End End.Got)) t e = record { reading = refl; sharing = refl; over = refl; upgrade = λ t h. refl; refused = tt; unowed = refl }
+turn_row v u (TryTurn Purpose.Write) (Turn (Step.End End.NotFree)) t e = record { reading = refl; sharing = refl; over = refl; upgrade = tt; refused = tt; unowed = refl }
 turn_row v u (TryTurn Purpose.Write) (Turn _) t e = absurd e
 turn_row v u (TryTurn Purpose.Write) _ t e = absurd e
-turn_row v u CancelTurn (Turn Step.More) t e = record { reading = refl; sharing = refl; over = refl; upgrade = λ t h. refl; refused = tt }
-turn_row v u CancelTurn (Turn (Step.End End.GivenBack)) t e = record { reading = refl; sharing = refl; over = refl; upgrade = tt; refused = tt }
+turn_row v u CancelTurn (Turn Step.More) t e = record { reading = refl; sharing = refl; over = refl; upgrade = λ t h. refl; refused = tt; unowed = refl }
+turn_row v u CancelTurn (Turn (Step.End End.GivenBack)) t e = record { reading = refl; sharing = refl; over = refl; upgrade = tt; refused = tt; unowed = refl }
 turn_row v u CancelTurn (Turn _) t e = absurd e
 turn_row v u CancelTurn _ t e = absurd e
-turn_row v u CancellingTurn (Turn Step.More) t e = record { reading = refl; sharing = refl; over = refl; upgrade = λ t h. refl; refused = tt }
-turn_row v u CancellingTurn (Turn (Step.End End.GivenBack)) t e = record { reading = refl; sharing = refl; over = refl; upgrade = tt; refused = tt }
+turn_row v u CancellingTurn (Turn Step.More) t e = record { reading = refl; sharing = refl; over = refl; upgrade = λ t h. refl; refused = tt; unowed = refl }
+turn_row v u CancellingTurn (Turn (Step.End End.GivenBack)) t e = record { reading = refl; sharing = refl; over = refl; upgrade = tt; refused = tt; unowed = refl }
 turn_row v u CancellingTurn (Turn _) t e = absurd e
 turn_row v u CancellingTurn _ t e = absurd e
-turn_row v u (ReleaseTurn Ending.GivenBack) (Turn Step.More) t e = record { reading = refl; sharing = refl; over = refl; upgrade = λ t h. refl; refused = tt }
-turn_row v u (ReleaseTurn Ending.GivenBack) (Turn (Step.End End.GivenBack)) t e = record { reading = refl; sharing = refl; over = refl; upgrade = tt; refused = tt }
+turn_row v u (ReleaseTurn Ending.GivenBack) (Turn Step.More) t e = record { reading = refl; sharing = refl; over = refl; upgrade = λ t h. refl; refused = tt; unowed = refl }
+turn_row v u (ReleaseTurn Ending.GivenBack) (Turn (Step.End End.GivenBack)) t e = record { reading = refl; sharing = refl; over = refl; upgrade = tt; refused = tt; unowed = refl }
 turn_row v u (ReleaseTurn Ending.GivenBack) (Turn _) t e = absurd e
 turn_row v u (ReleaseTurn Ending.GivenBack) _ t e = absurd e
-turn_row v u (ReleasingTurn Ending.GivenBack) (Turn (Step.End End.GivenBack)) t e = record { reading = refl; sharing = refl; over = refl; upgrade = tt; refused = tt }
+turn_row v u (ReleasingTurn Ending.GivenBack) (Turn (Step.End End.GivenBack)) t e = record { reading = refl; sharing = refl; over = refl; upgrade = tt; refused = tt; unowed = refl }
 turn_row v u (ReleasingTurn Ending.GivenBack) (Turn _) t e = absurd e
 turn_row v u (ReleasingTurn Ending.GivenBack) _ t e = absurd e
-turn_row v u (ReleaseTurn (Ending.NotFree p)) (Turn Step.More) t e = record { reading = refl; sharing = refl; over = refl; upgrade = λ t h. refl; refused = tt }
-turn_row v u (ReleaseTurn (Ending.NotFree p)) (Turn (Step.End End.GivenBack)) t e = record { reading = refl; sharing = refl; over = refl; upgrade = tt; refused = tt }
+turn_row v u (ReleaseTurn (Ending.NotFree p)) (Turn Step.More) t e = record { reading = refl; sharing = refl; over = refl; upgrade = λ t h. refl; refused = tt; unowed = refl }
+turn_row v u (ReleaseTurn (Ending.NotFree p)) (Turn (Step.End End.GivenBack)) t e = record { reading = refl; sharing = refl; over = refl; upgrade = tt; refused = tt; unowed = refl }
 turn_row v u (ReleaseTurn (Ending.NotFree p)) (Turn _) t e = absurd e
 turn_row v u (ReleaseTurn (Ending.NotFree p)) _ t e = absurd e
-turn_row v u (ReleasingTurn (Ending.NotFree p)) (Turn (Step.End End.GivenBack)) t e = record { reading = refl; sharing = refl; over = refl; upgrade = tt; refused = tt }
+turn_row v u (ReleasingTurn (Ending.NotFree p)) (Turn (Step.End End.GivenBack)) t e = record { reading = refl; sharing = refl; over = refl; upgrade = tt; refused = tt; unowed = refl }
 turn_row v u (ReleasingTurn (Ending.NotFree p)) (Turn _) t e = absurd e
 turn_row v u (ReleasingTurn (Ending.NotFree p)) _ t e = absurd e
-turn_row v u (ReleaseTurn Ending.RefuseReaders) (Turn Step.More) t e = record { reading = refl; sharing = refl; over = refl; upgrade = λ t h. refl; refused = tt }
-turn_row v u (ReleaseTurn Ending.RefuseReaders) (Turn (Step.End End.GivenBack)) t e = record { reading = refl; sharing = refl; over = refl; upgrade = refl; refused = inl (refl, refl) }
+turn_row v u (ReleaseTurn Ending.RefuseReaders) (Turn Step.More) t e = record { reading = refl; sharing = refl; over = refl; upgrade = λ t h. refl; refused = tt; unowed = refl }
+turn_row v u (ReleaseTurn Ending.RefuseReaders) (Turn (Step.End End.GivenBack)) t e = record { reading = refl; sharing = refl; over = refl; upgrade = refl; refused = inl (refl, refl); unowed = refl }
 turn_row v u (ReleaseTurn Ending.RefuseReaders) (Turn _) t e = absurd e
 turn_row v u (ReleaseTurn Ending.RefuseReaders) _ t e = absurd e
-turn_row v u (ReleasingTurn Ending.RefuseReaders) (Turn (Step.End End.GivenBack)) t e = record { reading = refl; sharing = refl; over = refl; upgrade = refl; refused = inl (refl, refl) }
+turn_row v u (ReleasingTurn Ending.RefuseReaders) (Turn (Step.End End.GivenBack)) t e = record { reading = refl; sharing = refl; over = refl; upgrade = refl; refused = inl (refl, refl); unowed = refl }
 turn_row v u (ReleasingTurn Ending.RefuseReaders) (Turn _) t e = absurd e
 turn_row v u (ReleasingTurn Ending.RefuseReaders) _ t e = absurd e
-turn_row v u (ReleaseTurn Ending.RefuseMemory) (Turn Step.More) t e = record { reading = refl; sharing = refl; over = refl; upgrade = λ t h. refl; refused = tt }
-turn_row v u (ReleaseTurn Ending.RefuseMemory) (Turn (Step.End End.GivenBack)) t e = record { reading = refl; sharing = refl; over = refl; upgrade = refl; refused = inl (refl, refl) }
+turn_row v u (ReleaseTurn Ending.RefuseMemory) (Turn Step.More) t e = record { reading = refl; sharing = refl; over = refl; upgrade = λ t h. refl; refused = tt; unowed = refl }
+turn_row v u (ReleaseTurn Ending.RefuseMemory) (Turn (Step.End End.GivenBack)) t e = record { reading = refl; sharing = refl; over = refl; upgrade = refl; refused = inl (refl, refl); unowed = refl }
 turn_row v u (ReleaseTurn Ending.RefuseMemory) (Turn _) t e = absurd e
 turn_row v u (ReleaseTurn Ending.RefuseMemory) _ t e = absurd e
-turn_row v u (ReleasingTurn Ending.RefuseMemory) (Turn (Step.End End.GivenBack)) t e = record { reading = refl; sharing = refl; over = refl; upgrade = refl; refused = inl (refl, refl) }
+turn_row v u (ReleasingTurn Ending.RefuseMemory) (Turn (Step.End End.GivenBack)) t e = record { reading = refl; sharing = refl; over = refl; upgrade = refl; refused = inl (refl, refl); unowed = refl }
 turn_row v u (ReleasingTurn Ending.RefuseMemory) (Turn _) t e = absurd e
 turn_row v u (ReleasingTurn Ending.RefuseMemory) _ t e = absurd e
-turn_row v u (ReleaseTurn Ending.Reading) (Turn Step.More) t e = record { reading = refl; sharing = refl; over = refl; upgrade = λ t h. refl; refused = tt }
-turn_row v u (ReleaseTurn Ending.Reading) (Turn (Step.End End.GivenBack)) t e = record { reading = refl; sharing = refl; over = refl; upgrade = tt; refused = tt }
+turn_row v u (ReleaseTurn Ending.Reading) (Turn Step.More) t e = record { reading = refl; sharing = refl; over = refl; upgrade = λ t h. refl; refused = tt; unowed = refl }
+turn_row v u (ReleaseTurn Ending.Reading) (Turn (Step.End End.GivenBack)) t e = record { reading = refl; sharing = refl; over = refl; upgrade = tt; refused = tt; unowed = refl }
 turn_row v u (ReleaseTurn Ending.Reading) (Turn _) t e = absurd e
 turn_row v u (ReleaseTurn Ending.Reading) _ t e = absurd e
-turn_row v u (ReleasingTurn Ending.Reading) (Turn (Step.End End.GivenBack)) t e = record { reading = refl; sharing = refl; over = refl; upgrade = tt; refused = tt }
+turn_row v u (ReleasingTurn Ending.Reading) (Turn (Step.End End.GivenBack)) t e = record { reading = refl; sharing = refl; over = refl; upgrade = tt; refused = tt; unowed = refl }
 turn_row v u (ReleasingTurn Ending.Reading) (Turn _) t e = absurd e
 turn_row v u (ReleasingTurn Ending.Reading) _ t e = absurd e
-turn_row v u (ReleaseTurn Ending.NotifyReaders) (Turn Step.More) t e = record { reading = refl; sharing = refl; over = refl; upgrade = λ t h. refl; refused = tt }
-turn_row v u (ReleaseTurn Ending.NotifyReaders) (Turn (Step.End End.GivenBack)) t e = record { reading = refl; sharing = refl; over = refl; upgrade = λ t h. refl; refused = tt }
+turn_row v u (ReleaseTurn Ending.NotifyReaders) (Turn Step.More) t e = record { reading = refl; sharing = refl; over = refl; upgrade = λ t h. refl; refused = tt; unowed = refl }
+turn_row v u (ReleaseTurn Ending.NotifyReaders) (Turn (Step.End End.GivenBack)) t e = record { reading = refl; sharing = refl; over = refl; upgrade = λ t h. refl; refused = tt; unowed = refl }
 turn_row v u (ReleaseTurn Ending.NotifyReaders) (Turn _) t e = absurd e
 turn_row v u (ReleaseTurn Ending.NotifyReaders) _ t e = absurd e
-turn_row v u (ReleasingTurn Ending.NotifyReaders) (Turn (Step.End End.GivenBack)) t e = record { reading = refl; sharing = refl; over = refl; upgrade = λ t h. refl; refused = tt }
+turn_row v u (ReleasingTurn Ending.NotifyReaders) (Turn (Step.End End.GivenBack)) t e = record { reading = refl; sharing = refl; over = refl; upgrade = λ t h. refl; refused = tt; unowed = refl }
 turn_row v u (ReleasingTurn Ending.NotifyReaders) (Turn _) t e = absurd e
 turn_row v u (ReleasingTurn Ending.NotifyReaders) _ t e = absurd e
 turn_row v u _ f t e = absurd (cc)

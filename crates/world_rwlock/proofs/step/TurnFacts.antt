@@ -236,7 +236,7 @@ module _ (m : Move) (l k : RwLock) (ss : List Stage) (opening : ℕ) (ts : List 
 
   -- whoever is in a poll that takes the turn wants it
   wants_turn : (pr : Purpose) (f : Found) → Known m l k ss v (Place.TakeTurn pr) f → is_for_turn (sought_by old p) ≡ true
-  wants_turn pr f c = ap is_for_turn (view.seeks_at l.places p ∙ ap sought_at (c.taking pr refl)) ∙ by_purpose pr where
+  wants_turn pr f c = ap is_for_turn (view.seeks_at l.places p ∙ ap sought_at (c.midway refl)) ∙ by_purpose pr where
     by_purpose : (q : Purpose) → is_for_turn (sought_at (Place.TakeTurn q)) ≡ true
     by_purpose Purpose.UpgradableRead = refl
     by_purpose Purpose.Write = refl

@@ -1,9 +1,10 @@
 -- What one action on the turn does, as callers see it.
-use Rattle.world_rwlock.proofs.Prelude.{◌≡◌, ◌≢◌, ℕ, zero, suc, ◌+◌, ◌<◌, ◌⊎◌, inl, inr, Bool, true, false, List, [], ◌∷◌, length, Option, Some, None, refl, arith, ap, sym, ◌∙◌, get_or, get_or-set_same, set, ℕ_discrete, cases_Bool, false≢true, Entry, Move, Stage, how_many, inputs_of, Deed, ListFunction, nothing, changes, does, joins, none_some, TurnCourse, holds, counted, TurnStep, End as TurnEnd, Mutex, turn_at, is_holder, is_counted, holder_of, starved_of, TakenFairly, IsLegal, Found, Place, next_of, place_after, RwLock, place_at, IsRwLock, Change, takes_turn, leaves_turn, starves, recovers, turn_after, readers_after, starved_after, value_after, IsAllowed, gives_back, gives_up, entries_after, ListName, for_the_turn, for_no_readers, for_no_writer, World, passing, upgrading, turn_as, share_of, turn_by, seen, asks, leaves, notifies, notifies_additionally, MayDo, listed, may_tell, taking, releasing, undecided, called, counting, has_lock, giving_up, HasTurn, Share, waiting, writing, sought_by, is_for_turn}
+use Rattle.world_rwlock.proofs.Prelude.{◌≡◌, ◌≢◌, ℕ, zero, suc, ◌+◌, ◌<◌, ◌⊎◌, inl, inr, Bool, true, false, List, [], ◌∷◌, length, Option, Some, None, refl, arith, ap, sym, ◌∙◌, get_or, get_or-set_same, set, ℕ_discrete, cases_Bool, false≢true, Entry, Move, Stage, how_many, inputs_of, Deed, ListFunction, nothing, changes, does, joins, none_some, TurnCourse, holds, counted, TurnStep, End as TurnEnd, Mutex, turn_at, is_holder, is_counted, holder_of, starved_of, TakenFairly, IsLegal, Found, Place, next_of, place_after, RwLock, place_at, IsRwLock, Change, takes_turn, leaves_turn, starves, recovers, turn_after, readers_after, starved_after, value_after, IsAllowed, gives_back, gives_up, entries_after, ListName, for_the_turn, for_no_readers, for_no_writer, World, passing, upgrading, turn_as, share_of, turn_by, seen, asks, leaves, notifies, notifies_additionally, MayDo, listed, may_tell, taking, releasing, undecided, called, counting, has_lock, giving_up, HasTurn, Share, waiting, writing, sought_by, is_for_turn, is_out, is_holding, is_waiting, is_cancelling, fits_turn, owes_in, owing_at, has_to_tell, mapped_at, sought_at, Purpose}
 use Rattle.world_mutex.specs.machine.Course as turn_roles
 use Rattle.world_mutex.specs.machine.Deeds as mutex
 use Rattle.world_mutex.proofs.of_machine.callers.Holders as sees
 use Rattle.world_rwlock.specs.State as state
+use Rattle.world_rwlock.proofs.table.Views as view
 use Rattle.world_rwlock.proofs.step.Facts.{Known, turn_kept, there}
 
 -- ---- rosters
@@ -70,6 +71,27 @@ tells_starved (taking called a b d) h some = absurd (cc h)
 tells_starved (taking has_lock a b d) h some = absurd (cc h)
 tells_starved releasing h some = absurd (omega arith)
 tells_starved _ h some = absurd (cc h)
+
+-- it has released the turn, or polls for it
+record Telling (c : TurnCourse) : Type 0 where
+  pub not_out : is_out c ≡ false
+  pub not_holding : is_holding c ≡ false
+  pub not_waiting : is_waiting c ≡ false
+  pub not_cancelling : is_cancelling c ≡ false
+
+telling : (c : TurnCourse) → may_tell c ≡ true → Telling c
+telling (taking a b d e) h = record { not_out = refl; not_holding = refl; not_waiting = refl; not_cancelling = refl }
+telling releasing h = record { not_out = refl; not_holding = refl; not_waiting = refl; not_cancelling = refl }
+telling _ h = absurd (cc h)
+
+tells_cause : (y : Place) (c : TurnCourse) → fits_turn y c ≡ true → Telling c → (owes_in for_the_turn (owing_at y) ≡ true) ⊎ (is_for_turn (sought_at y) ≡ true)
+tells_cause (Place.TakeTurn Purpose.UpgradableRead) c f h = inr refl
+tells_cause (Place.TakeTurn Purpose.Write) c f h = inr refl
+tells_cause (Place.ReleasingTurn e) c f h = inl refl
+tells_cause (Place.WaitTurn q) c f h = absurd (false≢true (sym h.not_waiting ∙ f))
+tells_cause Place.CancelTurn c f h = absurd (false≢true (sym h.not_waiting ∙ f))
+tells_cause Place.CancellingTurn c f h = absurd (false≢true (sym h.not_cancelling ∙ f))
+tells_cause _ c f h = absurd (cc (f, h.not_out, h.not_holding))
 
 has_holder : (h : Option ℕ) (xs : List Place) (p : ℕ) → HasTurn (turn_by h xs) p → h ≡ Some p
 has_holder None xs p y = absurd y
@@ -164,6 +186,10 @@ module _ (m : Move) (l k : RwLock) (ss : List Stage) (opening : ℕ) (ts : List 
     lists_so : (g : ListFunction) → MayDo p (does mutex.for_the_lock g) l.turn → IsAllowed p (does for_the_turn g) w
     lists_so (notifies n) may = record {
       one = may.0;
+      cause = elim (tells_cause here t (c.laws.in_turn p) (telling t may.1)) as (λ _. (has_to_tell for_the_turn w p ≡ true) ⊎ (is_for_turn (sought_by w p) ≡ true)) [
+        | inl owed ↦ inl (ap (owes_in for_the_turn) (mapped_at owing_at l.places p Place.Out) ∙ owed)
+        | inr sought ↦ inr (ap is_for_turn (view.seeks_at l.places p) ∙ sought)
+      ];
       without_turn = λ h. (let one : holds t ≡ 1 = sees.is_held_by l.turn.courses p (has_holder (holder_of l.turn) l.places p h) in let none = tells_free t may.1 in omega (arith, one, none));
       starved = λ some. sees.starved_at l.turn.courses p ∙ sees.is_one (is_counted t) (sees.counted_bit t ∙ tells_starved t may.1 (omega (arith, some, c.laws.turn.owners p)));
     }
