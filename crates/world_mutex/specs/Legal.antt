@@ -227,6 +227,8 @@ pub record AnswersAtOnce (old : World) (m : Move) (a : Answer) (new : World) : T
   -- The drop of a guard gives the lock back, and then notifies.
   pub released : is_drop m.what ≡ true → standing_of old m.party ≡ outside Holding → (a ≡ answer.Stepped) × (new.state ≡ state_after m.party (changes releases) old.state)
   pub notifies : standing_of old m.party ≡ inside (record { kind = kind.Drop; was = Holding }) (Some answer.GivenBack) → is_possible a ≡ true → (a ≡ answer.GivenBack) × (new.entries ≡ notified old.entries 1)
+  -- The drop of a future in the list that isn't starved is one step: it leaves, and hands on there what it was told.
+  pub abandons : is_drop m.what ≡ true → standing_of old m.party ≡ outside Pending → 0 < entries_of m.party old.entries → is_starved old.state m.party ≡ false → (a ≡ answer.GivenBack) × (new.state ≡ old.state) × (new.entries ≡ list_after m.party leaves old.entries)
   -- A poll that is to be refused notifies as it ends, once its party stands in no list and isn't starved.
   pub refuses : (within : Within) (r : ℕ) → standing_of old m.party ≡ inside within (Some (answer.Refused r)) → entries_of m.party old.entries ≡ 0 → is_starved old.state m.party ≡ false → is_possible a ≡ true
       → (a ≡ answer.Refused r) × (new.entries ≡ notified old.entries 1)

@@ -237,6 +237,13 @@ module _ (t u : Table Guarded) (m : Move) (a : Answer) (w : Within) (k : Acting 
           answered Clear false at.0 at.1,
           acting.made _ _ _ _ _ _ (none_then at.0) (same_starved Clear at.0 refl) k.carries.carried.value,
         );
+    abandons = λ drops pending some plain.
+        let counted_not : is_counted (place_of g p) ≡ false = sym (sees.starved_at g.lock.places p) ∙ plain in
+        let at = k.here.cancels drops (outside_stage (verdict g p) s Rest.Pending (sym (acting.stood t u m a w k) ∙ pending)) (omega (arith, some, k.old_laws.owners p)) (sym (sees.counted_bit (place_of g p)) ∙ ap bit counted_not) in (
+          answered CancelLeave false at.0 at.1,
+          acting.made _ _ _ _ _ _ (same_holder CancelLeave at.0 refl) (same_starved CancelLeave at.0 refl) k.carries.carried.value,
+          on_list CancelLeave at.0,
+        );
     notifies = λ telling possible.
         let at = k.here.tells (inside_at s (verdict g p) _ _ (sym (acting.stood t u m a w k) ∙ telling)) in
         (answered ReleaseNotify false at.0 at.1, on_list ReleaseNotify at.0);

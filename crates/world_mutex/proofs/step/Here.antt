@@ -1,5 +1,5 @@
 -- What is so where a move begins or goes on.
-use Rattle.world_mutex.proofs.Prelude.{◌≡◌, ℕ, ◌<◌, ◌||◌, ◌⊎◌, inl, inr, true, false, Option, Some, None, is_some, refl, arith, ap, sym, subst, Answer, What, Kind, Rest, Stage, Outside, Inside, Within, is_drop, put_in, Standing, inside, is_decided, some_eq, not_one, stands_as, call_at, polls_again, End, LockCall, Place, Enter, Try, Clear, Ask, AskStarved, ReleaseNotify, decision, SameRoles, start_of, listed, knows, goes_with, is_within, is_try_kind, is_try, is_first_poll, is_later_poll, answer_on}
+use Rattle.world_mutex.proofs.Prelude.{◌≡◌, ℕ, ◌<◌, ◌||◌, ◌⊎◌, inl, inr, true, false, Option, Some, None, is_some, refl, arith, ap, sym, subst, Answer, What, Kind, Rest, Stage, Outside, Inside, Within, is_drop, put_in, Standing, inside, is_decided, some_eq, not_one, stands_as, call_at, polls_again, End, LockCall, Place, Enter, Try, Clear, Ask, AskStarved, CancelLeave, ReleaseNotify, counted, decision, SameRoles, start_of, listed, knows, goes_with, is_within, is_try_kind, is_try, is_first_poll, is_later_poll, answer_on}
 use Rattle.world_mutex.specs.machine.Courses.{is_releasing}
 use Rattle.world_mutex.proofs.of_machine.laws.Starts.{start_same}
 use Rattle.world_mutex.proofs.table.Turns.{Turn, turn}
@@ -21,6 +21,7 @@ pub record Here (s : Stage) (what : What) (w : Within) (x from : Place) : Type 0
   pub tries : is_try what ≡ true → (from ≡ Try) × (is_try_kind w.kind ≡ true)
   pub polls : (v : ℕ) → is_later_poll (standing_at v s x) what ≡ true → 0 < listed x → ((from ≡ Ask) ⊎ (from ≡ AskStarved)) × (is_try_kind w.kind ≡ false)
   pub releases : is_drop what ≡ true → s ≡ Outside Rest.Holding → (from ≡ Clear) × (is_try_kind w.kind ≡ false)
+  pub cancels : is_drop what ≡ true → s ≡ Outside Rest.Pending → 0 < listed x → counted x ≡ 0 → (from ≡ CancelLeave) × (is_try_kind w.kind ≡ false)
   pub tells : s ≡ Inside (record { kind = Kind.Drop; was = Rest.Holding }) → (from ≡ ReleaseNotify) × (is_try_kind w.kind ≡ false)
 
 decides_so : (v : ℕ) (w : Within) (o : Option End) → is_decided (inside w (answer_on v o)) || false ≡ is_some o
@@ -48,16 +49,16 @@ tells_so w x e within =
 
 pub here : (s : Stage) (what : What) (w : Within) (x : Place) → goes_with s x ≡ true → call_at knows s what ≡ Some w → polls_again s what ≡ false → put_in what ≡ None → Turn Here s what w x
 here = turn Here (record {
-  lock = λ i. record { begins = inl (LockCall.Lock, refl); decides = λ v. refl; kept = λ v u b e. absurd (cc); undecided = λ v h e d. absurd (cc); first = λ v n h l. (refl, refl); tries = λ h. absurd (cc); polls = λ v h some. absurd (cc); releases = λ h e. absurd (cc); tells = λ e. absurd (cc) };
-  try = λ i. record { begins = inl (LockCall.Try, refl); decides = λ v. refl; kept = λ v u b e. absurd (cc); undecided = λ v h e d. absurd (cc); first = λ v n h l. absurd (cc); tries = λ h. (refl, refl); polls = λ v h some. absurd (cc); releases = λ h e. absurd (cc); tells = λ e. absurd (cc) };
-  poll = λ i. record { begins = inl (LockCall.Poll, refl); decides = λ v. refl; kept = λ v u b e. absurd (cc); undecided = λ v h e d. absurd (cc); first = λ v n h l. (refl, refl); tries = λ h. absurd (cc); polls = λ v h some. absurd (omega (arith, some)); releases = λ h e. absurd (cc); tells = λ e. absurd (cc) };
-  poll_listed = λ i. record { begins = inl (LockCall.Poll, refl); decides = λ v. refl; kept = λ v u b e. absurd (cc); undecided = λ v h e d. absurd (cc); first = λ v n h l. absurd (not_one n h l); tries = λ h. absurd (cc); polls = λ v h some. (inl refl, refl); releases = λ h e. absurd (cc); tells = λ e. absurd (cc) };
-  poll_starved = λ i. record { begins = inl (LockCall.Poll, refl); decides = λ v. refl; kept = λ v u b e. absurd (cc); undecided = λ v h e d. absurd (cc); first = λ v n h l. absurd (not_one n h l); tries = λ h. absurd (cc); polls = λ v h some. (inr refl, refl); releases = λ h e. absurd (cc); tells = λ e. absurd (cc) };
-  abandon = λ i. record { begins = inl (LockCall.Cancel, refl); decides = λ v. refl; kept = λ v u b e. absurd (cc); undecided = λ v h e d. sym (some_eq d); first = λ v n h l. absurd (cc); tries = λ h. absurd (cc); polls = λ v h some. absurd (cc); releases = λ h e. absurd (cc); tells = λ e. absurd (cc) };
-  cancel = λ i. record { begins = inl (LockCall.Cancel, refl); decides = λ v. refl; kept = λ v u b e. absurd (cc); undecided = λ v h e d. sym (some_eq d); first = λ v n h l. absurd (cc); tries = λ h. absurd (cc); polls = λ v h some. absurd (cc); releases = λ h e. absurd (cc); tells = λ e. absurd (cc) };
-  cancel_starved = λ i. record { begins = inl (LockCall.Cancel, refl); decides = λ v. refl; kept = λ v u b e. absurd (cc); undecided = λ v h e d. sym (some_eq d); first = λ v n h l. absurd (cc); tries = λ h. absurd (cc); polls = λ v h some. absurd (cc); releases = λ h e. absurd (cc); tells = λ e. absurd (cc) };
-  release = λ i. record { begins = inl (LockCall.Release, refl); decides = λ v. refl; kept = λ v u b e. absurd (cc); undecided = λ v h e d. sym (some_eq d); first = λ v n h l. absurd (cc); tries = λ h. absurd (cc); polls = λ v h some. absurd (cc); releases = λ h e. (refl, refl); tells = λ e. absurd (cc) };
-  go = λ w x i within. record { begins = inr (refl, refl); decides = λ v. decides_so v w (decision x); kept = λ v u b e. (cc, never_tries w.kind w.was x within); undecided = λ v h e d. undecided_so v w (decision x) e h d; first = λ v n h l. absurd (cc); tries = λ h. absurd (cc); polls = λ v h some. absurd (cc); releases = λ h e. absurd (cc); tells = λ e. tells_so w x e within };
+  lock = λ i. record { begins = inl (LockCall.Lock, refl); decides = λ v. refl; kept = λ v u b e. absurd (cc); undecided = λ v h e d. absurd (cc); first = λ v n h l. (refl, refl); tries = λ h. absurd (cc); polls = λ v h some. absurd (cc); releases = λ h e. absurd (cc); cancels = λ h e some n. absurd (cc); tells = λ e. absurd (cc) };
+  try = λ i. record { begins = inl (LockCall.Try, refl); decides = λ v. refl; kept = λ v u b e. absurd (cc); undecided = λ v h e d. absurd (cc); first = λ v n h l. absurd (cc); tries = λ h. (refl, refl); polls = λ v h some. absurd (cc); releases = λ h e. absurd (cc); cancels = λ h e some n. absurd (cc); tells = λ e. absurd (cc) };
+  poll = λ i. record { begins = inl (LockCall.Poll, refl); decides = λ v. refl; kept = λ v u b e. absurd (cc); undecided = λ v h e d. absurd (cc); first = λ v n h l. (refl, refl); tries = λ h. absurd (cc); polls = λ v h some. absurd (omega (arith, some)); releases = λ h e. absurd (cc); cancels = λ h e some n. absurd (cc); tells = λ e. absurd (cc) };
+  poll_listed = λ i. record { begins = inl (LockCall.Poll, refl); decides = λ v. refl; kept = λ v u b e. absurd (cc); undecided = λ v h e d. absurd (cc); first = λ v n h l. absurd (not_one n h l); tries = λ h. absurd (cc); polls = λ v h some. (inl refl, refl); releases = λ h e. absurd (cc); cancels = λ h e some n. absurd (cc); tells = λ e. absurd (cc) };
+  poll_starved = λ i. record { begins = inl (LockCall.Poll, refl); decides = λ v. refl; kept = λ v u b e. absurd (cc); undecided = λ v h e d. absurd (cc); first = λ v n h l. absurd (not_one n h l); tries = λ h. absurd (cc); polls = λ v h some. (inr refl, refl); releases = λ h e. absurd (cc); cancels = λ h e some n. absurd (cc); tells = λ e. absurd (cc) };
+  abandon = λ i. record { begins = inl (LockCall.Cancel, refl); decides = λ v. refl; kept = λ v u b e. absurd (cc); undecided = λ v h e d. sym (some_eq d); first = λ v n h l. absurd (cc); tries = λ h. absurd (cc); polls = λ v h some. absurd (cc); releases = λ h e. absurd (cc); cancels = λ h e some n. absurd (omega (arith, some)); tells = λ e. absurd (cc) };
+  cancel = λ i. record { begins = inl (LockCall.Cancel, refl); decides = λ v. refl; kept = λ v u b e. absurd (cc); undecided = λ v h e d. sym (some_eq d); first = λ v n h l. absurd (cc); tries = λ h. absurd (cc); polls = λ v h some. absurd (cc); releases = λ h e. absurd (cc); cancels = λ h e some n. (refl, refl); tells = λ e. absurd (cc) };
+  cancel_starved = λ i. record { begins = inl (LockCall.Cancel, refl); decides = λ v. refl; kept = λ v u b e. absurd (cc); undecided = λ v h e d. sym (some_eq d); first = λ v n h l. absurd (cc); tries = λ h. absurd (cc); polls = λ v h some. absurd (cc); releases = λ h e. absurd (cc); cancels = λ h e some n. absurd (omega (arith, n)); tells = λ e. absurd (cc) };
+  release = λ i. record { begins = inl (LockCall.Release, refl); decides = λ v. refl; kept = λ v u b e. absurd (cc); undecided = λ v h e d. sym (some_eq d); first = λ v n h l. absurd (cc); tries = λ h. absurd (cc); polls = λ v h some. absurd (cc); releases = λ h e. (refl, refl); cancels = λ h e some n. absurd (cc); tells = λ e. absurd (cc) };
+  go = λ w x i within. record { begins = inr (refl, refl); decides = λ v. decides_so v w (decision x); kept = λ v u b e. (cc, never_tries w.kind w.was x within); undecided = λ v h e d. undecided_so v w (decision x) e h d; first = λ v n h l. absurd (cc); tries = λ h. absurd (cc); polls = λ v h some. absurd (cc); releases = λ h e. absurd (cc); cancels = λ h e some n. absurd (cc); tells = λ e. tells_so w x e within };
 })
 
 -- a party has as much where its call begins as where it stood

@@ -17,6 +17,10 @@ drop_possible : (what : What) → is_drop what ≡ true → call_in knows (outsi
 drop_possible (Begin Call.Drop i) d e = cc
 drop_possible _ d e = absurd (cc)
 
+cancel_possible : (what : What) → is_drop what ≡ true → call_in knows (outside Rest.Pending) what ≡ None → ⊥
+cancel_possible (Begin Call.Drop i) d e = cc
+cancel_possible _ d e = absurd (cc)
+
 -- a poll after ready is nothing else
 record Again (s : Standing) (what : What) : Type 0 where
   pub try : is_try what ≡ false
@@ -72,6 +76,7 @@ module _ (w : World) (m : Move) (well : StandsWell w) where
           looks = λ e h. absurd (cc);
           listed = λ e some. absurd (false≢true (sym (later_possible s m.what none) ∙ e));
           released = λ d e. (let C : Standing → Type 0 = λ z. call_in knows z m.what ≡ None in absurd (drop_possible m.what d (subst C e none)));
+          abandons = λ d e some plain. (let C : Standing → Type 0 = λ z. call_in knows z m.what ≡ None in absurd (cancel_possible m.what d (subst C e none)));
           notifies = λ e h. absurd (cc);
           refuses = λ within r e none plain possible. absurd (cc);
         };
@@ -101,6 +106,7 @@ module _ (w : World) (m : Move) (well : StandsWell w) where
           looks = λ e p. absurd (false≢true (sym (ap (λ b. b || is_first_poll s m.what (entries_of m.party w.entries)) so.try ∙ so.first (entries_of m.party w.entries)) ∙ e));
           listed = λ e some. absurd (false≢true (sym so.later ∙ e));
           released = λ d e. absurd (false≢true (sym so.drop ∙ d));
+          abandons = λ d e some plain. absurd (false≢true (sym so.drop ∙ d));
           notifies = λ e p. absurd (so.outside (record { kind = Kind.Drop; was = Rest.Holding }) (Some Answer.GivenBack) e);
           refuses = λ within r e none plain possible. absurd (so.outside within (Some (Answer.Refused r)) e);
         };

@@ -99,6 +99,7 @@ module _ (t : Table Guarded) (n p : ℕ) (i : Inputs) (laws : IsMutex t.machine.
       looks = λ e h. absurd (false≢true (sym not_first ∙ e));
       listed = λ e some. absurd (false≢true (sym (ap (λ z. is_later_poll z m.what) was) ∙ e));
       released = λ e h. absurd (cc);
+      abandons = λ e h some plain. absurd (cc);
       notifies = λ e h. absurd (outside_inside (sym was ∙ e));
       refuses = λ within r e none plain possible. absurd (outside_inside (sym was ∙ e));
     };
