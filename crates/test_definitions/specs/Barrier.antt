@@ -26,10 +26,10 @@ use Rattle.world_barrier.specs.Legal.{Legal, DecidesOn, HasToWait, next_arrival}
 use Rattle.world_barrier.specs.Numbers.{Leads, IsFinished, generations_of}
 use Rattle.world_barrier.specs.State.{World, standing_of, wait_of, told_in, is_free}
 use Rattle.world_base.specs.declared.standing.Rest.{Rest}
-use Rattle.world_base.specs.Standings.{is_outside}
+use Rattle.world_base.specs.Standings.{is_outside, is_decided}
 use Rattle.world_base.specs.Steps.{does, notifies}
-use Rattle.world_barrier.specs.Laws.{IsDue}
-use Rattle.world_barrier.specs.State.{is_starved}
+use Rattle.world_barrier.specs.Laws.{IsDue, is_due, is_refused}
+use Rattle.world_barrier.specs.State.{is_starved, has_to_tell}
 use Rattle.world_base.specs.declared.standing.Within.{Within}
 use Rattle.world_base.specs.Standings.{inside}
 use Rattle.world_base.specs.Standings.{is_possible}
@@ -267,6 +267,19 @@ pub record SleepsThoughFree : Type 0 where
   pub none_due : (q : ℕ) → IsDue world q → ⊥
   pub sound : IsSound world
 
+-- So beside polls that are decided: whoever would be due has its answer, isn't refused and has nothing to tell.
+pub record SleepsBesideAPoll : Type 0 where
+  pub world : World
+  pub party : ℕ
+  pub free : world.lock.holder ≡ None
+  pub stands : is_outside (standing_of world party) ≡ true
+  pub listed : 0 < entries_of party world.lock_list
+  pub none_told : marked_count world.lock_list ≡ 0
+  pub decided : (q : ℕ) → is_due (standing_of world q) ≡ true → is_decided (standing_of world q) ≡ true
+  pub none_refused : (q : ℕ) → is_refused (standing_of world q) ≡ false
+  pub none_tells : (q : ℕ) → has_to_tell world q ≡ false
+  pub sound : IsSound world
+
 -- A step takes the inner lock, and decides that its wait is refused for too many starved parties.
 pub record StarvedHavingTaken : Type 0 where
   pub step : Step
@@ -372,3 +385,35 @@ pub record RefusedUnneeded : Type 0 where
   pub none_starved : how_many whole.old.lock.starved ≡ 0
   pub is_refused : whole.answer ≡ refused refusal.Memory
   pub kept : Keeps whole
+
+-- ---- Whoever has waited for too long for the inner lock
+
+-- A first poll is refused for too many starved parties, though there were none.
+pub record StarvedUnwaited : Type 0 where
+  pub whole : Whole
+  pub first : is_first_poll (standing_of whole.old whole.party) (Begin whole.call whole.inputs) (entries_in whole.old whole.party) ≡ true
+  pub none_starved : how_many whole.old.lock.starved ≡ 0
+  pub is_refused : whole.answer ≡ refused refusal.Starved
+  pub kept : Keeps whole
+
+-- Or it ends starved, though it hasn't waited.
+pub record CountsUnwaited : Type 0 where
+  pub whole : Whole
+  pub first : is_first_poll (standing_of whole.old whole.party) (Begin whole.call whole.inputs) (entries_in whole.old whole.party) ≡ true
+  pub none_starved : how_many whole.old.lock.starved ≡ 0
+  pub starved : is_starved whole.new.lock whole.party ≡ true
+  pub kept : Keeps whole
+
+-- A newcomer's first poll leads its generation while another is starved for the inner lock.
+pub record OvertakesStarved : Type 0 where
+  pub whole : Whole
+  pub first : is_first_poll (standing_of whole.old whole.party) (Begin whole.call whole.inputs) (entries_in whole.old whole.party) ≡ true
+  pub some_starved : 0 < how_many whole.old.lock.starved
+  pub ready : whole.answer ≡ answer.Ready (got.Leader true)
+  pub kept : Keeps whole
+
+-- Two parties are told of one inner lock.
+pub record TwoToldOfLock : Type 0 where
+  pub world : World
+  pub two : 1 < marked_count world.lock_list
+  pub sound : IsSound world

@@ -1,5 +1,5 @@
 -- Runs of a mutex that no user would accept. Each record is one wrong run: what its steps would be, if it were legal.
-use Rattle.std.specs.Prelude.{◌≡◌, ◌≢◌, ℕ, ◌<◌, true, false, length, Some, None}
+use Rattle.std.specs.Prelude.{◌≡◌, ◌≢◌, ℕ, suc, ◌<◌, true, false, length, Some, None}
 use Rattle.lock_event.specs.declared.event.Mark.TheVariants.{Waiting}
 use Rattle.lock_event.specs.Lists.{marked_count, is_marked_at}
 use Rattle.world_base.specs.queue.Parties.{is_party, entries_of}
@@ -16,17 +16,25 @@ use Rattle.world_base.specs.declared.standing.Kind.TheVariants.{Drop}
 use Rattle.world_base.specs.declared.standing.Rest.{Rest}
 use Rattle.world_base.specs.declared.standing.Rest.TheVariants.{Pending, Holding}
 use Rattle.world_base.specs.declared.standing.Within.{Within}
-use Rattle.world_base.specs.Frame.{is_refusal}
+use Rattle.world_base.specs.Frame.{is_drop, is_refusal}
 use Rattle.world_base.specs.Rosters.{how_many}
 use Rattle.world_base.specs.Standings.{outside, inside, may_end, refused}
 use Rattle.world_base.specs.Steps.{does, notifies_additionally}
 use Rattle.world_mutex.specs.Bound.{IsSolo, IsNotified, Promises}
-use Rattle.world_mutex.specs.Legal.{ListName, DecidesOn, is_first_poll, is_later_poll, Legal, AnswersAtOnce}
+use Rattle.world_mutex.specs.Legal.{ListName, call_of, DecidesOn, is_first_poll, is_later_poll, Legal, AnswersAtOnce}
 use Rattle.world_mutex.specs.State.{World, standing_of, mark_of, is_free, is_starved}
 use Rattle.world_base.specs.Standings.{is_outside}
 use Rattle.world_base.specs.Steps.{notifies}
 use Rattle.world_mutex.specs.Legal.{for_the_lock}
-use Rattle.world_mutex.specs.Laws.{IsSound, IsDue}
+use Rattle.world_mutex.specs.Laws.{IsSound, IsDue, is_at_rest}
+use Rattle.world_base.specs.Overtaking as overtaking
+use Rattle.world_base.specs.Overtaking.{before}
+use Rattle.world_mutex.specs.Overtaking.{starved_in, Holds, IsOvertakenSeldom}
+use Rattle.world_mutex.specs.Steps.{Steps}
+use Rattle.world_mutex.specs.Whole.{IsWholeCall, steps_left_of}
+use Rattle.world_base.specs.Whole.{going_on}
+use Rattle.world_base.specs.any_world.Steps.{left_by}
+use Rattle.world_base.specs.Standings.{inputs_of}
 use Rattle.world_base.specs.Standings.{is_possible}
 use Rattle.lock_event.specs.Lists.{notified}
 
@@ -339,3 +347,150 @@ pub record RefusedSilently : Type 0 where
   pub possible : is_possible step.answer ≡ true
   pub none_told : step.new.entries ≢ notified step.old.entries 1
   pub legal : IsAtOnce step
+
+-- ---- Whoever has waited for too long
+
+-- A notified party that has waited for too long finds the lock held, and room for one more starved party, and it isn't counted as one: newcomers may overtake it for ever.
+pub record NeverStarved : Type 0 where
+  pub whole : Whole
+  pub polls : whole.call ≡ call.Poll
+  pub solo : IsSolo whole.old whole.party whole.inputs
+  pub long : whole.inputs.starving ≡ true
+  pub room : how_many whole.old.state.starved < whole.old.limit
+  pub held : whole.old.state.holder ≢ None
+  pub patient : is_starved whole.new.state whole.party ≡ false
+  pub kept : Keeps whole
+
+-- A newcomer's first poll is ready while another is starved, whatever it counted itself as on the way.
+pub record OvertakesStarved : Type 0 where
+  pub whole : Whole
+  pub first : is_first_poll (standing_of whole.old whole.party) (Begin whole.call whole.inputs) (entries_of whole.party whole.old.entries) ≡ true
+  pub some_starved : 0 < how_many whole.old.state.starved
+  pub got : Got
+  pub ready : whole.answer ≡ answer.Ready got
+  pub kept : Keeps whole
+
+-- Or some other call that nobody told of the lock gets it then.
+pub record TakesUntold : Type 0 where
+  pub whole : Whole
+  pub some_starved : 0 < how_many whole.old.state.starved
+  pub without : whole.old.state.holder ≢ Some whole.party
+  pub untold : whole.call ≡ call.Poll → IsNotified whole.old whole.party → ⊥
+  pub takes : whole.new.state.holder ≡ Some whole.party
+  pub kept : Keeps whole
+
+-- At rest a notified party that isn't starved takes the lock before a starved one.
+pub record TakesBeforeStarved : Type 0 where
+  pub whole : Whole
+  pub polls : whole.call ≡ call.Poll
+  pub told : IsNotified whole.old whole.party
+  pub at_rest : is_at_rest whole.old ≡ true
+  pub patient : is_starved whole.old.state whole.party ≡ false
+  pub some_starved : 0 < how_many whole.old.state.starved
+  pub takes : whole.new.state.holder ≡ Some whole.party
+  pub kept : Keeps whole
+
+-- A first poll ends starved, though it hasn't waited and nobody was: its clock alone said so.
+pub record CountsUnwaited : Type 0 where
+  pub whole : Whole
+  pub first : is_first_poll (standing_of whole.old whole.party) (Begin whole.call whole.inputs) (entries_of whole.party whole.old.entries) ≡ true
+  pub none_starved : how_many whole.old.state.starved ≡ 0
+  pub starved : is_starved whole.new.state whole.party ≡ true
+  pub kept : Keeps whole
+
+-- Two parties are told of one lock.
+pub record TwoTold : Type 0 where
+  pub world : World
+  pub two : 1 < marked_count world.entries
+  pub sound : IsSound world
+
+-- Calls of others, one after the other, while a starved party waits, so many of which got the lock.
+abbrev pub Overtaken : ℕ → ℕ → ℕ → World → World → Type 0
+Overtaken = overtaking.Overtaken IsWholeCall (λ w. w.entries) starved_in Holds
+
+abbrev pub Passes : ℕ → World → ℕ → Call → Inputs → Answer → World → Type 0
+Passes = overtaking.Passes IsWholeCall (λ w. w.entries) starved_in Holds
+
+-- A starved party with one entry before its own is overtaken twice.
+pub record OvertakenTwice : Type 0 where
+  pub party : ℕ
+  pub calls : ℕ
+  pub old : World
+  pub new : World
+  pub one_before : before party old.entries ≡ 1
+  pub overtaken : Overtaken party calls 2 old new
+  pub seldom : IsOvertakenSeldom old
+
+-- A starved party stands in the list while another polls, takes the lock, and drops its guard.
+pub record StandsBy : Type 0 where
+  pub party : ℕ
+  pub other : ℕ
+  pub old : World
+  pub mid : World
+  pub new : World
+  pub inputs : Inputs
+  pub later : Inputs
+  pub ready : Answer
+  pub given_back : Answer
+  pub polls : Passes party old other call.Poll inputs ready mid
+  pub without : old.state.holder ≢ Some other
+  pub gets : mid.state.holder ≡ Some other
+  pub drops : Passes party mid other call.Drop later given_back new
+
+-- So it is overtaken once, in two calls.
+abbrev pub IsOvertakenOnce : StandsBy → Type 0
+IsOvertakenOnce s = Overtaken s.party 2 1 s.old s.new
+
+-- ---- What no table would do
+
+-- A party takes the lock past the starved, and isn't one of them.
+pub record TakesPastStarved : Type 0 where
+  pub step : Step
+  pub without : step.old.state.holder ≢ Some step.move.party
+  pub takes : step.new.state.holder ≡ Some step.move.party
+  pub some_starved : 0 < how_many step.old.state.starved
+  pub patient : is_starved step.old.state step.move.party ≡ false
+  pub legal : IsLegal step
+
+-- A call is refused for memory, though the move's input had it.
+pub record RefusedBesideMemory : Type 0 where
+  pub step : Step
+  pub memory : (inputs_of step.move.what).memory ≡ true
+  pub refused : DecidesOn step.old step.move step.answer step.new (refused Memory)
+  pub legal : IsLegal step
+
+-- A party may make a move, and is answered that it can't.
+pub record NeverPossible : Type 0 where
+  pub step : Step
+  pub within : Within
+  pub may : call_of step.old step.move ≡ Some within
+  pub impossible : step.answer ≡ answer.NotPossible
+  pub legal : IsLegal step
+
+-- A party that gives up its wait has left the list, and is counted as starved still: newcomers leave the lock to it for some steps, though it wants it no more.
+pub record LeavesCounted : Type 0 where
+  pub step : Step
+  pub party : ℕ
+  pub within : Within
+  pub gives_back : standing_of step.new party ≡ inside within (Some answer.GivenBack)
+  pub unlisted : entries_of party step.new.entries ≡ 0
+  pub starved : is_starved step.new.state party ≡ true
+  pub legal : IsLegal step
+
+-- The drop of a waiting future that isn't starved goes on, so that what it was told reaches nobody for some steps.
+pub record DropDawdles : Type 0 where
+  pub step : Step
+  pub drops : is_drop step.move.what ≡ true
+  pub pending : standing_of step.old step.move.party ≡ outside Pending
+  pub listed : 0 < entries_of step.move.party step.old.entries
+  pub unstarved : is_starved step.old.state step.move.party ≡ false
+  pub goes_on : step.answer ≡ answer.Stepped
+  pub legal : IsAtOnce step
+
+-- A party goes on for ever with one call, while nobody else moves; `falls` is what every World's steps promise.
+pub record GoesOnForEver : Type 0 where
+  pub party : ℕ
+  pub inputs : Inputs
+  pub world : ℕ → World
+  pub stepped : (n : ℕ) → Steps (world n) (going_on party inputs) answer.Stepped (world (suc n))
+  pub falls : (w : World) (p : ℕ) (i : Inputs) (a : Answer) (v : World) → Steps w (going_on p i) a v → left_by a (steps_left_of v p) < steps_left_of w p

@@ -34,13 +34,36 @@ beginnings =
 abbrev pub actions : List (Place × Action)
 actions =
     (place.Out, act.Nothing) ∷
+    (place.Holding, act.Nothing) ∷
     (place.Enter, act.Take) ∷
+    (place.Join false, act.Join) ∷
+    (place.Join true, act.Join) ∷
+    (place.Look false, act.Take) ∷
+    (place.Look true, act.Take) ∷
+    (place.Ask, act.Ask) ∷
+    (place.Retry, act.Take) ∷
+    (place.PassOn, act.Notify) ∷
+    (place.Count true false, act.Count) ∷
+    (place.Count true true, act.Count) ∷
+    (place.Count false true, act.Count) ∷
+    (place.JoinStarved, act.Join) ∷
+    (place.LookAlone, act.TakeAlone) ∷
+    (place.PassOnListed, act.Notify) ∷
+    (place.AskStarved, act.Ask) ∷
+    (place.Seize, act.Set) ∷
+    (place.Uncount true, act.Uncount) ∷
+    (place.Uncount false, act.Uncount) ∷
+    (place.Leave, act.Leave) ∷
+    (place.RefuseUncount, act.Uncount) ∷
+    (place.RefuseLeave false, act.Leave) ∷
+    (place.RefuseLeave true, act.Leave) ∷
+    (place.RefuseNotifyMemory, act.Notify) ∷
+    (place.RefuseNotifyStarved, act.Notify) ∷
     (place.Try, act.Take) ∷
     (place.Clear, act.Clear) ∷
+    (place.ReleaseNotify, act.Notify) ∷
     (place.CancelUncount, act.Uncount) ∷
     (place.CancelLeave, act.Leave) ∷
-    (place.Ask, act.Ask) ∷
-    (place.AskStarved, act.Ask) ∷
     []
 
 -- What comes after a place whose action found this.
@@ -49,9 +72,11 @@ followings =
     (place.Out, found.Done, next.End ended.GivenBack place.Out) ∷
     (place.Enter, found.Free, next.End ended.Got place.Holding) ∷
     (place.Enter, found.Held false, next.Do (place.Join false)) ∷
+    (place.Enter, found.Held true, next.Do (place.Join false)) ∷
     (place.Enter, found.SomeStarved, next.Do (place.Join false)) ∷
     (place.Try, found.Free, next.End ended.Got place.Holding) ∷
     (place.Try, found.Held false, next.End ended.NotFree place.Out) ∷
+    (place.Try, found.Held true, next.End ended.NotFree place.Out) ∷
     (place.Try, found.SomeStarved, next.End ended.NotFree place.Out) ∷
     (place.Clear, found.Done, next.Do place.ReleaseNotify) ∷
     (place.CancelUncount, found.Done, next.Do place.CancelLeave) ∷
@@ -63,8 +88,10 @@ followings =
     (place.Look false, found.Free, next.Do place.Leave) ∷
     (place.Look true, found.Free, next.Do place.Leave) ∷
     (place.Look false, found.Held false, next.Do place.Ask) ∷
+    (place.Look false, found.Held true, next.Do place.Ask) ∷
     (place.Look false, found.SomeStarved, next.Do (place.Count true false)) ∷
     (place.Look true, found.Held false, next.Do place.Ask) ∷
+    (place.Look true, found.Held true, next.Do place.Ask) ∷
     (place.Look true, found.SomeStarved, next.Do (place.Count true true)) ∷
     (place.Ask, found.No, next.End ended.Pending place.Ask) ∷
     (place.Ask, found.Yes, next.Do place.Retry) ∷

@@ -21,11 +21,19 @@ use Rattle.world_base.specs.Rosters.{how_many}
 use Rattle.world_rwlock.specs.Bound.{IsSoloForTurn, IsToldToRead, IsSoloToWrite, Promises}
 use Rattle.world_rwlock.specs.Legal.{DecidesOn, list_for, may_read, is_first, IsTryWithTurn, Legal, AnswersAtOnce}
 use Rattle.world_rwlock.specs.State.{ListName, list_of, nobody, passes, waits_to_write, is_marked, HasTurn, is_turn_free, World, standing_of, sought_by, reads, how_many_read, told_in, is_starved, is_upgrader}
-use Rattle.world_base.specs.Standings.{is_outside, may_end}
+use Rattle.world_base.specs.Standings.{is_outside, is_decided, may_end}
 use Rattle.world_base.specs.Steps.{does, notifies, notifies_additionally}
-use Rattle.world_rwlock.specs.Laws.{IsSound, IsDueForTurn, IsDueToReaders, IsDueToWriter}
-use Rattle.world_rwlock.specs.Legal.{is_for_turn, is_try_for_turn}
-use Rattle.world_rwlock.specs.State.{for_the_turn}
+use Rattle.world_rwlock.specs.Laws.{IsSound, IsDueForTurn, IsDueToReaders, IsDueToWriter, is_due_for_turn, is_due_to_readers, is_refused}
+use Rattle.world_rwlock.specs.Legal.{LeavesLists, is_try_for_turn}
+use Rattle.world_rwlock.specs.State.{is_for_turn, for_the_turn, for_no_readers, for_no_writer, has_to_tell}
+use Rattle.world_rwlock.specs.Changes.{starves}
+use Rattle.world_base.specs.declared.moves.Got.{Got}
+use Rattle.world_base.specs.Steps.{changes}
+use Rattle.world_rwlock.specs.Bound.{IsFirstForTurn}
+use Rattle.world_base.specs.Overtaking as overtaking
+use Rattle.world_base.specs.Overtaking.{before}
+use Rattle.world_rwlock.specs.Overtaking.{HasItsTurn, IsOvertakenSeldom}
+use Rattle.world_rwlock.specs.Whole.{IsWholeCall}
 use Rattle.world_base.specs.queue.Parties.{is_party}
 use Rattle.lock_event.specs.Lists.{is_marked_at, notified}
 
@@ -379,6 +387,40 @@ pub record TellsMore : Type 0 where
   pub legal : IsLegal step
   pub tells : legal.one_change.deed ≡ does list (notifies_additionally more)
 
+-- A party tells the one that waits to write, though it has nothing to tell there,
+pub record WakesAWriter : Type 0 where
+  pub step : Step
+  pub many : ℕ
+  pub idle : has_to_tell for_no_readers step.old step.move.party ≡ false
+  pub legal : IsLegal step
+  pub notifies : legal.one_change.deed ≡ does for_no_readers (notifies many)
+
+-- or one of those that wait to read, though it doesn't seek to read itself: so a writer and a reader would wake each other for ever, while a third reads;
+pub record WakesAReader : Type 0 where
+  pub step : Step
+  pub many : ℕ
+  pub sought : sought_by step.old step.move.party ≢ Some read
+  pub idle : has_to_tell for_no_writer step.old step.move.party ≡ false
+  pub legal : IsLegal step
+  pub notifies : legal.one_change.deed ≡ does for_no_writer (notifies many)
+
+-- or, in the turn's list, though it doesn't seek the turn.
+pub record WakesForTheTurn : Type 0 where
+  pub step : Step
+  pub many : ℕ
+  pub sought : is_for_turn (sought_by step.old step.move.party) ≡ false
+  pub idle : has_to_tell for_the_turn step.old step.move.party ≡ false
+  pub legal : IsLegal step
+  pub notifies : legal.one_change.deed ≡ does for_the_turn (notifies many)
+
+-- A party comes to have to tell the one that waits to write, though others read on.
+pub record NotTheLast : Type 0 where
+  pub step : Step
+  pub idle : has_to_tell for_no_readers step.old step.move.party ≡ false
+  pub tells : has_to_tell for_no_readers step.new step.move.party ≡ true
+  pub others : 0 < how_many_read step.new
+  pub legal : IsAtOnce step
+
 -- A party that stands in the turn's list, and isn't starved, tells the next there before it waits.
 pub record WakesTheNext : Type 0 where
   pub step : Step
@@ -419,6 +461,43 @@ pub record SleepsThoughWritable : Type 0 where
   pub listed : 0 < entries_of party world.no_readers
   pub none_told : marked_count world.no_readers ≡ 0
   pub none_due : (q : ℕ) → IsDueToWriter world q → ⊥
+  pub sound : IsSound world
+
+-- So beside calls that are decided: whoever would be due there has its answer, isn't refused and has nothing to tell there, so the one that waits sleeps beside somebody's drop. For the turn,
+pub record SleepsBesideADrop : Type 0 where
+  pub world : World
+  pub party : ℕ
+  pub free : world.state.turn ≡ nobody
+  pub stands : is_outside (standing_of world party) ≡ true
+  pub listed : 0 < entries_of party world.turn_list
+  pub none_told : marked_count world.turn_list ≡ 0
+  pub decided : (q : ℕ) → is_due_for_turn (standing_of world q) (sought_by world q) ≡ true → is_decided (standing_of world q) ≡ true
+  pub none_refused : (q : ℕ) → is_refused (standing_of world q) ≡ false
+  pub none_tells : (q : ℕ) → has_to_tell for_the_turn world q ≡ false
+  pub sound : IsSound world
+
+-- to read,
+pub record ReadsBesideADrop : Type 0 where
+  pub world : World
+  pub party : ℕ
+  pub free : is_marked world.state.turn ≡ false
+  pub stands : is_outside (standing_of world party) ≡ true
+  pub listed : 0 < entries_of party world.no_writer
+  pub none_told : marked_count world.no_writer ≡ 0
+  pub decided : (q : ℕ) → is_due_to_readers (standing_of world q) (sought_by world q) ≡ true → is_decided (standing_of world q) ≡ true
+  pub none_refused : (q : ℕ) → is_refused (standing_of world q) ≡ false
+  pub none_tells : (q : ℕ) → has_to_tell for_no_writer world q ≡ false
+  pub sound : IsSound world
+
+-- and to write.
+pub record WritesBesideADrop : Type 0 where
+  pub world : World
+  pub party : ℕ
+  pub free : how_many_read world ≡ 0
+  pub stands : is_outside (standing_of world party) ≡ true
+  pub listed : 0 < entries_of party world.no_readers
+  pub none_told : marked_count world.no_readers ≡ 0
+  pub none_tells : (q : ℕ) → has_to_tell for_no_readers world q ≡ false
   pub sound : IsSound world
 
 -- A whole call is refused for too many starved parties, though there were none, and the party hasn't waited for too long.
@@ -591,3 +670,96 @@ pub record RefusedTurnUnneeded : Type 0 where
   pub none_starved : how_many whole.old.state.starved ≡ 0
   pub is_refused : whole.answer ≡ refused Memory
   pub kept : Keeps whole
+
+-- A try that needs the turn moves somebody in a list, or counts somebody as starved: so one that finds the turn taken wakes a waiter.
+pub record TriesTurnAndTells : Type 0 where
+  pub step : Step
+  pub tries : is_try_for_turn step.move.what ≡ true
+  pub possible : is_possible step.answer ≡ true
+  pub tells : LeavesLists step.old step.new → ⊥
+  pub legal : IsAtOnce step
+
+-- So does the first step of a first poll that needs it.
+pub record EntersTurnAndTells : Type 0 where
+  pub step : Step
+  pub first : is_first step.old step.move upgradable ≡ true
+  pub tells : LeavesLists step.old step.new → ⊥
+  pub legal : IsAtOnce step
+
+-- The last reader stops reading at a later step of its drop, and has nobody to tell of it.
+pub record StopsLastSilently : Type 0 where
+  pub step : Step
+  pub read : reads step.old step.move.party ≡ true
+  pub last : how_many_read step.new ≡ 0
+  pub unmarked : is_marked step.new.state.turn ≡ is_marked step.old.state.turn
+  pub silent : has_to_tell for_no_readers step.new step.move.party ≡ false
+  pub legal : IsAtOnce step
+
+-- A plain read is counted as starved for the turn, so that a try finds that nobody may have it.
+pub record ReadStarves : Type 0 where
+  pub step : Step
+  pub reader : sought_by step.old step.move.party ≡ Some read
+  pub legal : IsLegal step
+  pub counts : legal.one_change.deed ≡ changes starves
+
+-- Another reader than the moving party loses its right, as where an upgrade clears the number of readers.
+pub record ReaderLost : Type 0 where
+  pub step : Step
+  pub reader : ℕ
+  pub another : reader ≢ step.move.party
+  pub read : reads step.old reader ≡ true
+  pub lost : reads step.new reader ≡ false
+  pub legal : IsLegal step
+
+-- ---- Whoever has waited for too long for the turn
+
+-- A first poll for the turn is refused for too many starved parties, though there were none.
+pub record StarvedUnwaited : Type 0 where
+  pub whole : Whole
+  pub first : IsFirstForTurn whole.old whole.party whole.call whole.inputs
+  pub none_starved : how_many whole.old.state.starved ≡ 0
+  pub is_refused : whole.answer ≡ refused Starved
+  pub kept : Keeps whole
+
+-- Or it ends starved, though it hasn't waited.
+pub record CountsUnwaited : Type 0 where
+  pub whole : Whole
+  pub first : IsFirstForTurn whole.old whole.party whole.call whole.inputs
+  pub none_starved : how_many whole.old.state.starved ≡ 0
+  pub starved : is_starved whole.new whole.party ≡ true
+  pub kept : Keeps whole
+
+-- A newcomer's first poll is ready while another is starved, whatever it counted itself as on the way.
+pub record OvertakesStarved : Type 0 where
+  pub whole : Whole
+  pub first : IsFirstForTurn whole.old whole.party whole.call whole.inputs
+  pub some_starved : 0 < how_many whole.old.state.starved
+  pub got : Got
+  pub ready : whole.answer ≡ answer.Ready got
+  pub kept : Keeps whole
+
+-- Or some other call that nobody told of the turn gets it then.
+pub record TakesTurnUntold : Type 0 where
+  pub whole : Whole
+  pub some_starved : 0 < how_many whole.old.state.starved
+  pub without : HasTurn whole.old.state.turn whole.party → ⊥
+  pub untold : whole.call ≡ call.Poll → (standing_of whole.old whole.party ≡ outside Pending) × (is_marked_at (is_party whole.party) whole.old.turn_list ≡ true) → ⊥
+  pub takes : HasTurn whole.new.state.turn whole.party
+  pub kept : Keeps whole
+
+-- Two parties are told at once in one list, of one turn or of one right to write.
+pub record TwoTold : Type 0 where
+  pub world : World
+  pub list : ListName
+  pub two : 1 < marked_count (list_of world list)
+  pub sound : IsSound world
+
+-- A party that is starved for the turn, with one entry before its own, is overtaken twice by whole calls of others.
+pub record OvertakenTwice : Type 0 where
+  pub party : ℕ
+  pub calls : ℕ
+  pub old : World
+  pub new : World
+  pub one_before : before party old.turn_list ≡ 1
+  pub overtaken : overtaking.Overtaken IsWholeCall (λ w. w.turn_list) is_starved HasItsTurn party calls 2 old new
+  pub seldom : IsOvertakenSeldom old

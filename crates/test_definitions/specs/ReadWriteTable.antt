@@ -64,30 +64,82 @@ beginnings =
 abbrev pub actions : List (Place × Action)
 actions =
     (place.Out, act.Nothing) ∷
+    (place.Made wanted.Read, act.Nothing) ∷
+    (place.Made wanted.UpgradableRead, act.Nothing) ∷
+    (place.Made wanted.Write, act.Nothing) ∷
+    (place.Reading, act.Nothing) ∷
+    (place.Upgradable, act.Nothing) ∷
+    (place.Writing, act.Nothing) ∷
     (place.EnterRead false, act.Read) ∷
+    (place.EnterRead true, act.Read) ∷
+    (place.JoinNoWriter false, act.JoinNoWriter) ∷
+    (place.JoinNoWriter true, act.JoinNoWriter) ∷
+    (place.LookNoWriter false, act.Read) ∷
+    (place.LookNoWriter true, act.Read) ∷
     (place.AskNoWriter, act.AskNoWriter) ∷
+    (place.PassOn, act.NotifyNoWriter) ∷
+    (place.LeaveNoWriter, act.LeaveNoWriter) ∷
+    (place.RefuseLeave false, act.LeaveNoWriter) ∷
+    (place.RefuseLeave true, act.LeaveNoWriter) ∷
+    (place.RefuseNotify refusal.Memory, act.NotifyNoWriter) ∷
+    (place.RefuseNotify refusal.Readers, act.NotifyNoWriter) ∷
     (place.CancelRead, act.LeaveNoWriter) ∷
     (place.TryRead, act.Read) ∷
     (place.EnterTurn purpose.UpgradableRead, act.Begin lock_call.Lock) ∷
     (place.EnterTurn purpose.Write, act.Begin lock_call.Lock) ∷
     (place.WaitTurn purpose.UpgradableRead, act.Begin lock_call.Poll) ∷
     (place.WaitTurn purpose.Write, act.Begin lock_call.Poll) ∷
+    (place.TakeTurn purpose.UpgradableRead, act.Go) ∷
+    (place.TakeTurn purpose.Write, act.Go) ∷
     (place.TryTurn purpose.UpgradableRead, act.Begin lock_call.Try) ∷
     (place.TryTurn purpose.Write, act.Begin lock_call.Try) ∷
     (place.CancelTurn, act.Begin lock_call.Cancel) ∷
+    (place.CancellingTurn, act.Go) ∷
+    (place.ReleaseTurn ending.GivenBack, act.Begin lock_call.Release) ∷
+    (place.ReleaseTurn (ending.NotFree purpose.UpgradableRead), act.Begin lock_call.Release) ∷
+    (place.ReleaseTurn (ending.NotFree purpose.Write), act.Begin lock_call.Release) ∷
+    (place.ReleaseTurn ending.RefuseReaders, act.Begin lock_call.Release) ∷
+    (place.ReleaseTurn ending.RefuseMemory, act.Begin lock_call.Release) ∷
     (place.ReleaseTurn ending.Reading, act.Begin lock_call.Release) ∷
-    (place.TryUpgrade, act.TryUpgrade) ∷
-    (place.Upgrade, act.Upgrade) ∷
+    (place.ReleaseTurn ending.NotifyReaders, act.Begin lock_call.Release) ∷
+    (place.ReleasingTurn ending.GivenBack, act.Go) ∷
+    (place.ReleasingTurn (ending.NotFree purpose.UpgradableRead), act.Go) ∷
+    (place.ReleasingTurn (ending.NotFree purpose.Write), act.Go) ∷
+    (place.ReleasingTurn ending.RefuseReaders, act.Go) ∷
+    (place.ReleasingTurn ending.RefuseMemory, act.Go) ∷
+    (place.ReleasingTurn ending.Reading, act.Go) ∷
+    (place.ReleasingTurn ending.NotifyReaders, act.Go) ∷
+    (place.Add false, act.Add) ∷
+    (place.Add true, act.Add) ∷
+    (place.Mark, act.Mark) ∷
+    (place.TryWrite, act.TryWrite) ∷
+    (place.JoinNoReaders false, act.JoinNoReaders) ∷
+    (place.JoinNoReaders true, act.JoinNoReaders) ∷
+    (place.LookNoReaders false, act.Load) ∷
+    (place.LookNoReaders true, act.Load) ∷
     (place.AwaitNoReaders false, act.Load) ∷
     (place.AwaitNoReaders true, act.Load) ∷
+    (place.AskNoReaders false, act.AskNoReaders) ∷
+    (place.AskNoReaders true, act.AskNoReaders) ∷
+    (place.LookUnlisted false, act.Load) ∷
     (place.LookUnlisted true, act.Load) ∷
+    (place.LeaveNoReaders, act.LeaveNoReaders) ∷
+    (place.Upgrade, act.Upgrade) ∷
+    (place.TryUpgrade, act.TryUpgrade) ∷
     (place.DropRead, act.Off) ∷
+    (place.DropReadNotify, act.NotifyNoReaders) ∷
     (place.DropUpgradable, act.Off) ∷
+    (place.DropUpgradableNotify, act.NotifyNoReaders) ∷
     (place.DropWrite, act.Unmark) ∷
+    (place.UnmarkNotify false, act.NotifyNoWriter) ∷
+    (place.UnmarkNotify true, act.NotifyNoWriter) ∷
     (place.CancelAwait, act.LeaveNoReaders) ∷
     (place.Unmark false, act.Unmark) ∷
+    (place.Unmark true, act.Unmark) ∷
     (place.Down false, act.Down) ∷
     (place.Down true, act.Down) ∷
+    (place.DowngradeNotify, act.NotifyNoWriter) ∷
+    (place.DownNotify, act.NotifyNoWriter) ∷
     []
 
 -- What comes after a place whose action found this.
@@ -142,10 +194,12 @@ followings =
     (place.TakeTurn purpose.UpgradableRead, found.Turn (lock_step.End ended.Got), next.Do (place.Add false)) ∷
     (place.TakeTurn purpose.UpgradableRead, found.Turn (lock_step.End ended.Pending), next.End ended.Pending (place.WaitTurn purpose.UpgradableRead)) ∷
     (place.TakeTurn purpose.UpgradableRead, found.Turn (lock_step.End (ended.Refused refusal.Starved)), next.End (ended.Refused refusal.Starved) (place.Made wanted.UpgradableRead)) ∷
+    (place.TakeTurn purpose.UpgradableRead, found.Turn (lock_step.End (ended.Refused refusal.Memory)), next.End (ended.Refused refusal.Memory) (place.Made wanted.UpgradableRead)) ∷
     (place.TakeTurn purpose.Write, found.Turn lock_step.More, next.Do (place.TakeTurn purpose.Write)) ∷
     (place.TakeTurn purpose.Write, found.Turn (lock_step.End ended.Got), next.Do place.Mark) ∷
     (place.TakeTurn purpose.Write, found.Turn (lock_step.End ended.Pending), next.End ended.Pending (place.WaitTurn purpose.Write)) ∷
     (place.TakeTurn purpose.Write, found.Turn (lock_step.End (ended.Refused refusal.Starved)), next.End (ended.Refused refusal.Starved) (place.Made wanted.Write)) ∷
+    (place.TakeTurn purpose.Write, found.Turn (lock_step.End (ended.Refused refusal.Memory)), next.End (ended.Refused refusal.Memory) (place.Made wanted.Write)) ∷
     (place.TryTurn purpose.UpgradableRead, found.Turn (lock_step.End ended.Got), next.Do (place.Add true)) ∷
     (place.TryTurn purpose.UpgradableRead, found.Turn (lock_step.End ended.NotFree), next.End ended.NotFree place.Out) ∷
     (place.TryTurn purpose.Write, found.Turn (lock_step.End ended.Got), next.Do place.TryWrite) ∷

@@ -5,7 +5,7 @@ ghost use Rattle.test_definitions.specs.BarrierTable.{beginnings, actions, follo
 ghost use Rattle.sync_program.specs.Barrier.{action_of, next_of};
 ghost use Rattle.world_barrier.specs.program.Program.{start_of};
 ghost use Rattle.test_definitions.specs.Never.{Never};
-ghost use Rattle.test_definitions.specs.Barrier.{TwoLeaders, LeadsInTheMidst, HasNoLeader, CountedTwice, TakenBack, FollowsTooSoon, CountedUnlisted, CountedWithoutLock, WaitsUncounted, KeepsTheLock, RefusedAndCounted, RefusedTooSoon, LeftAsleep, LeadsUntold, ReadyUntried, RefusedInVain, WaitsForNothing, PassesOverInVain, KeepsItsTold, LooksInVain, WakesAll, SleepsThoughFree, StarvedHavingTaken, StarvedTwice, StarvedAtFirst, StarvedForNothing, WakesInARing, ReleasesSilently, RefusedSilently, EndsByReleasing, ReleasesUntold, RefusedUnneeded};
+ghost use Rattle.test_definitions.specs.Barrier.{TwoLeaders, LeadsInTheMidst, HasNoLeader, CountedTwice, TakenBack, FollowsTooSoon, CountedUnlisted, CountedWithoutLock, WaitsUncounted, KeepsTheLock, RefusedAndCounted, RefusedTooSoon, LeftAsleep, LeadsUntold, ReadyUntried, RefusedInVain, WaitsForNothing, PassesOverInVain, KeepsItsTold, LooksInVain, WakesAll, SleepsThoughFree, SleepsBesideAPoll, StarvedHavingTaken, StarvedTwice, StarvedAtFirst, StarvedForNothing, WakesInARing, ReleasesSilently, RefusedSilently, EndsByReleasing, ReleasesUntold, RefusedUnneeded, StarvedUnwaited, CountsUnwaited, OvertakesStarved, TwoToldOfLock};
 
 /// Each clause says of one wrong run that it isn't legal.
 fn wrong_runs()
@@ -31,6 +31,7 @@ fn wrong_runs()
     ensures looks_in_vain { Never (LooksInVain) }
     ensures wakes_all { Never (WakesAll) }
     ensures sleeps_though_free { Never (SleepsThoughFree) }
+    ensures sleeps_beside_a_poll { Never (SleepsBesideAPoll) }
     ensures starved_having_taken { Never (StarvedHavingTaken) }
     ensures starved_twice { Never (StarvedTwice) }
     ensures starved_at_first { Never (StarvedAtFirst) }
@@ -41,6 +42,10 @@ fn wrong_runs()
     ensures ends_by_releasing { Never (EndsByReleasing) }
     ensures releases_untold { Never (ReleasesUntold) }
     ensures refused_unneeded { Never (RefusedUnneeded) }
+    ensures starved_unwaited { Never (StarvedUnwaited) }
+    ensures counts_unwaited { Never (CountsUnwaited) }
+    ensures overtakes_starved { Never (OvertakesStarved) }
+    ensures two_told_of_lock { Never (TwoToldOfLock) }
 {}
 
 /// The programs' places, each with its action and what follows what it finds, as docs/PROGRAMS.md lists them.

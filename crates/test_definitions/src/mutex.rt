@@ -4,7 +4,7 @@ ghost use Rattle.test_definitions.specs.Tables.{AreRowsOf, AreRowsOfTwo};
 ghost use Rattle.test_definitions.specs.MutexTable.{beginnings, actions, followings};
 ghost use Rattle.lock_program.specs.Mutex.{start_of, action_of, next_of};
 ghost use Rattle.test_definitions.specs.Never.{Never};
-ghost use Rattle.test_definitions.specs.Mutex.{TriesInVain, PollsUnready, WaitsUnlisted, WaitsUnmarked, PendsTooEarly, RefusedAtFirst, RefusedHavingTaken, LetsGoUndecided, DropsUndecided, DecidesInVain, StarvedHavingTaken, StarvedTwice, StarvedAtFirst, StarvesUnlisted, HoldsRefused, ReadyWithout, TellsMore, TriesAndTells, StarvesAtFirst, PollsUntold, ReleasesLate, ReleasesSilently, PassesOverInVain, RefusedInVain, StarvesUnasked, StarvedAmongNone, KeepsItsTold, WakesTheNext, SleepsThoughFree, WakesInARing, StarvedUnwaited, RefusedSilently};
+ghost use Rattle.test_definitions.specs.Mutex.{TriesInVain, PollsUnready, WaitsUnlisted, WaitsUnmarked, PendsTooEarly, RefusedAtFirst, RefusedHavingTaken, LetsGoUndecided, DropsUndecided, DecidesInVain, StarvedHavingTaken, StarvedTwice, StarvedAtFirst, StarvesUnlisted, HoldsRefused, ReadyWithout, TellsMore, TriesAndTells, StarvesAtFirst, PollsUntold, ReleasesLate, ReleasesSilently, PassesOverInVain, RefusedInVain, StarvesUnasked, StarvedAmongNone, KeepsItsTold, WakesTheNext, SleepsThoughFree, WakesInARing, StarvedUnwaited, RefusedSilently, NeverStarved, OvertakesStarved, TakesUntold, TakesBeforeStarved, CountsUnwaited, TwoTold, OvertakenTwice, TakesPastStarved, RefusedBesideMemory, NeverPossible, LeavesCounted, DropDawdles, GoesOnForEver, StandsBy, IsOvertakenOnce};
 
 /// Each clause says of one wrong run that it isn't legal.
 fn wrong_runs()
@@ -40,6 +40,24 @@ fn wrong_runs()
     ensures wakes_in_a_ring { Never (WakesInARing) }
     ensures starved_unwaited { Never (StarvedUnwaited) }
     ensures refused_silently { Never (RefusedSilently) }
+    ensures never_starved { Never (NeverStarved) }
+    ensures overtakes_starved { Never (OvertakesStarved) }
+    ensures takes_untold { Never (TakesUntold) }
+    ensures takes_before_starved { Never (TakesBeforeStarved) }
+    ensures counts_unwaited { Never (CountsUnwaited) }
+    ensures two_told { Never (TwoTold) }
+    ensures overtaken_twice { Never (OvertakenTwice) }
+    ensures takes_past_starved { Never (TakesPastStarved) }
+    ensures refused_beside_memory { Never (RefusedBesideMemory) }
+    ensures never_possible { Never (NeverPossible) }
+    ensures leaves_counted { Never (LeavesCounted) }
+    ensures drop_dawdles { Never (DropDawdles) }
+    ensures goes_on_for_ever { Never (GoesOnForEver) }
+{}
+
+/// A worked chain of calls, which the bound on overtaking counts: two calls, one of which took the lock.
+fn overtaking()
+    ensures once { (s : StandsBy) → IsOvertakenOnce s }
 {}
 
 /// The programs' places, each with its action and what follows what it finds, as docs/PROGRAMS.md lists them.

@@ -5,7 +5,7 @@ ghost use Rattle.test_definitions.specs.ReadWriteTable.{beginnings, actions, fol
 ghost use Rattle.lock_program.specs.ReadWrite.{action_of, next_of};
 ghost use Rattle.world_rwlock.specs.program.Program.{start_of};
 ghost use Rattle.test_definitions.specs.Never.{Never};
-ghost use Rattle.test_definitions.specs.ReadWrite.{TriesInVain, ReadsUnready, WaitsUnlisted, PendsTooEarly, RefusedAtFirst, RefusedHavingMoved, ReadsWithTheBit, LetsGoUndecided, UnmarksUndecided, StopsReadingUndecided, DowngradesUndecided, DropsUndecided, DowngradesThroughNothing, OtherIsUpgrade, IdleHasTurn, TriesOn, WriteMeetsReaders, ReadMeetsStarved, LacksMemoryWithTurn, ReadMeetsReadersBesideWriter, MeetsReadersWithoutTurn, MeetsStarvedWithTurn, PassesTurnInVain, PassesReadingInVain, PassesWritingInVain, UpgradeWaitsForNobody, UpgradableUnready, WriteUnready, StarvesUnasked, KeepsItsTold, TriesTurnInVain, StarvedHavingTaken, StarvedTwice, StarvedAtFirst, DecidesInVain, TellsMany, TellsMore, WakesTheNext, SleepsThoughFree, SleepsThoughReadable, SleepsThoughWritable, StarvedForNothing, WakesInARing, PollsUntold, PollsUntoldToRead, TriesAndTells, RefusedSilently, RefusedToReadSilently, DropsLastSilently, EndsWithoutTurn, EndsWithoutBit, ReleasesUntold, LastReaderUntold, RefusedToReadUnneeded, RefusedToWriteUnneeded, RefusedTurnUnneeded};
+ghost use Rattle.test_definitions.specs.ReadWrite.{TriesInVain, ReadsUnready, WaitsUnlisted, PendsTooEarly, RefusedAtFirst, RefusedHavingMoved, ReadsWithTheBit, LetsGoUndecided, UnmarksUndecided, StopsReadingUndecided, DowngradesUndecided, DropsUndecided, DowngradesThroughNothing, OtherIsUpgrade, IdleHasTurn, TriesOn, WriteMeetsReaders, ReadMeetsStarved, LacksMemoryWithTurn, ReadMeetsReadersBesideWriter, MeetsReadersWithoutTurn, MeetsStarvedWithTurn, PassesTurnInVain, PassesReadingInVain, PassesWritingInVain, UpgradeWaitsForNobody, UpgradableUnready, WriteUnready, StarvesUnasked, KeepsItsTold, TriesTurnInVain, StarvedHavingTaken, StarvedTwice, StarvedAtFirst, DecidesInVain, TellsMany, TellsMore, WakesAWriter, WakesAReader, WakesForTheTurn, NotTheLast, WakesTheNext, SleepsThoughFree, SleepsThoughReadable, SleepsThoughWritable, SleepsBesideADrop, ReadsBesideADrop, WritesBesideADrop, StarvedForNothing, WakesInARing, PollsUntold, PollsUntoldToRead, TriesAndTells, RefusedSilently, RefusedToReadSilently, DropsLastSilently, EndsWithoutTurn, EndsWithoutBit, ReleasesUntold, LastReaderUntold, RefusedToReadUnneeded, RefusedToWriteUnneeded, RefusedTurnUnneeded, TriesTurnAndTells, EntersTurnAndTells, StopsLastSilently, ReadStarves, ReaderLost, StarvedUnwaited, CountsUnwaited, OvertakesStarved, TakesTurnUntold, TwoTold, OvertakenTwice};
 
 /// Each clause says of one wrong run that it isn't legal.
 fn wrong_runs()
@@ -46,10 +46,17 @@ fn wrong_runs()
     ensures decides_in_vain { Never (DecidesInVain) }
     ensures tells_many { Never (TellsMany) }
     ensures tells_more { Never (TellsMore) }
+    ensures wakes_a_writer { Never (WakesAWriter) }
+    ensures wakes_a_reader { Never (WakesAReader) }
+    ensures wakes_for_the_turn { Never (WakesForTheTurn) }
+    ensures not_the_last { Never (NotTheLast) }
     ensures wakes_the_next { Never (WakesTheNext) }
     ensures sleeps_though_free { Never (SleepsThoughFree) }
     ensures sleeps_though_readable { Never (SleepsThoughReadable) }
     ensures sleeps_though_writable { Never (SleepsThoughWritable) }
+    ensures sleeps_beside_a_drop { Never (SleepsBesideADrop) }
+    ensures reads_beside_a_drop { Never (ReadsBesideADrop) }
+    ensures writes_beside_a_drop { Never (WritesBesideADrop) }
     ensures starved_for_nothing { Never (StarvedForNothing) }
     ensures wakes_in_a_ring { Never (WakesInARing) }
     ensures polls_untold { Never (PollsUntold) }
@@ -65,6 +72,17 @@ fn wrong_runs()
     ensures refused_to_read_unneeded { Never (RefusedToReadUnneeded) }
     ensures refused_to_write_unneeded { Never (RefusedToWriteUnneeded) }
     ensures refused_turn_unneeded { Never (RefusedTurnUnneeded) }
+    ensures tries_turn_and_tells { Never (TriesTurnAndTells) }
+    ensures enters_turn_and_tells { Never (EntersTurnAndTells) }
+    ensures stops_last_silently { Never (StopsLastSilently) }
+    ensures read_starves { Never (ReadStarves) }
+    ensures reader_lost { Never (ReaderLost) }
+    ensures starved_unwaited { Never (StarvedUnwaited) }
+    ensures counts_unwaited { Never (CountsUnwaited) }
+    ensures overtakes_starved { Never (OvertakesStarved) }
+    ensures takes_turn_untold { Never (TakesTurnUntold) }
+    ensures two_told { Never (TwoTold) }
+    ensures overtaken_twice { Never (OvertakenTwice) }
 {}
 
 /// The programs' places, each with its action and what follows what it finds, as docs/PROGRAMS.md lists them.

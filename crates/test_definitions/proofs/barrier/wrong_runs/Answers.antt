@@ -230,6 +230,12 @@ returns-clause-wakes_all c = λ r.
 pub returns-clause-sleeps_though_free : goal.returns-clause-sleeps_though_free
 returns-clause-sleeps_though_free c = λ r. elim (r.sound.told_or_due r.free r.party r.stands r.listed) as (λ _. ⊥) [ inl some ↦ absurd (omega (arith, some, r.none_told)) | inr one ↦ r.none_due one.0 one.1 ]
 
+pub returns-clause-sleeps_beside_a_poll : goal.returns-clause-sleeps_beside_a_poll
+returns-clause-sleeps_beside_a_poll c = λ r. elim (r.sound.told_or_due r.free r.party r.stands r.listed) as (λ _. ⊥) [
+  | inl some ↦ absurd (omega (arith, some, r.none_told))
+  | inr one ↦ elim (one.1.owes (r.decided one.0 one.1.due)) as (λ _. ⊥) [ inl tells ↦ true≢false (sym tells ∙ r.none_tells one.0) | inr refused ↦ true≢false (sym refused ∙ r.none_refused one.0) ]
+]
+
 -- a refusal for too many starved parties has that cause
 starved_cause : (m : Move) (old new : World) (r : Refusal) → number_of refusal.Starved ≡ number_of r → IsCause old m new r → IsOutOfStarved old m new
 starved_cause m old new refusal.Starved e h = h
@@ -294,3 +300,15 @@ pub returns-clause-refused_unneeded : goal.returns-clause-refused_unneeded
 returns-clause-refused_unneeded c = λ r.
     let told : IsToldOfLock r.whole.old r.whole.party r.whole.inputs = record { pending = r.was_pending; marked = r.marked; memory = λ must. absurd (r.goes_on must) } in
     never_for_memory _ _ _ _ _ (r.kept.told r.polls told r.free (inr r.none_starved)).comes_to r.is_refused
+
+pub returns-clause-starved_unwaited : goal.returns-clause-starved_unwaited
+returns-clause-starved_unwaited c = λ r. (r.kept.first_patient r.first r.none_starved).0 r.is_refused
+
+pub returns-clause-counts_unwaited : goal.returns-clause-counts_unwaited
+returns-clause-counts_unwaited c = λ r. false≢true (sym (r.kept.first_patient r.first r.none_starved).1 ∙ r.starved)
+
+pub returns-clause-overtakes_starved : goal.returns-clause-overtakes_starved
+returns-clause-overtakes_starved c = λ r. elim (r.kept.newcomer r.first r.some_starved) as (λ _. ⊥) [ inl waits ↦ (let pending = waits.0 in cc (pending, r.ready)) | inr turned ↦ (let ready = r.ready in cc (turned, ready)) ]
+
+pub returns-clause-two_told_of_lock : goal.returns-clause-two_told_of_lock
+returns-clause-two_told_of_lock c = λ r. (let one = r.sound.one_told in absurd (omega (arith, one, r.two)))

@@ -1,5 +1,5 @@
 -- No wrong run of a mutex is legal.
-use Rattle.std.proofs.Common.{◌≡◌, ℕ, ◌||◌, if◌then◌else◌, Bool, true, false, Some, None, refl, arith, ap, sym, ◌∙◌, subst, inr}
+use Rattle.std.proofs.Common.{◌≡◌, ℕ, zero, suc, ◌+◌, ◌<◌, ◌≤◌, ◌||◌, if◌then◌else◌, Bool, true, false, Some, None, refl, arith, ap, sym, ◌∙◌, subst, inr}
 use Rattle.std.proofs.lemmas.Bool.{false≢true, true≢false}
 use Rattle.world_base.specs.queue.Parties.{entries_of}
 use Rattle.world_base.specs.declared.moves.Answer.{Answer}
@@ -13,7 +13,8 @@ use Rattle.lock_program.specs.declared.refusal.Refusal.TheVariants as refusal
 use Rattle.world_base.specs.declared.standing.Within.{Within}
 use Rattle.world_base.specs.Frame.{is_drop}
 use Rattle.lock_program.specs.Refusals.{number_of}
-use Rattle.world_base.specs.Standings.{Standing, inside, is_decided, is_possible}
+use Rattle.world_base.specs.Standings.{Standing, inside, inputs_of, is_decided, is_possible}
+use Rattle.world_mutex.specs.Whole.{steps_left_of}
 use Rattle.world_base.specs.Steps.{Deed, nothing, changes, does}
 use Rattle.world_base.proofs.Equations.{some_none, none_some, outside_inside}
 use Rattle.world_base.proofs.Lists.{notified_marked}
@@ -188,3 +189,57 @@ returns-clause-starved_unwaited c = λ r. r.kept.first_patient r.first r.none_st
 
 pub returns-clause-refused_silently : goal.returns-clause-refused_silently
 returns-clause-refused_silently c = λ r. r.none_told (r.legal.refuses r.within r.why r.refused r.unlisted r.unstarved r.possible).1
+
+pub returns-clause-never_starved : goal.returns-clause-never_starved
+returns-clause-never_starved c = λ r. true≢false (sym (r.kept.serves_starved.held r.polls r.solo (inl r.long) r.room r.held) ∙ r.patient)
+
+pub returns-clause-overtakes_starved : goal.returns-clause-overtakes_starved
+returns-clause-overtakes_starved c = λ r. elim (r.kept.serves_starved.newcomer r.first r.some_starved) as (λ _. ⊥) [ inl waits ↦ (let pending = waits.0 in cc (pending, r.ready)) | inr turned ↦ (let ready = r.ready in cc (turned, ready)) ]
+
+pub returns-clause-takes_untold : goal.returns-clause-takes_untold
+returns-clause-takes_untold c = λ r. r.kept.serves_starved.only_told r.some_starved r.without r.untold r.takes
+
+pub returns-clause-takes_before_starved : goal.returns-clause-takes_before_starved
+returns-clause-takes_before_starved c = λ r. r.kept.serves_starved.behind r.polls r.told r.at_rest r.patient r.some_starved r.takes
+
+pub returns-clause-counts_unwaited : goal.returns-clause-counts_unwaited
+returns-clause-counts_unwaited c = λ r. true≢false (sym r.starved ∙ r.kept.first_unstarved r.first r.none_starved)
+
+pub returns-clause-two_told : goal.returns-clause-two_told
+returns-clause-two_told c = λ r. (let one = r.sound.one_told in absurd (omega (arith, one, r.two)))
+
+pub returns-clause-overtaken_twice : goal.returns-clause-overtaken_twice
+returns-clause-overtaken_twice c = λ r. (let few = r.seldom r.party r.calls 2 r.new r.overtaken in absurd (omega (arith, few, r.one_before)))
+
+pub returns-clause-takes_past_starved : goal.returns-clause-takes_past_starved
+returns-clause-takes_past_starved c = λ r. elim (r.legal.taken_fairly r.step.move.party r.takes r.without).1 as (λ _. ⊥) [ inl none ↦ absurd (omega (arith, none, r.some_starved)) | inr starved ↦ true≢false (sym starved ∙ r.patient) ]
+
+-- the input found no memory where a call is refused for it
+no_memory : (m : Move) (old new : World) (r : Refusal) → number_of refusal.Memory ≡ number_of r → IsCause old m new r → (inputs_of m.what).memory ≡ false
+no_memory m old new refusal.Memory e h = h.0
+no_memory m old new _ e h = absurd (cc)
+
+pub returns-clause-refused_beside_memory : goal.returns-clause-refused_beside_memory
+returns-clause-refused_beside_memory c = λ r.
+    let why = r.legal.refused_for_cause.cause (number_of refusal.Memory) r.refused in
+    true≢false (sym r.memory ∙ no_memory r.step.move r.step.old r.step.new why.0 why.1 why.2)
+
+pub returns-clause-never_possible : goal.returns-clause-never_possible
+returns-clause-never_possible c = λ r. none_some (sym (r.legal.possible.exactly.0 r.impossible) ∙ r.may)
+
+pub returns-clause-leaves_counted : goal.returns-clause-leaves_counted
+returns-clause-leaves_counted c = λ r. true≢false (sym r.starved ∙ (own_at r.step.new r.party _ r.gives_back (r.legal.leaves_clear.each r.party)).1 r.unlisted)
+
+-- each step of one call leaves fewer
+fewer_left : (left : ℕ → ℕ) → ((n : ℕ) → left (suc n) < left n) → (n : ℕ) → left n + n ≤ left 0
+fewer_left left falls zero = omega arith
+fewer_left left falls (suc n) = let before = fewer_left left falls n in let one = falls n in omega (arith, before, one)
+
+pub returns-clause-drop_dawdles : goal.returns-clause-drop_dawdles
+returns-clause-drop_dawdles c = λ r. let ended = (r.legal.abandons r.drops r.pending r.listed r.unstarved).0 in absurd (cc (ended, r.goes_on))
+
+pub returns-clause-goes_on_for_ever : goal.returns-clause-goes_on_for_ever
+returns-clause-goes_on_for_ever c = λ r.
+    let left : ℕ → ℕ = λ n. steps_left_of (r.world n) r.party in
+    let low = fewer_left left (λ n. r.falls (r.world n) r.party r.inputs answer.Stepped (r.world (suc n)) (r.stepped n)) (suc (left 0)) in
+    absurd (omega (arith, low))

@@ -29,7 +29,8 @@ use Rattle.test_definitions.proofs.rwlock.wrong_runs.Goals as goal
 use Rattle.world_base.specs.Standings.{IsUndecided}
 use Rattle.world_base.specs.Steps.{notifies, notifies_additionally}
 use Rattle.world_rwlock.specs.Changes.{IsAllowed}
-use Rattle.world_rwlock.specs.State.{is_starved, for_the_turn, for_no_readers, for_no_writer, has_to_tell}
+use Rattle.world_rwlock.specs.State.{is_starved, is_for_turn, for_the_turn, for_no_readers, for_no_writer, has_to_tell}
+use Rattle.std.proofs.lemmas.List.{get_or-set_other}
 use Rattle.lock_event.specs.Lists.{marked_count}
 
 none_possible : (a : Answer) → a ≡ answer.None → is_possible a ≡ true
@@ -314,8 +315,8 @@ allowed_at s legal d e = let P : Deed Change ListName → Type 0 = λ x. IsAllow
 
 tells_one : (w : World) (p : ℕ) (list : ListName) (n : ℕ) → IsAllowed p (does list (notifies n)) w → n ≡ 1
 tells_one w p for_the_turn n h = h.one
-tells_one w p for_no_readers n h = h
-tells_one w p for_no_writer n h = h
+tells_one w p for_no_readers n h = h.0
+tells_one w p for_no_writer n h = h.0
 
 never_more : (w : World) (p : ℕ) (list : ListName) (n : ℕ) → IsAllowed p (does list (notifies_additionally n)) w → ⊥
 never_more w p for_the_turn n h = h
@@ -327,6 +328,22 @@ returns-clause-tells_many c = λ r. r.more (tells_one r.step.old r.step.move.par
 
 pub returns-clause-tells_more : goal.returns-clause-tells_more
 returns-clause-tells_more c = λ r. never_more r.step.old r.step.move.party r.list r.more (allowed_at r.step r.legal (does r.list (notifies_additionally r.more)) r.tells)
+
+pub returns-clause-wakes_a_writer : goal.returns-clause-wakes_a_writer
+returns-clause-wakes_a_writer c = λ r. let may = allowed_at r.step r.legal (does for_no_readers (notifies r.many)) r.notifies in true≢false (sym may.1 ∙ r.idle)
+
+pub returns-clause-wakes_a_reader : goal.returns-clause-wakes_a_reader
+returns-clause-wakes_a_reader c = λ r.
+    let may = allowed_at r.step r.legal (does for_no_writer (notifies r.many)) r.notifies in
+    elim may.1 as (λ _. ⊥) [ inl tells ↦ true≢false (sym tells ∙ r.idle) | inr reads ↦ r.sought reads ]
+
+pub returns-clause-wakes_for_the_turn : goal.returns-clause-wakes_for_the_turn
+returns-clause-wakes_for_the_turn c = λ r.
+    let may = allowed_at r.step r.legal (does for_the_turn (notifies r.many)) r.notifies in
+    elim may.cause as (λ _. ⊥) [ inl tells ↦ true≢false (sym tells ∙ r.idle) | inr seeks ↦ true≢false (sym seeks ∙ r.sought) ]
+
+pub returns-clause-not_the_last : goal.returns-clause-not_the_last
+returns-clause-not_the_last c = λ r. let last = (r.legal.gives_up.only_last r.idle r.tells).1 in absurd (omega (arith, last, r.others))
 
 pub returns-clause-wakes_the_next : goal.returns-clause-wakes_the_next
 returns-clause-wakes_the_next c = λ r.
@@ -341,6 +358,24 @@ returns-clause-sleeps_though_readable c = λ r. elim (r.sound.reading_told_or_du
 
 pub returns-clause-sleeps_though_writable : goal.returns-clause-sleeps_though_writable
 returns-clause-sleeps_though_writable c = λ r. elim (r.sound.writing_told_or_due r.free r.party r.stands r.listed) as (λ _. ⊥) [ inl some ↦ absurd (omega (arith, some, r.none_told)) | inr one ↦ r.none_due one.0 one.1 ]
+
+pub returns-clause-sleeps_beside_a_drop : goal.returns-clause-sleeps_beside_a_drop
+returns-clause-sleeps_beside_a_drop c = λ r. elim (r.sound.turn_told_or_due r.free r.party r.stands r.listed) as (λ _. ⊥) [
+  | inl some ↦ absurd (omega (arith, some, r.none_told))
+  | inr one ↦ elim (one.1.owes (r.decided one.0 one.1.due)) as (λ _. ⊥) [ inl tells ↦ true≢false (sym tells ∙ r.none_tells one.0) | inr refused ↦ true≢false (sym refused.0 ∙ r.none_refused one.0) ]
+]
+
+pub returns-clause-reads_beside_a_drop : goal.returns-clause-reads_beside_a_drop
+returns-clause-reads_beside_a_drop c = λ r. elim (r.sound.reading_told_or_due r.free r.party r.stands r.listed) as (λ _. ⊥) [
+  | inl some ↦ absurd (omega (arith, some, r.none_told))
+  | inr one ↦ elim (one.1.owes (r.decided one.0 one.1.due)) as (λ _. ⊥) [ inl tells ↦ true≢false (sym tells ∙ r.none_tells one.0) | inr refused ↦ true≢false (sym refused.0 ∙ r.none_refused one.0) ]
+]
+
+pub returns-clause-writes_beside_a_drop : goal.returns-clause-writes_beside_a_drop
+returns-clause-writes_beside_a_drop c = λ r. elim (r.sound.writing_told_or_due r.free r.party r.stands r.listed) as (λ _. ⊥) [
+  | inl some ↦ absurd (omega (arith, some, r.none_told))
+  | inr one ↦ true≢false (sym one.1.owes ∙ r.none_tells one.0)
+]
 
 pub returns-clause-starved_for_nothing : goal.returns-clause-starved_for_nothing
 returns-clause-starved_for_nothing c = λ r. r.kept.patient r.patient r.unstarved r.refused
@@ -364,7 +399,7 @@ pub returns-clause-refused_to_read_silently : goal.returns-clause-refused_to_rea
 returns-clause-refused_to_read_silently c = λ r. r.none_told (r.legal.refuses_read r.within r.why r.refused r.to_read r.unlisted r.possible).1
 
 pub returns-clause-drops_last_silently : goal.returns-clause-drops_last_silently
-returns-clause-drops_last_silently c = λ r. r.ended (r.legal.gives_up.last_reader r.drops r.read r.last).0
+returns-clause-drops_last_silently c = λ r. r.ended (r.legal.gives_up.last_reader r.read r.last (inl r.drops)).0
 
 pub returns-clause-ends_without_turn : goal.returns-clause-ends_without_turn
 returns-clause-ends_without_turn c = λ r. r.ended (r.legal.gives_up.turn r.had r.lost).0
@@ -387,7 +422,7 @@ returns-clause-releases_untold c = λ r.
 
 pub returns-clause-last_reader_untold : goal.returns-clause-last_reader_untold
 returns-clause-last_reader_untold c = λ r.
-    let left = (r.legal.gives_up.last_reader r.drops r.read r.last).1 in
+    let left = (r.legal.gives_up.last_reader r.read r.last (inl r.drops)).1 in
     let still = still_to_tell for_no_readers r.first.move.party r.between r.first.new r.next.old r.meanwhile left in
     elim (r.legal_too.gives_up.tells for_no_readers (ap (has_to_tell for_no_readers r.next.old) r.same ∙ still) r.possible) as (λ _. ⊥) [ inl told ↦ r.untold told | inr later ↦ r.ended later.0 ]
 
@@ -407,3 +442,57 @@ returns-clause-refused_turn_unneeded c = λ r.
       | inl ready ↦ (let is = ready.0 in cc (r.is_refused))
       | inr waits ↦ (let is = waits.0 in cc (r.is_refused))
     ]
+
+pub returns-clause-tries_turn_and_tells : goal.returns-clause-tries_turn_and_tells
+returns-clause-tries_turn_and_tells c = λ r. r.tells (r.legal.try_turn_looks r.tries r.possible)
+
+pub returns-clause-enters_turn_and_tells : goal.returns-clause-enters_turn_and_tells
+returns-clause-enters_turn_and_tells c = λ r. r.tells (r.legal.first_upgradable_looks r.first)
+
+pub returns-clause-stops_last_silently : goal.returns-clause-stops_last_silently
+returns-clause-stops_last_silently c = λ r. true≢false (sym (r.legal.gives_up.last_reader r.read r.last (inr r.unmarked)).1 ∙ r.silent)
+
+wants_turn : (p : ℕ) (w : World) (d : Deed Change ListName) → d ≡ changes starves → IsAllowed p d w → is_for_turn (sought_by w p) ≡ true
+wants_turn p w d e may = let A : Deed Change ListName → Type 0 = λ z. IsAllowed p z w in (subst A e may).2
+
+pub returns-clause-read_starves : goal.returns-clause-read_starves
+returns-clause-read_starves c = λ r. false≢true (sym (ap is_for_turn r.reader) ∙ wants_turn r.step.move.party r.step.old r.legal.one_change.deed r.counts r.legal.one_change.allowed)
+
+-- a change is of the moving party's own right to read
+others_read : (p q : ℕ) (d : Deed Change ListName) (rs : List Bool) → q ≢ p → is_on (readers_after p d rs) q ≡ is_on rs q
+others_read p q (changes begins_to_read) rs apart = get_or-set_other rs p q true false apart
+others_read p q (changes becomes_upgradable) rs apart = get_or-set_other rs p q true false apart
+others_read p q (changes downgrades) rs apart = get_or-set_other rs p q true false apart
+others_read p q (changes downgrades_to_upgradable) rs apart = get_or-set_other rs p q true false apart
+others_read p q (changes stops_reading) rs apart = get_or-set_other rs p q false false apart
+others_read p q (changes stops_upgradable) rs apart = get_or-set_other rs p q false false apart
+others_read p q (changes upgrades) rs apart = get_or-set_other rs p q false false apart
+others_read p q (changes upgrades_at_once) rs apart = get_or-set_other rs p q false false apart
+others_read p q (changes (puts v)) rs apart = refl
+others_read p q (changes _) rs apart = refl
+others_read p q nothing rs apart = refl
+others_read p q (does list f) rs apart = refl
+
+pub returns-clause-reader_lost : goal.returns-clause-reader_lost
+returns-clause-reader_lost c = λ r.
+    let one = r.legal.one_change in
+    let same = ap (λ (s : State). is_on s.readers r.reader) one.state ∙ others_read r.step.move.party r.reader one.deed r.step.old.state.readers r.another in
+    true≢false (sym r.read ∙ (sym same ∙ r.lost))
+
+pub returns-clause-starved_unwaited : goal.returns-clause-starved_unwaited
+returns-clause-starved_unwaited c = λ r. (r.kept.first_patient r.first r.none_starved).0 r.is_refused
+
+pub returns-clause-counts_unwaited : goal.returns-clause-counts_unwaited
+returns-clause-counts_unwaited c = λ r. true≢false (sym r.starved ∙ (r.kept.first_patient r.first r.none_starved).1)
+
+pub returns-clause-overtakes_starved : goal.returns-clause-overtakes_starved
+returns-clause-overtakes_starved c = λ r. elim (r.kept.newcomer r.first r.some_starved) as (λ _. ⊥) [ inl waits ↦ (let pending = waits.0 in cc (pending, r.ready)) | inr turned ↦ (let ready = r.ready in cc (turned, ready)) ]
+
+pub returns-clause-takes_turn_untold : goal.returns-clause-takes_turn_untold
+returns-clause-takes_turn_untold c = λ r. r.kept.only_told r.some_starved r.without r.untold r.takes
+
+pub returns-clause-two_told : goal.returns-clause-two_told
+returns-clause-two_told c = λ r. (let one = r.sound.one_told r.list in absurd (omega (arith, one, r.two)))
+
+pub returns-clause-overtaken_twice : goal.returns-clause-overtaken_twice
+returns-clause-overtaken_twice c = λ r. (let few = r.seldom r.party r.calls 2 r.new r.overtaken in absurd (omega (arith, few, r.one_before)))
