@@ -1,5 +1,5 @@
 -- A poll that took no notification, and a try: beside starved parties it waits as one of them, is refused or in vain; where there are none it isn't counted.
-use Rattle.world_mutex.proofs.Prelude.{◌≡◌, ℕ, zero, suc, ◌+◌, ◌<◌, ◌==◌, ◌&&◌, ◌⊎◌, inl, inr, Bool, true, false, List, length, refl, arith, ap, sym, ◌∙◌, subst, get_or-set_same, nat_tests, false≢true, true≢false, sum_by-set, set, sum_by, Entry, is_marked_at, is_party, entries_of, is_refusal, joined_unmarked, Refusal, refused, End, Step, Found, Done, Free, Held, SomeStarved, AtLimit, NoMemory, Yes, No, Next, Place, Enter, Join, Look, Ask, Count, AskStarved, Leave, RefuseLeave, action_of, next_of, place_after, step_of, counted, listed, Acts, Finds, Lock, SameRoles, place_at, OnParties, Mutex, course_at, course_of, AreKept, is_kept, seen}
+use Rattle.world_mutex.proofs.Prelude.{◌≡◌, ℕ, ◌+◌, ◌<◌, ◌⊎◌, inl, inr, Bool, true, false, List, length, refl, arith, ap, sym, ◌∙◌, subst, get_or-set_same, nat_tests, false≢true, true≢false, sum_by-set, set, sum_by, Entry, is_marked_at, is_party, entries_of, is_refusal, joined_unmarked, Refusal, refused, End, Step, Found, Done, Free, Held, SomeStarved, AtLimit, NoMemory, Yes, No, Next, Place, Enter, Join, Look, Ask, Count, AskStarved, Leave, RefuseLeave, action_of, next_of, place_after, step_of, counted, listed, Acts, Finds, Lock, SameRoles, place_at, OnParties, course_at, course_of, AreKept, is_kept, seen}
 use Rattle.std.specs.Prelude.{nat_lt}
 use Rattle.world_base.proofs.Lists.{unlisted_unmarked}
 use Rattle.world_mutex.specs.machine.Acts as by
