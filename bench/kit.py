@@ -48,18 +48,18 @@ def place_library(crate, kept, jobs):
     return key
 
 
-def try_alone(words):
+def try_alone(words, is_checked):
     """Does what `rt try` does, but that what is built is optimised, and that no check is started beside it, which gives a hint alone.
 
-    `rt try` compiles with checks of each address, and without optimisation; the walks of the lockstep tests then take ten times as long.
-    So the compiler is reached through a folder of links, by a script that asks it for -O1 in the place of -O0.
+    `rt try` compiles with checks of each address, and without optimisation; the walks of the lockstep tests then take more than ten times as long.
+    So the compiler is reached through a folder of links, by a script that has it optimise, and leave the checks out unless they are wanted.
     """
     with tempfile.TemporaryDirectory(prefix='kit-') as room:
         linked(FOLDER, room, 'toolchain')
         linked(f'{FOLDER}/toolchain', f'{room}/toolchain', 'bin')
         linked(f'{FOLDER}/toolchain/bin', f'{room}/toolchain/bin', 'clang')
         with open(f'{room}/toolchain/bin/clang', 'w', encoding='utf-8') as file:
-            file.write(OPTIMISED.format(FOLDER))
+            file.write(OPTIMISED.format(FOLDER, *(('-O1', '-fsanitize=address') if is_checked else ('-O2', ''))))
         os.chmod(f'{room}/toolchain/bin/clang', 0o755)
         rt.rtlib.RATTLE, rt.rtlib.KIT = 'true', room
         return rt.main(['try', *words])
@@ -67,10 +67,13 @@ def try_alone(words):
 
 OPTIMISED = """#!/bin/bash
 for word; do
-    [ "$word" = -O0 ] && word=-O1
-    words+=("$word")
+    case $word in
+    -O0) words+=({1}) ;;
+    -fsanitize=address) words+=({2}) ;;
+    *) words+=("$word") ;;
+    esac
 done
-exec {}/toolchain/bin/clang "${{words[@]}}"
+exec {0}/toolchain/bin/clang "${{words[@]}}"
 """
 
 
@@ -83,4 +86,4 @@ def linked(folder, to, apart):
 
 
 if __name__ == '__main__':
-    sys.exit(try_alone(sys.argv[1:]))
+    sys.exit(try_alone([it for it in sys.argv[1:] if it != '--unchecked'], '--unchecked' not in sys.argv))
