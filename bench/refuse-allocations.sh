@@ -24,8 +24,6 @@ import tempfile
 
 folder = sys.argv[1]
 
-# More allocations than a run makes.
-REFUSED = 1200
 # How many a run of lockrun makes at most, beside those of a World, and a run of `threads 4` and of each example.
 RUN, WORLD, THREADS = 24, 10, 120
 EXAMPLES = {"first_lock": 60, "lock_examples": 900}
@@ -74,6 +72,7 @@ def copy_of(crate, top):
 def run_all(crate, cases):
     """Runs a program by its cases, each a name with its input, its arguments and the number of the allocation that is refused. Returns
     what each prints, its status and what it tells."""
+    most = max(number for _, _, number in cases.values())
     with tempfile.TemporaryDirectory() as top:
         program = copy_of(crate, top)
         os.mkdir(f"{top}/cases")
@@ -81,8 +80,8 @@ def run_all(crate, cases):
             with open(f"{top}/cases/{name}", "w") as file:
                 file.write(given)
             with open(f"{top}/cases/{name}.args", "w") as file:
-                file.write("\n".join([str(REFUSED - number), *arguments]) + "\n")
-        command = ["rt", "try", "--cases", f"{top}/cases", "--fail-alloc", str(REFUSED)]
+                file.write("\n".join([str(most - number), *arguments]) + "\n")
+        command = ["rt", "try", "--cases", f"{top}/cases", "--fail-alloc", str(most)]
         ran = subprocess.run(command, cwd=program, stdin=subprocess.DEVNULL, capture_output=True, text=True)
     blocks = re.split(r"^== (.*)\n", ran.stdout, flags=re.MULTILINE)
     printed = dict(zip(blocks[1::2], blocks[2::2]))
