@@ -1,10 +1,10 @@
 #!/bin/sh
 # Refuses each allocation in turn to all that takes memory, and looks how each run tells of it: the public calls of each lock
-# (check-refusals.sh), the same with their threads (refuse-calls.sh), and lockrun with each script and with four threads, and the examples
+# (check-refusals.sh), the same with their threads (refuse-calls.sh), and lockrun with each script and with four threads
 # (refuse-allocations.sh). Each goes to its end, whatever the others find. The last line sums up their figures: runs, allocations refused,
 # and differences. Status 1 where there is one, or where a check ends without figures.
 #
-# Run it at the top of the repository, with `rt` on the PATH: bench/refuse-all.sh. It takes some ten minutes.
+# Run it at the top of the repository, with `rt` on the PATH: bench/refuse-all.sh. It takes some twenty minutes.
 set -u
 
 work=$(mktemp)
