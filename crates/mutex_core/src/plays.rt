@@ -1,0 +1,169 @@
+//! What each step tells the seat that makes it.
+
+use crate::rule::Counts;
+use crate::view::View;
+use atomic_table::Play;
+
+// Nothing changes for the seat.
+pub(crate) struct Keep;
+
+impl<L> Play<L, View> for Keep {
+    ghost use Rattle.mutex_core.specs.Steps.{Kept};
+
+    ghost then = { λ _ m _ m'. Kept m m' };
+}
+
+// A look at the mutex's word.
+pub(crate) struct Looks;
+
+impl<L> Play<L, View> for Looks {
+    ghost use Rattle.mutex_core.specs.Steps.{Looked};
+
+    ghost then = { λ _ m r m'. Looked m r m' };
+}
+
+// The step by which a seat gets the lock from the word that it expects: else it has looked.
+pub(crate) struct Takes;
+
+impl<L> Play<L, View> for Takes {
+    ghost use Rattle.std.specs.Prelude.{◌≡◌, ◌≢◌};
+    ghost use Rattle.mutex_core.specs.Seats.{got_of};
+    ghost use Rattle.mutex_core.specs.Steps.{Looked};
+
+    ghost then = { λ st m r m'. (r ≡ st.first → m' ≡ (got_of m.0, m.1)) × (r ≢ st.first → Looked m r m') };
+}
+
+// A seat is counted as starved, with an entry in the list.
+pub(crate) struct CountsListed;
+
+impl<L> Play<L, View> for CountsListed {
+    ghost use Rattle.std.specs.Prelude.{◌≡◌, ◌≢◌};
+    ghost use Rattle.mutex_core.specs.Seats.{counted_listed_of};
+
+    ghost then = { λ st m r m'. (r ≡ st.first → m' ≡ (counted_listed_of m.0, m.1)) × (r ≢ st.first → m' ≡ m) };
+}
+
+// A seat is counted as starved, and owes a look.
+pub(crate) struct CountsUnlisted;
+
+impl<L> Play<L, View> for CountsUnlisted {
+    ghost use Rattle.std.specs.Prelude.{◌≡◌, ◌≢◌};
+    ghost use Rattle.mutex_core.specs.Seats.{counted_unlisted_of};
+
+    ghost then = { λ st m r m'. (r ≡ st.first → m' ≡ (counted_unlisted_of m.0, m.1)) × (r ≢ st.first → m' ≡ m) };
+}
+
+// A seat's count goes off.
+pub(crate) struct Uncounts;
+
+impl<L> Play<L, View> for Uncounts {
+    ghost use Rattle.std.specs.Prelude.{◌≡◌};
+    ghost use Rattle.mutex_core.specs.Seats.{uncounted_of};
+
+    ghost then = { λ _ m _ m'. m' ≡ (uncounted_of m.0, m.1) };
+}
+
+// The step that gives the lock back: the seat owes a notification.
+pub(crate) struct Clears;
+
+impl<L> Play<L, View> for Clears {
+    ghost use Rattle.std.specs.Prelude.{◌≡◌};
+    ghost use Rattle.mutex_core.specs.Seats.{cleared_of};
+
+    ghost then = { λ _ m _ m'. m' ≡ (cleared_of m.0, m.1) };
+}
+
+// A look at the list's word: who finds the list empty owes nothing any more.
+pub(crate) struct Peeks;
+
+impl<L> Play<L, View> for Peeks {
+    ghost use Rattle.std.specs.Prelude.{◌≡◌};
+    ghost use Rattle.mutex_core.specs.Seats.{peeking};
+
+    ghost then = { λ _ m r m'. m' ≡ (peeking r m.0, m.1) };
+}
+
+// The step that takes the list's lock, where it was free.
+pub(crate) struct Grabs;
+
+impl<L: Counts> Play<L, View> for Grabs {
+    ghost use Rattle.mutex_core.specs.Steps.{Grabbed};
+
+    ghost then = { λ _ m r m'. Grabbed L.len L.marked m r m' };
+}
+
+// The step that gives the list back, in which its entry stands now.
+pub(crate) struct Joined;
+
+impl<L> Play<L, View> for Joined {
+    ghost use Rattle.std.specs.Prelude.{◌≡◌};
+    ghost use Rattle.atomic_table.specs.Table.{rest};
+    ghost use Rattle.mutex_core.specs.Seats.{joined_of};
+
+    ghost then = { λ _ m _ m'. m' ≡ (joined_of m.0, rest m.1) };
+}
+
+// The same, which its entry has left, notified: the seat owes.
+pub(crate) struct Told;
+
+impl<L> Play<L, View> for Told {
+    ghost use Rattle.std.specs.Prelude.{◌≡◌};
+    ghost use Rattle.atomic_table.specs.Table.{rest};
+    ghost use Rattle.mutex_core.specs.Seats.{told_of};
+
+    ghost then = { λ _ m _ m'. m' ≡ (told_of m.0, rest m.1) };
+}
+
+// The same, and the seat has notified.
+pub(crate) struct Paid;
+
+impl<L> Play<L, View> for Paid {
+    ghost use Rattle.std.specs.Prelude.{◌≡◌};
+    ghost use Rattle.atomic_table.specs.Table.{rest};
+    ghost use Rattle.mutex_core.specs.Seats.{paid_of};
+
+    ghost then = { λ _ m _ m'. m' ≡ (paid_of m.0, rest m.1) };
+}
+
+// The same, which its entry has left.
+pub(crate) struct Gone;
+
+impl<L> Play<L, View> for Gone {
+    ghost use Rattle.std.specs.Prelude.{◌≡◌};
+    ghost use Rattle.atomic_table.specs.Table.{rest};
+    ghost use Rattle.mutex_core.specs.Seats.{gone_of};
+
+    ghost then = { λ _ m _ m'. m' ≡ (gone_of m.0, rest m.1) };
+}
+
+// The same, unchanged.
+pub(crate) struct Same;
+
+impl<L> Play<L, View> for Same {
+    ghost use Rattle.std.specs.Prelude.{◌≡◌};
+    ghost use Rattle.atomic_table.specs.Table.{rest};
+    ghost use Rattle.mutex_core.specs.Seats.{back};
+
+    ghost then = { λ _ m _ m'. m' ≡ (back m.0, rest m.1) };
+}
+
+// The step by which the only one who is starved gets the lock: else it has looked, and found its own count.
+pub(crate) struct TakesAlone;
+
+impl<L> Play<L, View> for TakesAlone {
+    ghost use Rattle.std.specs.Prelude.{◌≡◌, ◌≢◌};
+    ghost use Rattle.mutex_core.specs.Seats.{got_of};
+    ghost use Rattle.mutex_core.specs.Steps.{Looked};
+
+    ghost then = { λ st m r m'. (r ≡ st.first → m' ≡ (got_of m.0, m.1)) × (r ≢ st.first → Looked m r m') × (r ≢ 0) };
+}
+
+// The step by which a seat gets the lock, whoever is starved.
+pub(crate) struct Lifts;
+
+impl<L> Play<L, View> for Lifts {
+    ghost use Rattle.std.specs.Prelude.{◌≡◌, ◌≢◌, ◌%◌};
+    ghost use Rattle.mutex_core.specs.Seats.{got_of};
+
+    ghost then = { λ _ m r m'. (r % 2 ≡ 0 → m' ≡ (got_of m.0, m.1)) × (r % 2 ≢ 0 → m' ≡ m) };
+}

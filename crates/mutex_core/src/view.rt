@@ -1,0 +1,31 @@
+//! What a seat knows of itself.
+
+ghost use Rattle.std.specs.Prelude.{ℕ};
+
+use std::marker::Model;
+
+/// What a seat knows of itself. No value of it is made.
+pub struct View {
+    /// Whether it holds the lock.
+    pub holds: bool,
+    /// Whether it is counted as starved.
+    pub starved: bool,
+    /// Whether it has to notify somebody, or to look at the lock on behalf of the others.
+    pub owes: bool,
+    /// Whether it has an entry in the list.
+    pub listed: bool,
+    /// Whether it has joined the list, and has not looked at the lock since.
+    pub fresh: bool,
+    /// Whether it has the list out.
+    pub has_list: bool,
+    /// How many entries the list had when the seat took it out.
+    pub ghost len: { ℕ },
+    /// How many of them were notified.
+    pub ghost marked: { ℕ },
+}
+
+impl Model for View {
+    ghost use base.Fml.{ftrue};
+
+    ghost also_owns = { λ _. ftrue };
+}
