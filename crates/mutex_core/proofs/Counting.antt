@@ -1,24 +1,19 @@
 -- What the calls on a list do to its counts.
-use Rattle.std.proofs.Common.{◌≡◌, ◌+◌, ◌-◌, ◌<◌, ◌≤◌, Bool, List, [], ◌∷◌, length, refl, sym, ap, ◌∙◌, subst, arith, Option, None, Result, Ok, Err, IfOk, OnOk}
+use Rattle.std.proofs.Common.{◌≡◌, ◌+◌, ◌-◌, ◌<◌, ◌≤◌, Bool, true, false, List, [], ◌∷◌, length, refl, sym, ap, ◌∙◌, subst, arith, Option, None, Result, Ok, Err, IfOk, OnOk}
 use Rattle.lock_event.specs.declared.event.Entry.{Entry}
 use Rattle.lock_event.specs.declared.event.EntryId.{EntryId}
 use Rattle.lock_event.specs.declared.event.Mark.TheVariants.{Notified}
 use Rattle.lock_event.specs.declared.event.Slot.{Slot}
 use Rattle.lock_event.specs.declared.event.Asked.{Asked}
 use Rattle.lock_event.specs.declared.event.Asked.TheVariants as asked
-use Rattle.lock_event.specs.Lists.{marked_count, joined, notified, left, without, with_key, mark_at}
+use Rattle.lock_event.specs.Lists.{marked_count, joined, notified, left, without, with_key, mark_at, is_listed, is_marked_at}
 use Rattle.lock_event.specs.Slots.{without_waker, has_id, slot_of, HasAsked}
 use Rattle.lock_event.proofs.Counts.{length-joined, marked_count-notified, marked_count-left, length-passed_on}
 use Rattle.lock_event.proofs.Marks.{length-mark_waiting, marked_count-joined, marked_count-with_key}
 use Rattle.mutex_core.specs.Asking.{ByAsk}
+use Rattle.mutex_core.specs.Entries.{HasJoined, HasLeft, HasShrunk, IsSameSize, IsTold}
 
 module _ {K : Type 0} where
-  abbrev pub IsTold : List (Entry K) → List (Entry K) → Type 0
-  IsTold old new = (length new ≡ length old) × (0 < length new → 0 < marked_count new)
-
-  abbrev pub HasLeft : List (Entry K) → List (Entry K) → Type 0
-  HasLeft old new = (length old ≤ length new + 1) × (length new ≤ length old) × (0 < length new → 0 < marked_count old → 0 < marked_count new)
-
   pub told : (es : List (Entry K)) → IsTold es (notified es 1)
   told es = let l = length-mark_waiting Notified (1 - marked_count es) es in (l, λ some. marked_count-notified es (omega arith))
 
@@ -59,7 +54,20 @@ module _ {W : Type 0} where
   has-asked id w old new (asked.Waiting kept) h = (ap length h.2 ∙ length-with_key (has_id id) (slot_of id w) old, ap marked_count h.2 ∙ marked_count-with_key (has_id id) (slot_of id w) old)
   has-asked id w old new (asked.Unlisted unused) h = let l : length new ≡ length old = ap length h.1 in omega arith
 
-  pub has-joined : {B : Type 0} (old new : List (Entry (Slot W))) (r : Result EntryId B) → IfOk r (λ id. new ≡ joined old (slot_of id None))
-      → OnOk r ((length new ≡ length old + 1) × (marked_count new ≡ marked_count old))
-  has-joined old new (Ok id) h = (ap length h ∙ length-joined old (slot_of id None), ap marked_count h ∙ marked_count-joined old (slot_of id None))
-  has-joined old new (Err e) h = tt
+  -- a new entry that asks at once waits
+  pub not-marked : (test : Slot W → Bool) (k : Slot W) (es : List (Entry (Slot W))) → is_listed test es ≡ false → is_marked_at test (joined es k) ≡ false
+  not-marked test k [] h = grind arith
+  not-marked test k (e ∷ es) h = grind (arith, not-marked test k es)
+
+  -- an entry that has joined and asked with a waker
+  pub has-joined : (id : EntryId) (w : Option W) (old mid new : List (Entry (Slot W))) (a : Asked W) → is_listed (has_id id) old ≡ false → mid ≡ joined old (slot_of id None) → HasAsked id w mid a new → HasJoined old new
+  has-joined id w old mid new (asked.Notified kept unused) fresh is h =
+      absurd (let q : true ≡ false = sym h.0 ∙ subst (λ (l : List (Entry (Slot W))). is_marked_at (has_id id) l ≡ false) (sym is) (not-marked (has_id id) (slot_of id None) old fresh) in cc)
+  has-joined id w old mid new (asked.Waiting kept) fresh is h = (
+    ap length h.2 ∙ length-with_key (has_id id) (slot_of id w) mid ∙ ap length is ∙ length-joined old (slot_of id None),
+    ap marked_count h.2 ∙ marked_count-with_key (has_id id) (slot_of id w) mid ∙ ap marked_count is ∙ marked_count-joined old (slot_of id None),
+  )
+  has-joined id w old mid new (asked.Unlisted unused) fresh is h = (
+    ap length h.1 ∙ ap length is ∙ length-joined old (slot_of id None),
+    ap marked_count h.1 ∙ ap marked_count is ∙ marked_count-joined old (slot_of id None),
+  )

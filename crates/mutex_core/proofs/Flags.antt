@@ -8,6 +8,7 @@ use mathlib.Core.Option.{some, some-injective, some-ne-none}
 use lib.ListN.{get_elem?}
 use Rattle.words_base.specs.Sums.{weight, number}
 use Rattle.words_base.proofs.Sums.{number-at}
+use Rattle.mutex_core.specs.Rule.{SaysEmpty}
 
 pub never : {P : Type 0} → false ≡ true → P
 never e = absurd (cc)
@@ -33,13 +34,13 @@ or_three x = ap (λ n. bit_or x 3 + n) (sym (and_mask x 2)) ∙ or_add_and x 3
 
 -- what setting the lowest bits of the list's word leaves
 abbrev pub SetsLow : ℕ → Type 0
-SetsLow k = (n : ℕ) → n < 8 → (bit_or n k % 2 ≡ 1) × (bit_or n k < 8) × (bit_or n k < 4 → n < 4)
+SetsLow k = (n : ℕ) → (bit_or n k % 2 ≡ 1) × (SaysEmpty (bit_or n k) → SaysEmpty n)
 
 pub sets-one : SetsLow 1
-sets-one n small = let z : ℕ = bit_or n 1 in let is : z + n % 2 ≡ n + 1 = or_one n in (omega arith, omega arith, λ below. omega arith)
+sets-one n = let z : ℕ = bit_or n 1 in let is : z + n % 2 ≡ n + 1 = or_one n in (omega arith, λ below. omega arith)
 
 pub sets-three : SetsLow 3
-sets-three n small = let z : ℕ = bit_or n 3 in let is : z + n % 4 ≡ n + 3 = or_three n in (omega arith, omega arith, λ below. omega arith)
+sets-three n = let z : ℕ = bit_or n 3 in let is : z + n % 4 ≡ n + 3 = or_three n in (omega arith, λ below. omega arith)
 
 module _ {V : Type 0} (flag : V → Bool) where
   abbrev pub Some : List V → Type 0

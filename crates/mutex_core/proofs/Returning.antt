@@ -1,5 +1,5 @@
 -- What is known of a list that is about to be given back.
-use Rattle.std.proofs.Common.{◌≡◌, ℕ, ◌<◌, ◌≤◌, ◌+◌, List, [], ◌∷◌, sym, ap, ◌∙◌, subst, Result, Ok, Err, OnOk, OnErr, MatchResult}
+use Rattle.std.proofs.Common.{◌≡◌, ℕ, ◌<◌, ◌≤◌, ◌+◌, List, [], ◌∷◌, refl, sym, ap, ◌∙◌, subst, Result, Ok, Err, OnOk, OnErr, MatchResult}
 use Rattle.atomic_table.specs.Table.{Me, rest}
 use Rattle.lock_event.specs.declared.event.Asked.{Asked}
 use Rattle.lock_event.specs.declared.event.Asked.TheVariants.{Notified, Waiting, Unlisted}
@@ -11,7 +11,7 @@ use Rattle.mutex_core.specs.declared.view.View.{View}
 module _ {S : Type 0} (len_of marked_of : S → ℕ) (m : Me S View) (held : IsHeld len_of marked_of m) where
   -- the slot that the seat took last is the list's
   pub lent : (old : S) × (m.1 ≡ (0, old) ∷ rest m.1)
-  lent = (held.0, held.4 ∙ ap (λ (l : List (ℕ × S)). (0, held.0) ∷ rest l) (sym held.4))
+  lent = (held.0, held.4)
 
   -- the same list
   same : (now : S) → m.1 ≡ (0, now) ∷ rest m.1 → held.0 ≡ now
@@ -31,7 +31,7 @@ module _ {S : Type 0} (len_of marked_of : S → ℕ) (m : Me S View) (held : IsH
   After left = (m.0, (0, left) ∷ rest m.1)
 
   has : (left : S) → Has (After left) left
-  has left = (held.1, ap (λ (l : List (ℕ × S)). (0, left) ∷ rest l) held.4)
+  has left = (held.1, refl)
 
   pub stays : (now left : S) (n : ℕ) → m.1 ≡ (0, now) ∷ rest m.1 → Says len_of left n → (len_of left ≡ len_of now) × (marked_of left ≡ marked_of now) → CanStay len_of marked_of (After left) n
   stays now left n e says f = (left, has left, says, f.0 ∙ len-now now e, f.1 ∙ marked-now now e)
@@ -65,8 +65,17 @@ module _ {S : Type 0} (len_of marked_of : S → ℕ) (m : Me S View) (held : IsH
   asks now left n (Unlisted unused) e says f = hears now left n e says f
 
 -- the list is out now
-pub held_of : {S : Type 0} (len_of marked_of : S → ℕ) (m m' : Me S View) (list : S) → m' ≡ (listing_of (len_of list) (marked_of list) m.0, (0, list) ∷ m.1) → m.1 ≡ [] → IsHeld len_of marked_of m' × IsSame m.0 m'.0
-held_of {S} len_of marked_of m m' list e idle = (
-  (list, ap (λ (n : Me S View). n.0.has_list) e, ap (λ (n : Me S View). n.0.len) e, ap (λ (n : Me S View). n.0.marked) e, ap (λ (n : Me S View). n.1) e ∙ ap (λ (l : List (ℕ × S)). (0, list) ∷ l) idle),
-  (ap (λ (n : Me S View). n.0.holds) e, ap (λ (n : Me S View). n.0.starved) e, ap (λ (n : Me S View). n.0.owes) e, ap (λ (n : Me S View). n.0.listed) e, ap (λ (n : Me S View). n.0.fresh) e),
+pub held_of : {S : Type 0} (len_of marked_of : S → ℕ) (m m' : Me S View) (list : S) → m' ≡ (listing_of (len_of list) (marked_of list) m.0, (0, list) ∷ m.1) → IsHeld len_of marked_of m' × IsSame m.0 m'.0 × (rest m'.1 ≡ m.1)
+held_of {S} len_of marked_of m m' list e = (
+  (list, ap (λ (n : Me S View). n.0.has_list) e, ap (λ (n : Me S View). n.0.len) e, ap (λ (n : Me S View). n.0.marked) e, ap (λ (n : Me S View). n.1) e ∙ ap (λ (n : Me S View). (0, list) ∷ rest n.1) (sym e)),
+  (
+    ap (λ (n : Me S View). n.0.holds) e,
+    ap (λ (n : Me S View). n.0.starved) e,
+    ap (λ (n : Me S View). n.0.owes) e,
+    ap (λ (n : Me S View). n.0.listed) e,
+    ap (λ (n : Me S View). n.0.fresh) e,
+    ap (λ (n : Me S View). n.0.room) e,
+    ap (λ (n : Me S View). n.0.deed) e,
+  ),
+  ap (λ (n : Me S View). rest n.1) e,
 )

@@ -5,13 +5,14 @@ use mathlib.Core.Logic.{dite}
 use native.Mathlib.Decide.{ℕ_discrete}
 use lib.ListN.{get_elem?}
 use Rattle.atomic_table.specs.Table.{State}
+use Rattle.lock_place.specs.Held.{RoomId}
 use Rattle.words_base.specs.Sums.{number}
 use Rattle.mutex_core.specs.Rule.{is_holder, is_owing, is_fresh, has_list_out, Ruled}
 use Rattle.mutex_core.specs.Laws.{IsFree, IsListHome, Lies, SomeOwes, ManyAreToLook, IsAtRest}
 use Rattle.mutex_core.specs.declared.view.View.{View}
 use Rattle.mutex_core.proofs.Flags.{number-some, number-no}
 
-module _ {S : Type 0} (len_of marked_of : S → ℕ) (s : State S View) (r : Ruled len_of marked_of s) (is_free : IsFree s) where
+module _ {S : Type 0} (len_of marked_of : S → ℕ) (is_right : RoomId → ℕ → S → Type 0) (room : RoomId) (deed : ℕ) (s : State S View) (r : Ruled len_of marked_of is_right room deed s) (is_free : IsFree s) where
   nobody : number is_holder s.views ≡ 0
   nobody = let one = r.word.1 in let is = r.word.3 in omega arith
 

@@ -1,8 +1,9 @@
 pub mod Rule
 pub mod Laws
 pub mod Seats
+pub mod Locks
 pub mod Steps
 pub mod Asking
-pub mod Tries
+pub mod Entries
+pub mod Cells
 pub mod Turns
-pub mod Lengths

@@ -1,8 +1,16 @@
-//! The rule of a mutex and its list for the very program that the mutex carries out: who has joined and looked waits by the others' duties,
-//! whether it found the lock held, or free and others starved.
+//! A mutex whose word, waiting list and right to the value stand under one rule: no wake-up is lost.
+//!
+//! [`Words`] is the mutex: an atomic table with two words, the list in one slot and the right to the value in another. Its whole calls
+//! ([`Words::poll_first`], [`Words::release`] and the others) are the mutex's program. What always holds between any two atomic steps of any number of
+//! threads is [`MutexRule`], and [`no_lost_wakeup`] is what it says of a free lock.
 #![tactic(auto)]
 
+mod calls;
+mod cell;
+mod counts;
+mod due;
 mod laws;
+mod list;
 mod list_steps;
 mod mutex;
 mod plays;
@@ -11,13 +19,14 @@ mod seat;
 mod steps;
 mod turn;
 mod view;
-mod waiters;
 mod words;
 
+pub use cell::Cell;
+pub use due::{Due, Wakes, Woken};
 pub use laws::no_lost_wakeup;
-pub use rule::{Counts, MutexRule};
+pub use mutex::Task;
+pub use rule::{Content, MutexRule};
 pub use seat::Seat;
 pub use turn::{Held, Starving, Turn, Waiting};
 pub use view::View;
-pub use waiters::{Waiters, Wakes};
-pub use words::{Took, Words};
+pub use words::{STARVED_LIMIT, Words};

@@ -1,110 +1,162 @@
 //! The list, taken out of its place and given back.
 
-ghost use Rattle.std.specs.Prelude.{◌≡◌, [], MatchResult};
-ghost use Rattle.mutex_core.specs.Lengths.{waiters_len, waiters_marked};
+ghost use Rattle.std.specs.Prelude.{◌≡◌, MatchResult};
+ghost use Rattle.atomic_table.specs.Table.{rest};
+ghost use Rattle.mutex_core.specs.Cells.{cell_len, cell_marked};
 ghost use Rattle.mutex_core.specs.Steps.{IsHeld, IsSame, CanJoin, CanHear, CanPay, CanLeave, CanStay};
 ghost use Rattle.mutex_core.specs.Asking.{ByAsk};
 
-use crate::rule::Counts;
-use crate::steps::{ENTRIES, LIST, Ruled, SLOT, grab, grab_asleep};
+use crate::cell::Cell;
+use crate::due::{Due, Wakes};
+use crate::rule::Content;
+use crate::steps::{ASLEEP, ENTRIES, LIST, LIST_SLOT, OUT, Ruled, grab, grab_asleep};
 use crate::view::View;
-use crate::waiters::Waiters;
 use atomic_table::Seat as TableSeat;
 use lock_event::{Asked, EntryId, Memory};
+use std::alloc::Global;
 use std::sync::Wait;
 
-// Takes the list out, and waits while another has it.
-pub(crate) fn take_out<L: Counts, R: Wait>(
-    shared: &Ruled<L>,
+/// The tables of mutexes over a `T`, whose waiters are woken by a `W`.
+pub(crate) type Listing<T, W> = Ruled<T, Cell<T, W>>;
+
+/// The seats of those tables.
+pub(crate) type Lister<T, W> = TableSeat<Cell<T, W>, View>;
+
+// Takes the list out, and waits while another has it. What is returned is the word that was found.
+#[inline]
+pub(crate) fn take_out<T, S: Content, R: Wait>(
+    shared: &Ruled<T, S>,
     rt: &R,
-    inner: &mut TableSeat<L, View>,
-)
+    inner: &mut TableSeat<S, View>,
+) -> u64
     requires table { (inner.old.table_id ≡ shared.now.table_id) × (shared.now.table_id.words ≡ 2) }
-    requires idle { inner.old.me.1 ≡ [] }
     ensures table { inner.new.table_id ≡ inner.old.table_id }
-    ensures held { IsHeld L.len L.marked inner.new.me }
+    ensures held { IsHeld S.len S.marked inner.new.me }
     ensures same { IsSame inner.old.me.0 inner.new.me.0 }
+    ensures others { rest inner.new.me.1 ≡ inner.old.me.1 }
 {
-    if grab(shared, inner) % 2 == 0 {
-        return;
+    let found = grab(shared, inner);
+    if found % 2 == 0 {
+        return found;
     }
+    take_out_asleep(shared, rt, inner)
+}
+
+// The same, where another has the list. It stands apart, since hardly ever two parties want the list at once.
+#[cold]
+#[inline(never)]
+fn take_out_asleep<T, S: Content, R: Wait>(
+    shared: &Ruled<T, S>,
+    rt: &R,
+    inner: &mut TableSeat<S, View>,
+) -> u64
+    requires table { (inner.old.table_id ≡ shared.now.table_id) × (shared.now.table_id.words ≡ 2) }
+    ensures table { inner.new.table_id ≡ inner.old.table_id }
+    ensures held { IsHeld S.len S.marked inner.new.me }
+    ensures same { IsSame inner.old.me.0 inner.new.me.0 }
+    ensures others { rest inner.new.me.1 ≡ inner.old.me.1 }
+{
     for _ in rt.forever() {
         let found = grab_asleep(shared, inner);
         if found % 2 == 0 {
-            return;
+            return found;
         }
-        let asleep = if found >= ENTRIES { 7 } else { 3 };
-        shared.park(rt, LIST, asleep);
+        shared.park(rt, LIST, low_half(found - found % ENTRIES + (OUT + ASLEEP)));
     }
     unreachable!()
 }
 
+// A thread sleeps while the lower half of a word is this. Notifications change it too: so it looks again then.
+fn low_half(word: u64) -> u32 {
+    (word % 4_294_967_296) as u32
+}
+
 // Wakes one that sleeps for the list, if the word said that somebody may.
-pub(crate) fn wake_next<L: Counts>(shared: &Ruled<L>, found: u64)
+#[inline]
+pub(crate) fn wake_next<T, S: Content>(shared: &Ruled<T, S>, found: u64)
     requires { shared.now.table_id.words ≡ 2 }
 {
-    if found % 4 >= 2 {
+    if found % ENTRIES >= ASLEEP {
         shared.wake_one(LIST);
     }
 }
 
-// What is done to the list while it is out: what is to stand in its word comes last.
+// What is done to the list while it is out, in whose word `found` stood: what is to stand there comes last.
 
-pub(crate) fn join_in<W: Drop>(
-    shared: &Ruled<Waiters<W>>,
-    inner: &mut TableSeat<Waiters<W>, View>,
+pub(crate) fn join_in<T, W: Wakes>(
+    shared: &Listing<T, W>,
+    inner: &mut Lister<T, W>,
+    alloc: Global,
+    waker: Option<W>,
+    found: u64,
 ) -> (Result<EntryId, Memory>, u64)
     requires table { inner.old.table_id ≡ shared.now.table_id }
-    requires held { IsHeld waiters_len waiters_marked inner.old.me }
+    requires held { IsHeld cell_len cell_marked inner.old.me }
     ensures table { inner.new.table_id ≡ inner.old.table_id }
     ensures view { inner.new.me.0 ≡ inner.old.me.0 }
-    ensures ready { MatchResult result.0 (λ _. CanJoin waiters_len waiters_marked inner.new.me result.1) (λ _. CanStay waiters_len waiters_marked inner.new.me result.1) }
+    ensures others { rest inner.new.me.1 ≡ rest inner.old.me.1 }
+    ensures ready { MatchResult result.0 (λ _. CanJoin cell_len cell_marked inner.new.me result.1) (λ _. CanStay cell_len cell_marked inner.new.me result.1) }
 {
-    let list = inner.slot_mut(shared, SLOT);
-    list.join()
+    let list = inner.slot_mut(shared, LIST_SLOT);
+    let joined = list.join(alloc, waker);
+    let says = list.says(found, false);
+    (joined, says)
 }
 
-pub(crate) fn notify_in<W: Drop>(
-    shared: &Ruled<Waiters<W>>,
-    inner: &mut TableSeat<Waiters<W>, View>,
-) -> (Option<W>, u64)
+pub(crate) fn notify_in<T, W: Wakes>(
+    shared: &Listing<T, W>,
+    inner: &mut Lister<T, W>,
+    found: u64,
+) -> (Due<W>, u64)
     requires table { inner.old.table_id ≡ shared.now.table_id }
-    requires held { IsHeld waiters_len waiters_marked inner.old.me }
+    requires held { IsHeld cell_len cell_marked inner.old.me }
     ensures table { inner.new.table_id ≡ inner.old.table_id }
     ensures view { inner.new.me.0 ≡ inner.old.me.0 }
-    ensures ready { CanPay waiters_len waiters_marked inner.new.me result.1 }
+    ensures others { rest inner.new.me.1 ≡ rest inner.old.me.1 }
+    ensures ready { CanPay cell_len cell_marked inner.new.me result.1 }
 {
-    let list = inner.slot_mut(shared, SLOT);
-    list.notify()
+    let list = inner.slot_mut(shared, LIST_SLOT);
+    let due = list.notify();
+    let says = list.says(found, true);
+    (due, says)
 }
 
-pub(crate) fn leave_in<W: Drop>(
-    shared: &Ruled<Waiters<W>>,
-    inner: &mut TableSeat<Waiters<W>, View>,
+pub(crate) fn leave_in<T, W: Wakes>(
+    shared: &Listing<T, W>,
+    inner: &mut Lister<T, W>,
     id: EntryId,
-) -> (Option<W>, Option<W>, u64)
+    found: u64,
+) -> (Option<W>, Due<W>, u64)
     requires table { inner.old.table_id ≡ shared.now.table_id }
-    requires held { IsHeld waiters_len waiters_marked inner.old.me }
+    requires held { IsHeld cell_len cell_marked inner.old.me }
     ensures table { inner.new.table_id ≡ inner.old.table_id }
     ensures view { inner.new.me.0 ≡ inner.old.me.0 }
-    ensures ready { CanLeave waiters_len waiters_marked inner.new.me result.2 }
+    ensures others { rest inner.new.me.1 ≡ rest inner.old.me.1 }
+    ensures ready { CanLeave cell_len cell_marked inner.new.me result.2 }
 {
-    let list = inner.slot_mut(shared, SLOT);
-    list.leave(id)
+    let list = inner.slot_mut(shared, LIST_SLOT);
+    let (kept, due) = list.leave(id);
+    let tells = list.is_notified();
+    let says = list.says(found, tells);
+    (kept, due, says)
 }
 
-pub(crate) fn ask_in<W: Drop>(
-    shared: &Ruled<Waiters<W>>,
-    inner: &mut TableSeat<Waiters<W>, View>,
+pub(crate) fn ask_in<T, W: Wakes>(
+    shared: &Listing<T, W>,
+    inner: &mut Lister<T, W>,
     id: EntryId,
     waker: Option<W>,
+    found: u64,
 ) -> (Asked<W>, u64)
     requires table { inner.old.table_id ≡ shared.now.table_id }
-    requires held { IsHeld waiters_len waiters_marked inner.old.me }
+    requires held { IsHeld cell_len cell_marked inner.old.me }
     ensures table { inner.new.table_id ≡ inner.old.table_id }
     ensures view { inner.new.me.0 ≡ inner.old.me.0 }
-    ensures ready { ByAsk result.0 (CanHear waiters_len waiters_marked inner.new.me result.1) (CanStay waiters_len waiters_marked inner.new.me result.1) }
+    ensures others { rest inner.new.me.1 ≡ rest inner.old.me.1 }
+    ensures ready { ByAsk result.0 (CanHear cell_len cell_marked inner.new.me result.1) (CanStay cell_len cell_marked inner.new.me result.1) }
 {
-    let list = inner.slot_mut(shared, SLOT);
-    list.ask(id, waker)
+    let list = inner.slot_mut(shared, LIST_SLOT);
+    let asked = list.ask(id, waker);
+    let says = list.says(found, false);
+    (asked, says)
 }

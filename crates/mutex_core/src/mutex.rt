@@ -1,332 +1,347 @@
-//! The calls on the list, and whole calls of a mutex.
+//! Whole calls of a mutex, action by action as its program has them.
+//!
+//! A call's comments name its places: L0 to L11 of a lock, whose pending ends are L3 and L8.
 
-ghost use Rattle.std.specs.Prelude.{◌≡◌, true, false, OnOk, OnErr, IfSome};
-ghost use Rattle.mutex_core.specs.Seats.{with_joined, with_told, with_paid, with_gone};
-ghost use Rattle.mutex_core.specs.Asking.{ByAsk};
-ghost use Rattle.mutex_core.specs.Turns.{IsTurnOf};
+ghost use Rattle.std.specs.Prelude.{◌≡◌, true, false, IfSome};
+ghost use Rattle.mutex_core.specs.Locks.{IsOf};
+ghost use Rattle.mutex_core.specs.Turns.{IsHeldOf, IsTurnOf};
 
-use crate::list_steps::{ask_in, join_in, leave_in, notify_in, take_out, wake_next};
+use crate::calls::Joined;
+use crate::due::Wakes;
 use crate::seat::Seat;
-use crate::steps::{give_gone, give_joined, give_paid, give_same, give_told};
 use crate::turn::{Held, Starving, Turn, Waiting};
-use crate::waiters::{Waiters, Wakes};
-use crate::words::{Took, Words};
-use lock_event::{Asked, EntryId, Memory};
+use crate::words::Words;
+use lock_event::{EntryId, Memory};
+use lock_program::Refusal;
 use std::sync::Wait;
+use std::time::{Clock, Duration, Instant};
+use words_base::{Setting, Taking, TakingAlone};
 
-impl<W: Wakes> Words<Waiters<W>> {
-    /// Adds an entry at the back. It has not looked yet then. [`Memory`] comes only if memory was refused, and nothing has changed then.
-    pub fn join<R: Wait>(&self, rt: &R, seat: &mut Seat<Waiters<W>>) -> Result<EntryId, Memory>
-        requires table { seat.old.table ≡ self.now }
-        requires away { (seat.old.listed ≡ false) × (seat.old.starved ≡ true → seat.old.owes ≡ true) }
-        ensures joined { OnOk result (seat.new ≡ with_joined seat.old) }
-        ensures refused { OnErr result (seat.new ≡ seat.old) }
-    {
-        let shared = &self.table.shared;
-        take_out(shared, rt, &mut seat.inner);
-        let (joined, says) = join_in(shared, &mut seat.inner);
-        match joined {
-            Ok(id) => {
-                let found = give_joined(shared, &mut seat.inner, says);
-                wake_next(shared, found);
-                Ok(id)
-            }
-            Err(memory) => {
-                let found = give_same(shared, &mut seat.inner, says);
-                wake_next(shared, found);
-                Err(memory)
-            }
-        }
-    }
+/// How long a waiter is overtaken by newcomers before it counts as starved, in microseconds.
+const PATIENCE: u64 = 500;
 
-    /// Notifies one who waits, unless one is notified. The seat owes nothing any more.
-    pub fn notify<R: Wait>(&self, rt: &R, seat: &mut Seat<Waiters<W>>)
-        requires table { seat.old.table ≡ self.now }
-        requires stands { seat.old.starved ≡ true → (seat.old.listed ≡ true) × (seat.old.fresh ≡ false) }
-        ensures { seat.new ≡ with_paid seat.old }
-    {
-        let shared = &self.table.shared;
-        take_out(shared, rt, &mut seat.inner);
-        let (due, says) = notify_in(shared, &mut seat.inner);
-        let found = give_paid(shared, &mut seat.inner, says);
-        wake_next(shared, found);
-        if let Some(waker) = due {
-            waker.wake();
-        }
-    }
-
-    /// An entry leaves without asking: a notification that it had goes on to the next.
-    pub fn leave<R: Wait>(&self, rt: &R, seat: &mut Seat<Waiters<W>>, id: EntryId)
-        requires table { seat.old.table ≡ self.now }
-        requires stands { (seat.old.listed ≡ true) × (seat.old.fresh ≡ false) × (seat.old.starved ≡ false) }
-        ensures { seat.new ≡ with_gone seat.old }
-    {
-        let shared = &self.table.shared;
-        take_out(shared, rt, &mut seat.inner);
-        let (kept, due, says) = leave_in(shared, &mut seat.inner, id);
-        let found = give_gone(shared, &mut seat.inner, says);
-        wake_next(shared, found);
-        drop(kept);
-        if let Some(waker) = due {
-            waker.wake();
-        }
-    }
-
-    /// Asks for the notification of an entry. Notified, it has left the list, and the seat owes: it takes the lock, finds it held, or
-    /// notifies another.
-    pub fn ask<R: Wait>(
-        &self,
-        rt: &R,
-        seat: &mut Seat<Waiters<W>>,
-        id: EntryId,
-        waker: Option<W>,
-    ) -> Asked<W>
-        requires table { seat.old.table ≡ self.now }
-        requires stands { (seat.old.listed ≡ true) × (seat.old.fresh ≡ false) }
-        ensures { ByAsk result (seat.new ≡ with_told seat.old) (seat.new ≡ seat.old) }
-    {
-        let shared = &self.table.shared;
-        take_out(shared, rt, &mut seat.inner);
-        let (asked, says) = ask_in(shared, &mut seat.inner, id, waker);
-        match asked {
-            Asked::Waiting { kept } => {
-                let found = give_same(shared, &mut seat.inner, says);
-                wake_next(shared, found);
-                Asked::Waiting { kept }
-            }
-            Asked::Notified { kept, unused } => {
-                let found = give_told(shared, &mut seat.inner, says);
-                wake_next(shared, found);
-                Asked::Notified { kept, unused }
-            }
-            Asked::Unlisted { unused } => {
-                let found = give_told(shared, &mut seat.inner, says);
-                wake_next(shared, found);
-                Asked::Unlisted { unused }
-            }
-        }
-    }
+/// A task that polls.
+pub trait Task<W> {
+    /// Makes a waker of this task. None comes only if there was no memory for one: the task is then polled again anyway.
+    fn waker(&mut self) -> Option<W>;
 }
 
-impl<W: Wakes> Words<Waiters<W>> {
-    /// Gives the lock back, and notifies one who waits: by its type the call can't end before.
-    pub fn release<R: Wait>(&self, rt: &R, held: Held<W>)
-        requires { held.seat.table ≡ self.now }
+impl<T, W: Wakes> Words<T, W> {
+    /// Takes the lock, if it is free and nobody is starved.
+    pub fn try_lock(&self) -> Option<Held<T, W>>
+        ensures { IfSome result (IsHeldOf self.now) }
     {
-        let Held { mut seat } = held;
-        self.clear(&mut seat);
+        let mut seat = self.sit();
+        match self.take(&mut seat) {
+            Taking::Got(hold) => Some(Held { seat, hold }),
+            Taking::Held => {
+                seat.rise();
+                None
+            }
+            Taking::Starved => {
+                seat.rise();
+                None
+            }
+        }
+    }
+
+    /// Gives the lock back, and notifies the first who waits: by the seat's type the call can't end before.
+    pub fn release<R: Wait>(&self, rt: &R, held: Held<T, W>)
+        requires { IsHeldOf self.now held }
+    {
+        let Held { mut seat, hold } = held;
+        self.clear(&mut seat, hold);
         if self.may_have_entries(&mut seat) {
             self.notify(rt, &mut seat);
         }
         seat.rise();
     }
 
-    /// The lock, if it is free.
-    pub fn try_lock(&self) -> Option<Held<W>>
-        ensures { IfSome result (λ held. held.seat.table ≡ self.now) }
-    {
-        let mut seat = self.sit();
-        match self.take(&mut seat) {
-            Took::Got => Some(Held { seat }),
-            Took::Held => {
-                seat.rise();
-                None
-            }
-            Took::Starved => {
-                seat.rise();
-                None
-            }
-        }
-    }
-
-    /// A first poll. Pending, its seat owes nothing: it has looked since it joined, and found the lock held, or free and others starved.
-    pub fn poll_first<R: Wait>(&self, rt: &R, waker: W) -> Turn<W>
+    /// Polls a lock for the first time. A party that waits has looked since it joined, and found the lock held, or others starved.
+    pub fn poll_first<R: Wait + Clock, K: Task<W>>(&self, rt: &R, task: &mut K) -> Turn<T, W>
         ensures { IsTurnOf self.now result }
     {
         let mut seat = self.sit();
+        // L0
         match self.take(&mut seat) {
-            Took::Got => return Turn::Got(Held { seat }),
-            Took::Held => {}
-            Took::Starved => {}
+            Taking::Got(hold) => return Turn::Got(Held { seat, hold }),
+            Taking::Held => {}
+            Taking::Starved => {}
         }
-        self.go_on(rt, seat, Some(waker))
+        self.wait(rt, task, seat, None, false)
     }
 
-    /// A later poll.
-    pub fn poll_later<R: Wait>(&self, rt: &R, waiting: Waiting<W>, waker: W) -> Turn<W>
-        requires { waiting.seat.table ≡ self.now }
+    /// Polls a lock that waits.
+    pub fn poll_later<R: Wait + Clock, K: Task<W>>(
+        &self,
+        rt: &R,
+        task: &mut K,
+        waiting: Waiting<T, W>,
+    ) -> Turn<T, W>
+        requires { IsOf self.now waiting.seat }
         ensures { IsTurnOf self.now result }
     {
-        let Waiting { mut seat, id } = waiting;
-        let unused = match self.ask(rt, &mut seat, id, Some(waker)) {
-            Asked::Waiting { kept: _kept } => return Turn::Waits(Waiting { seat, id }),
-            Asked::Notified {
-                kept: _kept,
-                unused,
-            } => unused,
-            Asked::Unlisted { unused } => unused,
-        };
-        match self.take(&mut seat) {
-            Took::Got => return Turn::Got(Held { seat }),
-            Took::Held => {}
-            Took::Starved => self.notify(rt, &mut seat),
+        let Waiting {
+            mut seat,
+            id,
+            since,
+        } = waiting;
+        // L3
+        if !self.ask(rt, &mut seat, id, task.waker()) {
+            return Turn::Waits(Waiting { seat, id, since });
         }
-        self.go_on(rt, seat, unused)
+        self.wait(rt, task, seat, since, true)
     }
 
-    // Joins, looks and asks, until it has the lock or waits.
-    fn go_on<R: Wait>(&self, rt: &R, seat: Seat<Waiters<W>>, waker: Option<W>) -> Turn<W>
-        requires table { seat.table ≡ self.now }
+    /// Polls a lock that waits and is counted as starved.
+    pub fn poll_starving<R: Wait + Clock, K: Task<W>>(
+        &self,
+        rt: &R,
+        task: &mut K,
+        starving: Starving<T, W>,
+    ) -> Turn<T, W>
+        requires { IsOf self.now starving.seat }
+        ensures { IsTurnOf self.now result }
+    {
+        let Starving { mut seat, id } = starving;
+        // L8
+        if !self.ask(rt, &mut seat, id, task.waker()) {
+            return Turn::Starves(Starving { seat, id });
+        }
+        self.strive(rt, task, seat, true)
+    }
+
+    /// Drops a lock that waits: it leaves the list, and a notification that it had goes on to the next.
+    pub fn cancel<R: Wait>(&self, rt: &R, waiting: Waiting<T, W>)
+        requires { IsOf self.now waiting.seat }
+    {
+        let Waiting {
+            mut seat,
+            id,
+            since: _,
+        } = waiting;
+        self.leave(rt, &mut seat, id);
+        seat.rise();
+    }
+
+    /// Drops a lock that waits and is counted as starved: its count goes off first.
+    pub fn cancel_starving<R: Wait>(&self, rt: &R, starving: Starving<T, W>)
+        requires { IsOf self.now starving.seat }
+    {
+        let Starving { mut seat, id } = starving;
+        self.uncount(&mut seat);
+        self.leave(rt, &mut seat, id);
+        seat.rise();
+    }
+
+    // L4, if it was told, or L1: joins, looks and asks, until it has the lock or waits, or others or it are starved.
+    fn wait<R: Wait + Clock, K: Task<W>>(
+        &self,
+        rt: &R,
+        task: &mut K,
+        seat: Seat<T, W>,
+        since: Option<Instant>,
+        told: bool,
+    ) -> Turn<T, W>
+        requires of { IsOf self.now seat }
+        requires idle { (seat.holds ≡ false) × (seat.starved ≡ false) × (seat.listed ≡ false) × (seat.fresh ≡ false) }
+        requires told { told ≡ false → seat.owes ≡ false }
+        ensures { IsTurnOf self.now result }
+    {
+        let mut seat = seat;
+        let mut told = told;
+        for _ in rt.forever() {
+            if told {
+                // L4
+                match self.take(&mut seat) {
+                    Taking::Got(hold) => return Turn::Got(Held { seat, hold }),
+                    Taking::Held => {
+                        if has_waited_long(rt, &since) {
+                            return self.count_away(rt, task, seat);
+                        }
+                    }
+                    Taking::Starved => {
+                        self.notify(rt, &mut seat);
+                        return self.count_away(rt, task, seat);
+                    }
+                }
+            }
+            // L1
+            let joined = match self.join(rt, &mut seat, task.waker()) {
+                Ok(joined) => joined,
+                Err(Memory) => return self.refuse(rt, seat, told, Refusal::Memory),
+            };
+            let Joined { id, word } = joined;
+            // L2
+            match self.take(&mut seat) {
+                Taking::Got(hold) => {
+                    // L11
+                    self.leave(rt, &mut seat, id);
+                    return Turn::Got(Held { seat, hold });
+                }
+                Taking::Held => {}
+                Taking::Starved => return self.count_here(rt, task, seat, id, told),
+            }
+            // L3
+            if self.is_still(word) || !self.ask(rt, &mut seat, id, None) {
+                let since = first_of(rt, since);
+                return Turn::Waits(Waiting { seat, id, since });
+            }
+            told = true;
+        }
+        unreachable!()
+    }
+
+    // L5, of a party that has an entry.
+    #[cold]
+    #[inline(never)]
+    fn count_here<R: Wait + Clock, K: Task<W>>(
+        &self,
+        rt: &R,
+        task: &mut K,
+        seat: Seat<T, W>,
+        id: EntryId,
+        told: bool,
+    ) -> Turn<T, W>
+        requires of { IsOf self.now seat }
+        requires idle { (seat.holds ≡ false) × (seat.starved ≡ false) × (seat.owes ≡ false) × (seat.listed ≡ true) × (seat.fresh ≡ false) }
+        ensures { IsTurnOf self.now result }
+    {
+        let mut seat = seat;
+        if !self.count_listed(rt, &mut seat) {
+            self.leave(rt, &mut seat, id);
+            return self.refuse(rt, seat, told, Refusal::Starved);
+        }
+        // L8
+        if !self.ask(rt, &mut seat, id, None) {
+            return Turn::Starves(Starving { seat, id });
+        }
+        self.strive(rt, task, seat, true)
+    }
+
+    // L5, of a party that was told and has no entry.
+    #[cold]
+    #[inline(never)]
+    fn count_away<R: Wait + Clock, K: Task<W>>(
+        &self,
+        rt: &R,
+        task: &mut K,
+        seat: Seat<T, W>,
+    ) -> Turn<T, W>
+        requires of { IsOf self.now seat }
         requires idle { (seat.holds ≡ false) × (seat.starved ≡ false) × (seat.owes ≡ false) × (seat.listed ≡ false) × (seat.fresh ≡ false) }
         ensures { IsTurnOf self.now result }
     {
         let mut seat = seat;
-        let mut waker = waker;
-        for _ in rt.forever() {
-            let id = match self.join(rt, &mut seat) {
-                Ok(id) => id,
-                Err(memory) => {
-                    seat.rise();
-                    return Turn::Refused(memory);
-                }
-            };
-            match self.take(&mut seat) {
-                Took::Got => {
-                    self.leave(rt, &mut seat, id);
-                    return Turn::Got(Held { seat });
-                }
-                Took::Held => {}
-                Took::Starved => {}
-            }
-            match self.ask(rt, &mut seat, id, waker.take()) {
-                Asked::Waiting { kept: _kept } => return Turn::Waits(Waiting { seat, id }),
-                Asked::Notified {
-                    kept: _kept,
-                    unused,
-                } => waker = unused,
-                Asked::Unlisted { unused } => waker = unused,
-            }
-            match self.take(&mut seat) {
-                Took::Got => return Turn::Got(Held { seat }),
-                Took::Held => {}
-                Took::Starved => self.notify(rt, &mut seat),
-            }
+        if !self.count(rt, &mut seat) {
+            return self.refuse(rt, seat, true, Refusal::Starved);
         }
-        unreachable!()
+        self.strive(rt, task, seat, false)
     }
 
-    /// Who waits gives up: a notification that it had goes on.
-    pub fn cancel<R: Wait>(&self, rt: &R, waiting: Waiting<W>)
-        requires { waiting.seat.table ≡ self.now }
-    {
-        let Waiting { mut seat, id } = waiting;
-        self.leave(rt, &mut seat, id);
-        seat.rise();
-    }
-
-    /// A later poll of who has waited for long: where it misses the lock once more, it is counted as starved, and newcomers wait for it.
-    pub fn poll_long<R: Wait>(&self, rt: &R, waiting: Waiting<W>, waker: W) -> Turn<W>
-        requires { waiting.seat.table ≡ self.now }
-        ensures { IsTurnOf self.now result }
-    {
-        let Waiting { mut seat, id } = waiting;
-        let unused = match self.ask(rt, &mut seat, id, Some(waker)) {
-            Asked::Waiting { kept: _kept } => return Turn::Waits(Waiting { seat, id }),
-            Asked::Notified {
-                kept: _kept,
-                unused,
-            } => unused,
-            Asked::Unlisted { unused } => unused,
-        };
-        if self.count(&mut seat) {
-            return self.strive(rt, seat, unused);
-        }
-        self.notify(rt, &mut seat);
-        self.go_on(rt, seat, unused)
-    }
-
-    /// A later poll of who is starved: told, it takes the lock from whoever else is starved.
-    pub fn poll_starving<R: Wait>(&self, rt: &R, starving: Starving<W>, waker: W) -> Turn<W>
-        requires { starving.seat.table ≡ self.now }
-        ensures { IsTurnOf self.now result }
-    {
-        let Starving { mut seat, id } = starving;
-        let unused = match self.ask(rt, &mut seat, id, Some(waker)) {
-            Asked::Waiting { kept: _kept } => return Turn::Starves(Starving { seat, id }),
-            Asked::Notified {
-                kept: _kept,
-                unused,
-            } => unused,
-            Asked::Unlisted { unused } => unused,
-        };
-        if self.lift(&mut seat) {
-            self.uncount(&mut seat);
-            return Turn::Got(Held { seat });
-        }
-        self.strive(rt, seat, unused)
-    }
-
-    // Who is starved and has no entry gives up: its count goes off, and it notifies one who waits.
-    fn give_up<R: Wait>(&self, rt: &R, seat: Seat<Waiters<W>>)
-        requires table { seat.table ≡ self.now }
-        requires owing { (seat.holds ≡ false) × (seat.starved ≡ true) × (seat.listed ≡ false) × (seat.fresh ≡ false) }
-    {
-        let mut seat = seat;
-        self.uncount(&mut seat);
-        self.notify(rt, &mut seat);
-        seat.rise();
-    }
-
-    // Joins, looks and asks, counted as starved, until it has the lock or waits.
-    fn strive<R: Wait>(&self, rt: &R, seat: Seat<Waiters<W>>, waker: Option<W>) -> Turn<W>
-        requires table { seat.table ≡ self.now }
+    // L9, if it was told, or L6, of a starved party: joins, looks and asks, until it has the lock or waits.
+    fn strive<R: Wait + Clock, K: Task<W>>(
+        &self,
+        rt: &R,
+        task: &mut K,
+        seat: Seat<T, W>,
+        told: bool,
+    ) -> Turn<T, W>
+        requires of { IsOf self.now seat }
         requires owing { (seat.holds ≡ false) × (seat.starved ≡ true) × (seat.owes ≡ true) × (seat.listed ≡ false) × (seat.fresh ≡ false) }
         ensures { IsTurnOf self.now result }
     {
         let mut seat = seat;
-        let mut waker = waker;
+        let mut told = told;
         for _ in rt.forever() {
-            let id = match self.join(rt, &mut seat) {
-                Ok(id) => id,
-                Err(memory) => {
-                    self.give_up(rt, seat);
-                    return Turn::Refused(memory);
+            if told {
+                // L9
+                match self.set(&mut seat) {
+                    Setting::Got(hold) => {
+                        // L10
+                        self.uncount(&mut seat);
+                        return Turn::Got(Held { seat, hold });
+                    }
+                    Setting::WasSet => {}
                 }
+            }
+            // L6
+            let joined = match self.join(rt, &mut seat, task.waker()) {
+                Ok(joined) => joined,
+                Err(Memory) => return self.refuse_starved(rt, seat),
             };
+            let Joined { id, word: _ } = joined;
+            // L7
             match self.take_alone(&mut seat) {
-                Took::Got => {
+                TakingAlone::Got(hold) => {
+                    // L10, L11
                     self.uncount(&mut seat);
                     self.leave(rt, &mut seat, id);
-                    return Turn::Got(Held { seat });
+                    return Turn::Got(Held { seat, hold });
                 }
-                Took::Held => {}
-                Took::Starved => {
-                    self.notify(rt, &mut seat);
-                }
+                TakingAlone::Held => {}
+                TakingAlone::FreeWithOthers => self.notify(rt, &mut seat),
             }
-            match self.ask(rt, &mut seat, id, waker.take()) {
-                Asked::Waiting { kept: _kept } => return Turn::Starves(Starving { seat, id }),
-                Asked::Notified {
-                    kept: _kept,
-                    unused,
-                } => waker = unused,
-                Asked::Unlisted { unused } => waker = unused,
+            // L8
+            if !self.ask(rt, &mut seat, id, None) {
+                return Turn::Starves(Starving { seat, id });
             }
-            if self.lift(&mut seat) {
-                self.uncount(&mut seat);
-                return Turn::Got(Held { seat });
-            }
+            told = true;
         }
         unreachable!()
     }
 
-    /// Who is starved gives up: its count goes off, and a notification that it had goes on.
-    pub fn cancel_starving<R: Wait>(&self, rt: &R, starving: Starving<W>)
-        requires { starving.seat.table ≡ self.now }
+    // Refuses a party that isn't counted and has no entry: it notifies, if it took a notification during this poll.
+    #[cold]
+    #[inline(never)]
+    fn refuse<R: Wait>(&self, rt: &R, seat: Seat<T, W>, told: bool, refusal: Refusal) -> Turn<T, W>
+        requires of { IsOf self.now seat }
+        requires idle { (seat.holds ≡ false) × (seat.starved ≡ false) × (seat.owes ≡ false) × (seat.listed ≡ false) × (seat.fresh ≡ false) }
+        ensures { IsTurnOf self.now result }
     {
-        let Starving { mut seat, id } = starving;
-        self.uncount(&mut seat);
-        self.leave(rt, &mut seat, id);
+        let mut seat = seat;
+        if told {
+            self.notify(rt, &mut seat);
+        }
         seat.rise();
+        Turn::Refused(refusal)
+    }
+
+    // Refuses a starved party for whose entry there was no memory: its count goes off, and it notifies.
+    #[cold]
+    #[inline(never)]
+    fn refuse_starved<R: Wait>(&self, rt: &R, seat: Seat<T, W>) -> Turn<T, W>
+        requires of { IsOf self.now seat }
+        requires owing { (seat.holds ≡ false) × (seat.starved ≡ true) × (seat.listed ≡ false) × (seat.fresh ≡ false) }
+        ensures { IsTurnOf self.now result }
+    {
+        let mut seat = seat;
+        self.uncount(&mut seat);
+        self.notify(rt, &mut seat);
+        seat.rise();
+        Turn::Refused(Refusal::Memory)
+    }
+}
+
+// When a party first waited, which waits now.
+#[inline]
+fn first_of<R: Clock>(rt: &R, since: Option<Instant>) -> Option<Instant> {
+    match since {
+        Some(since) => Some(since),
+        None => match Instant::now(rt) {
+            Ok(now) => now.checked_add(Duration::ZERO),
+            Err(_) => None,
+        },
+    }
+}
+
+// More than 500 microseconds since then. A clock that can't be read says no.
+fn has_waited_long<R: Clock>(rt: &R, since: &Option<Instant>) -> bool {
+    match since {
+        Some(since) => match since.elapsed(rt) {
+            Ok(waited) => waited > Duration::from_micros(PATIENCE),
+            Err(_) => false,
+        },
+        None => false,
     }
 }

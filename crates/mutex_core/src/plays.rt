@@ -1,13 +1,13 @@
 //! What each step tells the seat that makes it.
 
-use crate::rule::Counts;
+use crate::rule::Content;
 use crate::view::View;
 use atomic_table::Play;
 
 // Nothing changes for the seat.
 pub(crate) struct Keep;
 
-impl<L> Play<L, View> for Keep {
+impl<S> Play<S, View> for Keep {
     ghost use Rattle.mutex_core.specs.Steps.{Kept};
 
     ghost then = { λ _ m _ m'. Kept m m' };
@@ -16,7 +16,7 @@ impl<L> Play<L, View> for Keep {
 // A look at the mutex's word.
 pub(crate) struct Looks;
 
-impl<L> Play<L, View> for Looks {
+impl<S> Play<S, View> for Looks {
     ghost use Rattle.mutex_core.specs.Steps.{Looked};
 
     ghost then = { λ _ m r m'. Looked m r m' };
@@ -25,18 +25,17 @@ impl<L> Play<L, View> for Looks {
 // The step by which a seat gets the lock from the word that it expects: else it has looked.
 pub(crate) struct Takes;
 
-impl<L> Play<L, View> for Takes {
+impl<S: Content> Play<S, View> for Takes {
     ghost use Rattle.std.specs.Prelude.{◌≡◌, ◌≢◌};
-    ghost use Rattle.mutex_core.specs.Seats.{got_of};
-    ghost use Rattle.mutex_core.specs.Steps.{Looked};
+    ghost use Rattle.mutex_core.specs.Steps.{Got, Looked};
 
-    ghost then = { λ st m r m'. (r ≡ st.first → m' ≡ (got_of m.0, m.1)) × (r ≢ st.first → Looked m r m') };
+    ghost then = { λ st m r m'. (r ≡ st.first → Got S.is_right m m') × (r ≢ st.first → Looked m r m') };
 }
 
 // A seat is counted as starved, with an entry in the list.
 pub(crate) struct CountsListed;
 
-impl<L> Play<L, View> for CountsListed {
+impl<S> Play<S, View> for CountsListed {
     ghost use Rattle.std.specs.Prelude.{◌≡◌, ◌≢◌};
     ghost use Rattle.mutex_core.specs.Seats.{counted_listed_of};
 
@@ -46,7 +45,7 @@ impl<L> Play<L, View> for CountsListed {
 // A seat is counted as starved, and owes a look.
 pub(crate) struct CountsUnlisted;
 
-impl<L> Play<L, View> for CountsUnlisted {
+impl<S> Play<S, View> for CountsUnlisted {
     ghost use Rattle.std.specs.Prelude.{◌≡◌, ◌≢◌};
     ghost use Rattle.mutex_core.specs.Seats.{counted_unlisted_of};
 
@@ -56,7 +55,7 @@ impl<L> Play<L, View> for CountsUnlisted {
 // A seat's count goes off.
 pub(crate) struct Uncounts;
 
-impl<L> Play<L, View> for Uncounts {
+impl<S> Play<S, View> for Uncounts {
     ghost use Rattle.std.specs.Prelude.{◌≡◌};
     ghost use Rattle.mutex_core.specs.Seats.{uncounted_of};
 
@@ -66,17 +65,18 @@ impl<L> Play<L, View> for Uncounts {
 // The step that gives the lock back: the seat owes a notification.
 pub(crate) struct Clears;
 
-impl<L> Play<L, View> for Clears {
+impl<S> Play<S, View> for Clears {
     ghost use Rattle.std.specs.Prelude.{◌≡◌};
+    ghost use Rattle.atomic_table.specs.Table.{rest};
     ghost use Rattle.mutex_core.specs.Seats.{cleared_of};
 
-    ghost then = { λ _ m _ m'. m' ≡ (cleared_of m.0, m.1) };
+    ghost then = { λ _ m _ m'. m' ≡ (cleared_of m.0, rest m.1) };
 }
 
 // A look at the list's word: who finds the list empty owes nothing any more.
 pub(crate) struct Peeks;
 
-impl<L> Play<L, View> for Peeks {
+impl<S> Play<S, View> for Peeks {
     ghost use Rattle.std.specs.Prelude.{◌≡◌};
     ghost use Rattle.mutex_core.specs.Seats.{peeking};
 
@@ -86,16 +86,16 @@ impl<L> Play<L, View> for Peeks {
 // The step that takes the list's lock, where it was free.
 pub(crate) struct Grabs;
 
-impl<L: Counts> Play<L, View> for Grabs {
+impl<S: Content> Play<S, View> for Grabs {
     ghost use Rattle.mutex_core.specs.Steps.{Grabbed};
 
-    ghost then = { λ _ m r m'. Grabbed L.len L.marked m r m' };
+    ghost then = { λ _ m r m'. Grabbed S.len S.marked m r m' };
 }
 
 // The step that gives the list back, in which its entry stands now.
 pub(crate) struct Joined;
 
-impl<L> Play<L, View> for Joined {
+impl<S> Play<S, View> for Joined {
     ghost use Rattle.std.specs.Prelude.{◌≡◌};
     ghost use Rattle.atomic_table.specs.Table.{rest};
     ghost use Rattle.mutex_core.specs.Seats.{joined_of};
@@ -106,7 +106,7 @@ impl<L> Play<L, View> for Joined {
 // The same, which its entry has left, notified: the seat owes.
 pub(crate) struct Told;
 
-impl<L> Play<L, View> for Told {
+impl<S> Play<S, View> for Told {
     ghost use Rattle.std.specs.Prelude.{◌≡◌};
     ghost use Rattle.atomic_table.specs.Table.{rest};
     ghost use Rattle.mutex_core.specs.Seats.{told_of};
@@ -117,7 +117,7 @@ impl<L> Play<L, View> for Told {
 // The same, and the seat has notified.
 pub(crate) struct Paid;
 
-impl<L> Play<L, View> for Paid {
+impl<S> Play<S, View> for Paid {
     ghost use Rattle.std.specs.Prelude.{◌≡◌};
     ghost use Rattle.atomic_table.specs.Table.{rest};
     ghost use Rattle.mutex_core.specs.Seats.{paid_of};
@@ -128,7 +128,7 @@ impl<L> Play<L, View> for Paid {
 // The same, which its entry has left.
 pub(crate) struct Gone;
 
-impl<L> Play<L, View> for Gone {
+impl<S> Play<S, View> for Gone {
     ghost use Rattle.std.specs.Prelude.{◌≡◌};
     ghost use Rattle.atomic_table.specs.Table.{rest};
     ghost use Rattle.mutex_core.specs.Seats.{gone_of};
@@ -139,7 +139,7 @@ impl<L> Play<L, View> for Gone {
 // The same, unchanged.
 pub(crate) struct Same;
 
-impl<L> Play<L, View> for Same {
+impl<S> Play<S, View> for Same {
     ghost use Rattle.std.specs.Prelude.{◌≡◌};
     ghost use Rattle.atomic_table.specs.Table.{rest};
     ghost use Rattle.mutex_core.specs.Seats.{back};
@@ -150,20 +150,19 @@ impl<L> Play<L, View> for Same {
 // The step by which the only one who is starved gets the lock: else it has looked, and found its own count.
 pub(crate) struct TakesAlone;
 
-impl<L> Play<L, View> for TakesAlone {
+impl<S: Content> Play<S, View> for TakesAlone {
     ghost use Rattle.std.specs.Prelude.{◌≡◌, ◌≢◌};
-    ghost use Rattle.mutex_core.specs.Seats.{got_of};
-    ghost use Rattle.mutex_core.specs.Steps.{Looked};
+    ghost use Rattle.mutex_core.specs.Steps.{Got, Looked};
 
-    ghost then = { λ st m r m'. (r ≡ st.first → m' ≡ (got_of m.0, m.1)) × (r ≢ st.first → Looked m r m') × (r ≢ 0) };
+    ghost then = { λ st m r m'. (r ≡ st.first → Got S.is_right m m') × (r ≢ st.first → Looked m r m') × (r ≢ 0) };
 }
 
 // The step by which a seat gets the lock, whoever is starved.
 pub(crate) struct Lifts;
 
-impl<L> Play<L, View> for Lifts {
+impl<S: Content> Play<S, View> for Lifts {
     ghost use Rattle.std.specs.Prelude.{◌≡◌, ◌≢◌, ◌%◌};
-    ghost use Rattle.mutex_core.specs.Seats.{got_of};
+    ghost use Rattle.mutex_core.specs.Steps.{Got};
 
-    ghost then = { λ _ m r m'. (r % 2 ≡ 0 → m' ≡ (got_of m.0, m.1)) × (r % 2 ≢ 0 → m' ≡ m) };
+    ghost then = { λ _ m r m'. (r % 2 ≡ 0 → Got S.is_right m m') × (r % 2 ≢ 0 → m' ≡ m) };
 }

@@ -1,26 +1,30 @@
 //! The single steps on the table.
 
-ghost use Rattle.std.specs.Prelude.{◌≡◌, ◌≢◌, ◌<◌, ◌≤◌, ◌+◌, ◌%◌, ◌/◌, true, false, []};
-ghost use Rattle.mutex_core.specs.Seats.{got_of, cleared_of, counted_listed_of, counted_unlisted_of, uncounted_of, joined_of, told_of, paid_of, gone_of, back, peeking};
-ghost use Rattle.mutex_core.specs.Steps.{Looked, IsHeld, IsSame, CanJoin, CanHear, CanPay, CanLeave, CanStay};
+ghost use Rattle.std.specs.Prelude.{◌≡◌, ◌≢◌, ◌<◌, ◌%◌, ◌/◌, true, false};
+ghost use Rattle.atomic_table.specs.Table.{rest};
+ghost use Rattle.mutex_core.specs.Seats.{cleared_of, counted_listed_of, counted_unlisted_of, uncounted_of, joined_of, told_of, paid_of, gone_of, back, peeking};
+ghost use Rattle.mutex_core.specs.Steps.{Looked, Got, HasRight, IsHeld, IsSame, CanJoin, CanHear, CanPay, CanLeave, CanStay};
 
 use crate::plays::{
-    Clears, CountsListed, CountsUnlisted, Gone, Grabs, Joined, Lifts, Looks, Paid, Peeks, Same,
-    Takes, TakesAlone, Told, Uncounts,
+    Clears, CountsListed, CountsUnlisted, Gone, Grabs, Joined, Keep, Lifts, Looks, Paid, Peeks,
+    Same, Takes, TakesAlone, Told, Uncounts,
 };
-use crate::rule::{Counts, MutexRule};
+use crate::rule::{Content, MutexRule};
 use crate::view::View;
 use atomic_table::{Seat as TableSeat, Shared};
+use lock_place::Spare;
 
 /// The tables of mutexes with their lists.
-pub(crate) type Ruled<L> = Shared<L, View, (), MutexRule>;
+pub(crate) type Ruled<T, S> = Shared<S, View, Spare<T>, MutexRule>;
 
-// Where the mutex's word and the list's stand, and the list.
+// Where the mutex's word and the list's stand, and where the list and the right to the value lie.
 pub(crate) const WORD: usize = 0;
 
 pub(crate) const LIST: usize = 1;
 
-pub(crate) const SLOT: usize = 0;
+pub(crate) const LIST_SLOT: usize = 0;
+
+pub(crate) const RIGHT_SLOT: usize = 1;
 
 // The words of a free lock and of a list that is in its place.
 pub(crate) const FREE: u64 = 0;
@@ -37,11 +41,15 @@ pub(crate) const OUT: u64 = 1;
 
 pub(crate) const OUT_AND_ASLEEP: u64 = 3;
 
+pub(crate) const ASLEEP: u64 = 2;
+
 pub(crate) const ENTRIES: u64 = 4;
+
+pub(crate) const NOTIFICATION: u64 = 8;
 
 // A look at the mutex's word: one load.
 #[inline]
-pub(crate) fn look<L: Counts>(shared: &Ruled<L>, inner: &mut TableSeat<L, View>) -> u64
+pub(crate) fn look<T, S: Content>(shared: &Ruled<T, S>, inner: &mut TableSeat<S, View>) -> u64
     requires table { (inner.old.table_id ≡ shared.now.table_id) × (shared.now.table_id.words ≡ 2) }
     requires seen { inner.old.me.0.starved ≡ true → inner.old.me.0.listed ≡ true }
     ensures table { inner.new.table_id ≡ inner.old.table_id }
@@ -50,13 +58,23 @@ pub(crate) fn look<L: Counts>(shared: &Ruled<L>, inner: &mut TableSeat<L, View>)
     shared.load::<Looks>(inner, WORD)
 }
 
+// A look at the mutex's word that changes nothing for the seat: one load.
+#[inline]
+pub(crate) fn read<T, S: Content>(shared: &Ruled<T, S>, inner: &mut TableSeat<S, View>) -> u64
+    requires table { (inner.old.table_id ≡ shared.now.table_id) × (shared.now.table_id.words ≡ 2) }
+    ensures table { inner.new.table_id ≡ inner.old.table_id }
+    ensures same { inner.new.me ≡ inner.old.me }
+{
+    shared.load::<Keep>(inner, WORD)
+}
+
 // Takes a free lock, if nobody is starved: one exchange. It answers what it found.
 #[inline]
-pub(crate) fn exchange<L: Counts>(shared: &Ruled<L>, inner: &mut TableSeat<L, View>) -> u64
+pub(crate) fn exchange<T, S: Content>(shared: &Ruled<T, S>, inner: &mut TableSeat<S, View>) -> u64
     requires table { (inner.old.table_id ≡ shared.now.table_id) × (shared.now.table_id.words ≡ 2) }
     requires seen { inner.old.me.0.starved ≡ true → inner.old.me.0.listed ≡ true }
     ensures table { inner.new.table_id ≡ inner.old.table_id }
-    ensures took { result ≡ 0 → inner.new.me ≡ (got_of inner.old.me.0, inner.old.me.1) }
+    ensures took { result ≡ 0 → Got S.is_right inner.old.me inner.new.me }
     ensures not { result ≢ 0 → Looked inner.old.me result inner.new.me }
 {
     shared.compare_exchange::<Takes>(inner, WORD, FREE, HELD)
@@ -64,11 +82,14 @@ pub(crate) fn exchange<L: Counts>(shared: &Ruled<L>, inner: &mut TableSeat<L, Vi
 
 // The same, by the only one who is starved.
 #[inline]
-pub(crate) fn exchange_alone<L: Counts>(shared: &Ruled<L>, inner: &mut TableSeat<L, View>) -> u64
+pub(crate) fn exchange_alone<T, S: Content>(
+    shared: &Ruled<T, S>,
+    inner: &mut TableSeat<S, View>,
+) -> u64
     requires table { (inner.old.table_id ≡ shared.now.table_id) × (shared.now.table_id.words ≡ 2) }
     requires stands { (inner.old.me.0.starved ≡ true) × (inner.old.me.0.listed ≡ true) }
     ensures table { inner.new.table_id ≡ inner.old.table_id }
-    ensures took { result ≡ 2 → inner.new.me ≡ (got_of inner.old.me.0, inner.old.me.1) }
+    ensures took { result ≡ 2 → Got S.is_right inner.old.me inner.new.me }
     ensures not { result ≢ 2 → Looked inner.old.me result inner.new.me }
     ensures some { result ≢ 0 }
 {
@@ -77,10 +98,10 @@ pub(crate) fn exchange_alone<L: Counts>(shared: &Ruled<L>, inner: &mut TableSeat
 
 // Sets the lowest bit of the word: one step. The seat has the lock, if that was free.
 #[inline]
-pub(crate) fn lift<L: Counts>(shared: &Ruled<L>, inner: &mut TableSeat<L, View>) -> u64
+pub(crate) fn lift<T, S: Content>(shared: &Ruled<T, S>, inner: &mut TableSeat<S, View>) -> u64
     requires table { (inner.old.table_id ≡ shared.now.table_id) × (shared.now.table_id.words ≡ 2) }
     ensures table { inner.new.table_id ≡ inner.old.table_id }
-    ensures took { result % 2 ≡ 0 → inner.new.me ≡ (got_of inner.old.me.0, inner.old.me.1) }
+    ensures took { result % 2 ≡ 0 → Got S.is_right inner.old.me inner.new.me }
     ensures not { result % 2 ≢ 0 → inner.new.me ≡ inner.old.me }
 {
     shared.fetch_or::<Lifts>(inner, WORD, HELD)
@@ -88,9 +109,9 @@ pub(crate) fn lift<L: Counts>(shared: &Ruled<L>, inner: &mut TableSeat<L, View>)
 
 // Counts a seat as starved that has an entry and has looked: one exchange. It answers what it found.
 #[inline]
-pub(crate) fn count_listed<L: Counts>(
-    shared: &Ruled<L>,
-    inner: &mut TableSeat<L, View>,
+pub(crate) fn count_listed<T, S: Content>(
+    shared: &Ruled<T, S>,
+    inner: &mut TableSeat<S, View>,
     found: u64,
 ) -> u64
     requires table { (inner.old.table_id ≡ shared.now.table_id) × (shared.now.table_id.words ≡ 2) }
@@ -105,9 +126,9 @@ pub(crate) fn count_listed<L: Counts>(
 
 // The same, by any seat: it owes a look.
 #[inline]
-pub(crate) fn count_unlisted<L: Counts>(
-    shared: &Ruled<L>,
-    inner: &mut TableSeat<L, View>,
+pub(crate) fn count_unlisted<T, S: Content>(
+    shared: &Ruled<T, S>,
+    inner: &mut TableSeat<S, View>,
     found: u64,
 ) -> u64
     requires table { (inner.old.table_id ≡ shared.now.table_id) × (shared.now.table_id.words ≡ 2) }
@@ -122,7 +143,7 @@ pub(crate) fn count_unlisted<L: Counts>(
 
 // Its count goes off: one step.
 #[inline]
-pub(crate) fn uncount<L: Counts>(shared: &Ruled<L>, inner: &mut TableSeat<L, View>)
+pub(crate) fn uncount<T, S: Content>(shared: &Ruled<T, S>, inner: &mut TableSeat<S, View>)
     requires table { (inner.old.table_id ≡ shared.now.table_id) × (shared.now.table_id.words ≡ 2) }
     requires starved { inner.old.me.0.starved ≡ true }
     ensures table { inner.new.table_id ≡ inner.old.table_id }
@@ -133,18 +154,18 @@ pub(crate) fn uncount<L: Counts>(shared: &Ruled<L>, inner: &mut TableSeat<L, Vie
 
 // Gives the lock back: one step.
 #[inline]
-pub(crate) fn clear<L: Counts>(shared: &Ruled<L>, inner: &mut TableSeat<L, View>)
-    requires table { (inner.old.table_id ≡ shared.now.table_id) × (shared.now.table_id.words ≡ 2) }
-    requires holds { inner.old.me.0.holds ≡ true }
+pub(crate) fn clear<T, S: Content>(shared: &Ruled<T, S>, inner: &mut TableSeat<S, View>)
+    requires table { (inner.old.table_id ≡ shared.now.table_id) × (shared.now.table_id.words ≡ 2) × (shared.now.table_id.slots ≡ 2) }
+    requires right { HasRight S.is_right inner.old.me }
     ensures table { inner.new.table_id ≡ inner.old.table_id }
-    ensures step { inner.new.me ≡ (cleared_of inner.old.me.0, inner.old.me.1) }
+    ensures step { inner.new.me ≡ (cleared_of inner.old.me.0, rest inner.old.me.1) }
 {
     shared.fetch_sub::<Clears>(inner, WORD, HELD);
 }
 
 // A look at the list's word: one load.
 #[inline]
-pub(crate) fn peek<L: Counts>(shared: &Ruled<L>, inner: &mut TableSeat<L, View>) -> u64
+pub(crate) fn peek<T, S: Content>(shared: &Ruled<T, S>, inner: &mut TableSeat<S, View>) -> u64
     requires table { (inner.old.table_id ≡ shared.now.table_id) × (shared.now.table_id.words ≡ 2) }
     requires calm { inner.old.me.0.starved ≡ false }
     ensures table { inner.new.table_id ≡ inner.old.table_id }
@@ -155,11 +176,10 @@ pub(crate) fn peek<L: Counts>(shared: &Ruled<L>, inner: &mut TableSeat<L, View>)
 
 // Takes the list's lock, if it is free: one step. It answers what it found.
 #[inline]
-pub(crate) fn grab<L: Counts>(shared: &Ruled<L>, inner: &mut TableSeat<L, View>) -> u64
+pub(crate) fn grab<T, S: Content>(shared: &Ruled<T, S>, inner: &mut TableSeat<S, View>) -> u64
     requires table { (inner.old.table_id ≡ shared.now.table_id) × (shared.now.table_id.words ≡ 2) }
-    requires idle { inner.old.me.1 ≡ [] }
     ensures table { inner.new.table_id ≡ inner.old.table_id }
-    ensures took { result % 2 ≡ 0 → IsHeld L.len L.marked inner.new.me × IsSame inner.old.me.0 inner.new.me.0 }
+    ensures took { result % 2 ≡ 0 → IsHeld S.len S.marked inner.new.me × IsSame inner.old.me.0 inner.new.me.0 × (rest inner.new.me.1 ≡ inner.old.me.1) }
     ensures not { result % 2 ≢ 0 → inner.new.me ≡ inner.old.me }
 {
     shared.fetch_or::<Grabs>(inner, LIST, OUT)
@@ -167,11 +187,13 @@ pub(crate) fn grab<L: Counts>(shared: &Ruled<L>, inner: &mut TableSeat<L, View>)
 
 // The same, by somebody who may sleep for it.
 #[inline]
-pub(crate) fn grab_asleep<L: Counts>(shared: &Ruled<L>, inner: &mut TableSeat<L, View>) -> u64
+pub(crate) fn grab_asleep<T, S: Content>(
+    shared: &Ruled<T, S>,
+    inner: &mut TableSeat<S, View>,
+) -> u64
     requires table { (inner.old.table_id ≡ shared.now.table_id) × (shared.now.table_id.words ≡ 2) }
-    requires idle { inner.old.me.1 ≡ [] }
     ensures table { inner.new.table_id ≡ inner.old.table_id }
-    ensures took { result % 2 ≡ 0 → IsHeld L.len L.marked inner.new.me × IsSame inner.old.me.0 inner.new.me.0 }
+    ensures took { result % 2 ≡ 0 → IsHeld S.len S.marked inner.new.me × IsSame inner.old.me.0 inner.new.me.0 × (rest inner.new.me.1 ≡ inner.old.me.1) }
     ensures not { result % 2 ≢ 0 → inner.new.me ≡ inner.old.me }
 {
     shared.fetch_or::<Grabs>(inner, LIST, OUT_AND_ASLEEP)
@@ -179,79 +201,79 @@ pub(crate) fn grab_asleep<L: Counts>(shared: &Ruled<L>, inner: &mut TableSeat<L,
 
 // Gives the list back, in which its entry stands now: one step. It answers what it found.
 #[inline]
-pub(crate) fn give_joined<L: Counts>(
-    shared: &Ruled<L>,
-    inner: &mut TableSeat<L, View>,
+pub(crate) fn give_joined<T, S: Content>(
+    shared: &Ruled<T, S>,
+    inner: &mut TableSeat<S, View>,
     new: u64,
 ) -> u64
-    requires table { (inner.old.table_id ≡ shared.now.table_id) × (shared.now.table_id.words ≡ 2) × (shared.now.table_id.slots ≡ 1) }
-    requires list { CanJoin L.len L.marked inner.old.me new }
+    requires table { (inner.old.table_id ≡ shared.now.table_id) × (shared.now.table_id.words ≡ 2) × (shared.now.table_id.slots ≡ 2) }
+    requires list { CanJoin S.len S.marked inner.old.me new }
     requires stands { (inner.old.me.0.listed ≡ false) × (inner.old.me.0.starved ≡ true → inner.old.me.0.owes ≡ true) }
     ensures table { inner.new.table_id ≡ inner.old.table_id }
-    ensures step { inner.new.me ≡ (joined_of inner.old.me.0, []) }
+    ensures step { inner.new.me ≡ (joined_of inner.old.me.0, rest inner.old.me.1) }
 {
     shared.swap::<Joined>(inner, LIST, new)
 }
 
 // The same, which its entry has left, notified: the seat owes.
 #[inline]
-pub(crate) fn give_told<L: Counts>(
-    shared: &Ruled<L>,
-    inner: &mut TableSeat<L, View>,
+pub(crate) fn give_told<T, S: Content>(
+    shared: &Ruled<T, S>,
+    inner: &mut TableSeat<S, View>,
     new: u64,
 ) -> u64
-    requires table { (inner.old.table_id ≡ shared.now.table_id) × (shared.now.table_id.words ≡ 2) × (shared.now.table_id.slots ≡ 1) }
-    requires list { CanHear L.len L.marked inner.old.me new }
+    requires table { (inner.old.table_id ≡ shared.now.table_id) × (shared.now.table_id.words ≡ 2) × (shared.now.table_id.slots ≡ 2) }
+    requires list { CanHear S.len S.marked inner.old.me new }
     requires stands { (inner.old.me.0.listed ≡ true) × (inner.old.me.0.fresh ≡ false) }
     ensures table { inner.new.table_id ≡ inner.old.table_id }
-    ensures step { inner.new.me ≡ (told_of inner.old.me.0, []) }
+    ensures step { inner.new.me ≡ (told_of inner.old.me.0, rest inner.old.me.1) }
 {
     shared.swap::<Told>(inner, LIST, new)
 }
 
 // The same, and the seat has notified: it owes nothing any more.
 #[inline]
-pub(crate) fn give_paid<L: Counts>(
-    shared: &Ruled<L>,
-    inner: &mut TableSeat<L, View>,
+pub(crate) fn give_paid<T, S: Content>(
+    shared: &Ruled<T, S>,
+    inner: &mut TableSeat<S, View>,
     new: u64,
 ) -> u64
-    requires table { (inner.old.table_id ≡ shared.now.table_id) × (shared.now.table_id.words ≡ 2) × (shared.now.table_id.slots ≡ 1) }
-    requires list { CanPay L.len L.marked inner.old.me new }
+    requires table { (inner.old.table_id ≡ shared.now.table_id) × (shared.now.table_id.words ≡ 2) × (shared.now.table_id.slots ≡ 2) }
+    requires list { CanPay S.len S.marked inner.old.me new }
     requires stands { inner.old.me.0.starved ≡ true → (inner.old.me.0.listed ≡ true) × (inner.old.me.0.fresh ≡ false) }
     ensures table { inner.new.table_id ≡ inner.old.table_id }
-    ensures step { inner.new.me ≡ (paid_of inner.old.me.0, []) }
+    ensures step { inner.new.me ≡ (paid_of inner.old.me.0, rest inner.old.me.1) }
 {
     shared.swap::<Paid>(inner, LIST, new)
 }
 
 // The same, which its entry has left: what it was told has gone on.
 #[inline]
-pub(crate) fn give_gone<L: Counts>(
-    shared: &Ruled<L>,
-    inner: &mut TableSeat<L, View>,
+pub(crate) fn give_gone<T, S: Content>(
+    shared: &Ruled<T, S>,
+    inner: &mut TableSeat<S, View>,
     new: u64,
 ) -> u64
-    requires table { (inner.old.table_id ≡ shared.now.table_id) × (shared.now.table_id.words ≡ 2) × (shared.now.table_id.slots ≡ 1) }
-    requires list { CanLeave L.len L.marked inner.old.me new }
+    requires table { (inner.old.table_id ≡ shared.now.table_id) × (shared.now.table_id.words ≡ 2) × (shared.now.table_id.slots ≡ 2) }
+    requires list { CanLeave S.len S.marked inner.old.me new }
     requires stands { (inner.old.me.0.listed ≡ true) × (inner.old.me.0.fresh ≡ false) × (inner.old.me.0.starved ≡ false) }
     ensures table { inner.new.table_id ≡ inner.old.table_id }
-    ensures step { inner.new.me ≡ (gone_of inner.old.me.0, []) }
+    ensures step { inner.new.me ≡ (gone_of inner.old.me.0, rest inner.old.me.1) }
 {
     shared.swap::<Gone>(inner, LIST, new)
 }
 
 // The same, unchanged.
 #[inline]
-pub(crate) fn give_same<L: Counts>(
-    shared: &Ruled<L>,
-    inner: &mut TableSeat<L, View>,
+pub(crate) fn give_same<T, S: Content>(
+    shared: &Ruled<T, S>,
+    inner: &mut TableSeat<S, View>,
     new: u64,
 ) -> u64
-    requires table { (inner.old.table_id ≡ shared.now.table_id) × (shared.now.table_id.words ≡ 2) × (shared.now.table_id.slots ≡ 1) }
-    requires list { CanStay L.len L.marked inner.old.me new }
+    requires table { (inner.old.table_id ≡ shared.now.table_id) × (shared.now.table_id.words ≡ 2) × (shared.now.table_id.slots ≡ 2) }
+    requires list { CanStay S.len S.marked inner.old.me new }
     ensures table { inner.new.table_id ≡ inner.old.table_id }
-    ensures step { inner.new.me ≡ (back inner.old.me.0, []) }
+    ensures step { inner.new.me ≡ (back inner.old.me.0, rest inner.old.me.1) }
 {
     shared.swap::<Same>(inner, LIST, new)
 }

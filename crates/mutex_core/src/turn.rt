@@ -3,33 +3,42 @@
 ghost use Rattle.std.specs.Prelude.{◌≡◌, true, false};
 
 use crate::seat::Seat;
-use crate::waiters::Waiters;
-use lock_event::{EntryId, Memory};
+use lock_event::EntryId;
+use lock_place::Hold;
+use lock_program::Refusal;
+use std::time::Instant;
 
-/// Who waits between two polls: its seat owes nothing.
-pub struct Waiting<W> {
-    pub(crate) seat: Seat<Waiters<W>>,
+/// A party that waits between two polls: its seat owes nothing. It has no `Drop`: a poll goes on with it, or a cancel ends it.
+pub struct Waiting<T, W> {
+    pub(crate) seat: Seat<T, W>,
     pub(crate) id: EntryId,
+    // When it first waited. Where the clock couldn't be read it is `None`, and the party doesn't count as one that waits for too long.
+    pub(crate) since: Option<Instant>,
     ghost idle: { (seat.holds ≡ false) × (seat.starved ≡ false) × (seat.owes ≡ false) × (seat.listed ≡ true) × (seat.fresh ≡ false) },
 }
 
-/// Who is starved, and waits between two polls: its seat owes nothing.
-pub struct Starving<W> {
-    pub(crate) seat: Seat<Waiters<W>>,
+/// A starved party that waits between two polls: its seat owes nothing. It has no `Drop`: a poll goes on with it, or a cancel ends it.
+pub struct Starving<T, W> {
+    pub(crate) seat: Seat<T, W>,
     pub(crate) id: EntryId,
     ghost idle: { (seat.holds ≡ false) × (seat.starved ≡ true) × (seat.owes ≡ false) × (seat.listed ≡ true) × (seat.fresh ≡ false) },
 }
 
-/// Who has the lock. It owes nothing until it gives the lock back.
-pub struct Held<W> {
-    pub(crate) seat: Seat<Waiters<W>>,
+/// A party that has the lock, with the right to the value. It owes nothing until it releases the lock. It has no `Drop`.
+pub struct Held<T, W> {
+    pub(crate) seat: Seat<T, W>,
+    pub(crate) hold: Hold<T>,
     ghost holds: { (seat.holds ≡ true) × (seat.starved ≡ false) × (seat.owes ≡ false) × (seat.listed ≡ false) × (seat.fresh ≡ false) },
 }
 
 /// How a poll went.
-pub enum Turn<W> {
-    Got(Held<W>),
-    Waits(Waiting<W>),
-    Starves(Starving<W>),
-    Refused(Memory),
+pub enum Turn<T, W> {
+    /// It has the lock.
+    Got(Held<T, W>),
+    /// It waits.
+    Waits(Waiting<T, W>),
+    /// It waits, and is counted as starved.
+    Starves(Starving<T, W>),
+    /// It gave up, and has nothing: memory was refused for its entry, or as many waiters are starved as may be.
+    Refused(Refusal),
 }

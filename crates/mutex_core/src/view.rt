@@ -1,6 +1,7 @@
 //! What a seat knows of itself.
 
 ghost use Rattle.std.specs.Prelude.{ℕ};
+ghost use Rattle.lock_place.specs.Held.{RoomId, room_id_coded};
 
 use std::marker::Model;
 
@@ -22,6 +23,10 @@ pub struct View {
     pub ghost len: { ℕ },
     /// How many of them were notified.
     pub ghost marked: { ℕ },
+    /// Where its lock's value lay when the lock was made.
+    pub ghost room: { RoomId } by { room_id_coded },
+    /// The deed of its lock's spare.
+    pub ghost deed: { ℕ },
 }
 
 impl Model for View {

@@ -1,75 +1,138 @@
-//! A mutex's word and its list, and the tries on them.
+//! The words of a mutex, its list and the right to its value, and the tries on the words.
 
-ghost use Rattle.std.specs.Prelude.{◌≡◌, ◌⊎◌, true, false};
-ghost use Rattle.mutex_core.specs.Seats.{entering, with_got, with_held, with_starved, with_cleared, with_paid, with_counted, with_uncounted};
-ghost use Rattle.mutex_core.specs.Tries.{OnTook};
+ghost use Rattle.std.specs.Prelude.{◌≡◌, ℕ, ◌≤◌, ◌⊎◌, true, false, [], ◌∷◌, IfOk, IsSome};
+ghost use Rattle.atomic_table.specs.Table.{rest};
+ghost use Rattle.lock_place.specs.Rested.{IsRight};
+ghost use Rattle.mutex_core.specs.Cells.{HasRightOf};
+ghost use Rattle.mutex_core.specs.Locks.{HasSlots, IsOf, entering, with_got, with_held, with_look, with_cleared, with_paid, with_count, with_count_owing, with_uncounted};
+ghost use Rattle.mutex_core.specs.Seats.{cleared_of};
+ghost use Rattle.mutex_core.specs.Steps.{HasRight};
+ghost use Rattle.words_base.specs.Tries.{OnTaking, OnAlone, OnSetting};
 
+use crate::cell::Cell;
+use crate::counts::{tally, tally_listed};
+use crate::due::Wakes;
+use crate::list_steps::{Lister, Listing};
 use crate::plays::Keep;
-use crate::rule::{Counts, MutexRule};
+use crate::rule::MutexRule;
 use crate::seat::Seat;
 use crate::steps::{
-    ALONE, ENTRIES, FREE, WORD, clear, count_unlisted, exchange, exchange_alone, lift, look, peek,
-    uncount,
+    ALONE, COUNT, ENTRIES, FREE, HELD, RIGHT_SLOT, WORD, clear, exchange, exchange_alone, lift,
+    look, peek, uncount,
 };
 use crate::view::View;
 use atomic_table::Table;
+use lock_place::{Hold, Place, Rested, Room, Spare, Ticket};
 use std::alloc::{AllocError, Global};
 use std::marker::Model;
+use std::sync::Wait;
+use words_base::{Setting, Taking, TakingAlone};
 
-/// A mutex's word and its waiting list, under one rule.
+/// The greatest number of seats that are counted as starved at once.
+pub const STARVED_LIMIT: u64 = 1_073_741_823;
+
+/// A mutex: its words, its waiting list, the right to its value, and the value.
 ///
-/// In clauses it is which table it is. Each call but [`Words::list_out`] is a single try on one word, and asks no waiting.
-pub struct Words<L: Counts> {
-    pub(crate) table: Table<L, View, (), MutexRule, Global>,
+/// Contracts see: its table, the right to its value, and how many waiters may be starved.
+pub struct Words<T, W> {
+    pub(crate) table: Table<Cell<T, W>, View, Spare<T>, MutexRule, Global>,
+    place: Place<T, Global>,
+    spare: Spare<T>,
+    // How many may be starved. Only a count reads it.
+    limit: u64,
+    // Where the list is made when somebody first joins.
+    pub(crate) alloc: Global,
 }
 
 // By hand, so that a drop is one call to prove.
-impl<L: Counts + Drop> Drop for Words<L> {
+impl<T: Drop, W: Drop> Drop for Words<T, W> {
     fn drop(self) {
-        let Words { table: _ } = self;
+        let Words {
+            table: _,
+            place: _,
+            spare: _,
+            limit: _,
+            alloc: _,
+        } = self;
     }
 }
 
-impl<L: Counts> Model for Words<L> {
-    ghost use Rattle.atomic_table.specs.Seated.{TableId, table_id_coded};
-    ghost use Rattle.std.specs.Prelude.{◌≡◌};
+impl<T, W> Model for Words<T, W> {
+    ghost use Rattle.mutex_core.specs.Locks.{Lock, lock_coded};
 
-    ghost Value = { TableId };
+    ghost Value = { Lock };
 
-    ghost coded = { table_id_coded };
+    ghost coded = { lock_coded };
 
-    ghost view = { λ w. w.table.shared.table_id };
+    ghost use Rattle.std.specs.Prelude.{◌≡◌, ◌≤◌, IsSome};
 
-    ghost invariant = { λ w. (w.table.shared.table_id.words ≡ 2) × (w.table.shared.table_id.slots ≡ 1) };
+    ghost view = { λ w. record { table = w.table.shared.table_id; right = record { room = w.table.shared.key.room_id; deed = w.table.shared.key.deed }; limit = w.limit } };
+
+    ghost invariant = { λ w. (w.limit ≤ 1073741823) × (w.table.shared.table_id.words ≡ 2) × (w.table.shared.table_id.slots ≡ 2) × (w.spare.room_id ≡ w.place.room.room_id) × (w.table.shared.key.room_id ≡ w.spare.room_id) × (w.table.shared.key.deed ≡ w.spare.deed) × IsSome w.spare.value };
 }
 
-/// What a take found.
-pub enum Took {
-    /// The lock was free and nobody was starved: the seat holds it.
-    Got,
-    /// The lock was held.
-    Held,
-    /// The lock was free, and others were starved.
-    Starved,
-}
-
-impl<L: Counts> Words<L> {
-    /// A free lock with this list, which nobody waits in in vain.
-    pub fn new(alloc: Global, list: L) -> Result<Words<L>, AllocError>
+impl<T, W: Wakes> Words<T, W> {
+    /// Creates a free lock over a value, with an empty list. If memory is refused, the value is dropped.
+    pub fn new(alloc: Global, value: T) -> Result<Words<T, W>, AllocError>
     where
-        L: Drop,
-        requires { L.len list ≡ 0 }
+        T: Drop,
+        ensures { IfOk result (λ words. words.limit ≡ 1073741823) }
     {
-        let mut slots = Vec::with_capacity(alloc, 1)?;
-        slots.push_reserved(list);
-        match Table::new(alloc, &[FREE, FREE], slots, &()) {
-            Ok((table, _first)) => Ok(Words { table }),
-            Err(_) => Err(AllocError),
+        Words::with_limit(alloc, value, STARVED_LIMIT)
+    }
+
+    /// Creates a free lock as [`Words::new`] does, where fewer may be starved. It is for tests.
+    pub fn with_limit(alloc: Global, value: T, limit: u64) -> Result<Words<T, W>, AllocError>
+    where
+        T: Drop,
+        requires { limit ≤ 1073741823 }
+        ensures { IfOk result (λ words. words.limit ≡ limit) }
+    {
+        let Ok((place, hold)) = Place::new(alloc, value) else {
+            return Err(AllocError);
+        };
+        let (mut spare, ticket) = Spare::new(&place.room);
+        spare.lend(hold, &place);
+        match free_table(alloc, &spare, ticket) {
+            Ok(table) => Ok(Words {
+                table,
+                place,
+                spare,
+                limit,
+                alloc,
+            }),
+            Err(error) => Err(error),
         }
     }
 
-    /// A new seat, with nothing: one load.
-    pub fn sit(&self) -> Seat<L>
+    /// Returns the value, whatever became of the seats and the rights. It takes no memory, and waits for nobody.
+    pub fn into_inner(self) -> T {
+        let Words {
+            table,
+            place,
+            spare,
+            limit: _,
+            alloc: _,
+        } = self;
+        drop(table);
+        drop(spare);
+        place.into_inner()
+    }
+
+    /// Returns where the value lies. [`Hold::get`] and [`Hold::get_mut`] lend it to whoever has its right.
+    pub fn room(&self) -> &Room<T>
+        ensures { result.now.room_id ≡ self.now.right.room }
+    {
+        &self.place.room
+    }
+
+    /// Returns whether the lock was held at some moment of the call.
+    pub fn is_locked(&self) -> bool {
+        self.table.shared.peek(WORD) % COUNT == HELD
+    }
+
+    /// Returns a new seat, with nothing: one load.
+    pub fn sit(&self) -> Seat<T, W>
         ensures { result ≡ entering self.now }
     {
         Seat {
@@ -77,90 +140,161 @@ impl<L: Counts> Words<L> {
         }
     }
 
-    /// Takes the lock if it is free and nobody is starved: a look, and one exchange where it found so. Who finds it held owes nothing
-    /// any more.
-    pub fn take(&self, seat: &mut Seat<L>) -> Took
-        requires table { seat.old.table ≡ self.now }
-        requires calm { seat.old.starved ≡ false }
-        ensures { OnTook result (seat.new ≡ with_got seat.old) (seat.new ≡ with_held seat.old) (seat.new ≡ with_starved seat.old) }
+    /// Takes the lock if it is free and nobody is starved: a look, and one exchange where it found so. A seat that finds the lock held
+    /// owes nothing any more. Whatever it finds, it has looked.
+    #[inline]
+    pub fn take(&self, seat: &mut Seat<T, W>) -> Taking<Hold<T>>
+        requires of { IsOf self.now seat.old }
+        requires idle { seat.old.holds ≡ false }
+        requires stands { seat.old.starved ≡ true → seat.old.listed ≡ true }
+        ensures { OnTaking result (λ hold. (seat.new ≡ with_got seat.old) × (hold.room_id ≡ self.now.right.room)) (seat.new ≡ with_held seat.old) ((seat.new ≡ with_look seat.old) ⊎ (seat.new ≡ with_held seat.old)) }
     {
-        let found = look(&self.table.shared, &mut seat.inner);
-        let found = if found == FREE {
-            exchange(&self.table.shared, &mut seat.inner)
+        let shared = &self.table.shared;
+        let seen = look(shared, &mut seat.inner);
+        let found = if seen == FREE {
+            exchange(shared, &mut seat.inner)
         } else {
-            found
+            seen
         };
         if found == FREE {
-            Took::Got
-        } else if found % 2 == 1 {
-            Took::Held
+            return Taking::Got(take_right(shared, &self.spare, &mut seat.inner));
+        }
+        if found == HELD {
+            Taking::Held
         } else {
-            Took::Starved
+            Taking::Starved
         }
     }
 
-    /// The same for a seat that is counted as starved, and has an entry: it takes the lock if nobody else is starved.
-    pub fn take_alone(&self, seat: &mut Seat<L>) -> Took
-        requires table { seat.old.table ≡ self.now }
+    /// Takes the lock if it is free and no other seat is starved: one exchange, by a starved seat with an entry. A seat that finds the lock
+    /// held owes nothing any more. Whatever it finds, it has looked.
+    pub fn take_alone(&self, seat: &mut Seat<T, W>) -> TakingAlone<Hold<T>>
+        requires of { IsOf self.now seat.old }
+        requires idle { seat.old.holds ≡ false }
         requires stands { (seat.old.starved ≡ true) × (seat.old.listed ≡ true) }
-        ensures { OnTook result (seat.new ≡ with_got seat.old) (seat.new ≡ with_held seat.old) (seat.new ≡ with_starved seat.old) }
+        ensures { OnAlone result (λ hold. (seat.new ≡ with_got seat.old) × (hold.room_id ≡ self.now.right.room)) (seat.new ≡ with_held seat.old) (seat.new ≡ with_look seat.old) }
     {
-        let found = exchange_alone(&self.table.shared, &mut seat.inner);
+        let shared = &self.table.shared;
+        let found = exchange_alone(shared, &mut seat.inner);
         if found == ALONE {
-            Took::Got
-        } else if found % 2 == 1 {
-            Took::Held
+            return TakingAlone::Got(take_right(shared, &self.spare, &mut seat.inner));
+        }
+        if found % COUNT == HELD {
+            TakingAlone::Held
         } else {
-            Took::Starved
+            TakingAlone::FreeWithOthers
         }
     }
 
-    /// Takes the lock if it is free, whoever is starved: one step.
-    pub fn lift(&self, seat: &mut Seat<L>) -> bool
-        requires table { seat.old.table ≡ self.now }
-        ensures got { result ≡ true → seat.new ≡ with_got seat.old }
+    /// Makes the lock held, and takes it if it was free, whoever is starved: one step.
+    pub fn set(&self, seat: &mut Seat<T, W>) -> Setting<Hold<T>>
+        requires of { IsOf self.now seat.old }
+        requires idle { seat.old.holds ≡ false }
+        ensures { OnSetting result (λ hold. (seat.new ≡ with_got seat.old) × (hold.room_id ≡ self.now.right.room)) (seat.new ≡ seat.old) }
+    {
+        let shared = &self.table.shared;
+        if lift(shared, &mut seat.inner) % COUNT == HELD {
+            return Setting::WasSet;
+        }
+        Setting::Got(take_right(shared, &self.spare, &mut seat.inner))
+    }
+
+    /// Counts a seat as starved that has an entry and has looked. It tries again where others came between. False comes where as many are starved as may
+    /// be, and nothing has changed then.
+    pub fn count_listed<R: Wait>(&self, rt: &R, seat: &mut Seat<T, W>) -> bool
+        requires of { IsOf self.now seat.old }
+        requires waits { (seat.old.starved ≡ false) × (seat.old.listed ≡ true) × (seat.old.fresh ≡ false) }
+        ensures counted { result ≡ true → seat.new ≡ with_count seat.old }
         ensures not { result ≡ false → seat.new ≡ seat.old }
     {
-        lift(&self.table.shared, &mut seat.inner) % 2 == 0
+        tally_listed(&self.table.shared, rt, &mut seat.inner, self.limit)
     }
 
-    /// Counts a seat as starved that has no entry: a look and an exchange. It owes a look then. If others came between, it has looked.
-    pub fn count(&self, seat: &mut Seat<L>) -> bool
-        requires table { seat.old.table ≡ self.now }
-        requires stands { (seat.old.starved ≡ false) × (seat.old.listed ≡ false) × (seat.old.fresh ≡ false) }
-        ensures counted { result ≡ true → seat.new ≡ with_counted seat.old }
-        ensures not { result ≡ false → (seat.new ≡ seat.old) ⊎ (seat.new ≡ with_paid seat.old) }
+    /// Counts a seat as starved, as [`Words::count_listed`]. The seat may have no entry, and owes a look then.
+    pub fn count<R: Wait>(&self, rt: &R, seat: &mut Seat<T, W>) -> bool
+        requires of { IsOf self.now seat.old }
+        requires one { seat.old.starved ≡ false }
+        ensures counted { result ≡ true → seat.new ≡ with_count_owing seat.old }
+        ensures not { result ≡ false → seat.new ≡ seat.old }
     {
-        let found = look(&self.table.shared, &mut seat.inner);
-        found / 2 < 1_073_741_823
-            && count_unlisted(&self.table.shared, &mut seat.inner, found) == found
+        tally(&self.table.shared, rt, &mut seat.inner, self.limit)
     }
 
-    /// Its count goes off: one step.
-    pub fn uncount(&self, seat: &mut Seat<L>)
-        requires table { seat.old.table ≡ self.now }
+    /// Takes a seat's count off: one step.
+    pub fn uncount(&self, seat: &mut Seat<T, W>)
+        requires of { IsOf self.now seat.old }
         requires starved { seat.old.starved ≡ true }
         ensures { seat.new ≡ with_uncounted seat.old }
     {
         uncount(&self.table.shared, &mut seat.inner);
     }
 
-    /// Gives the lock back: one step. The seat owes a notification.
-    pub fn clear(&self, seat: &mut Seat<L>)
-        requires table { seat.old.table ≡ self.now }
+    /// Gives the lock back, and the right with it: one step. The seat owes a notification then.
+    pub fn clear(&self, seat: &mut Seat<T, W>, hold: Hold<T>)
+        requires of { IsOf self.now seat.old }
         requires holds { seat.old.holds ≡ true }
+        requires right { hold.room_id ≡ self.now.right.room }
         ensures { seat.new ≡ with_cleared seat.old }
     {
-        clear(&self.table.shared, &mut seat.inner);
+        give_back(&self.table.shared, &mut seat.inner, hold.park().rest());
     }
 
-    /// Whether the list may have entries: one load. If not, the seat owes nothing any more.
-    pub fn may_have_entries(&self, seat: &mut Seat<L>) -> bool
-        requires table { seat.old.table ≡ self.now }
+    /// Returns whether the list may have entries: one load. If not, the seat owes nothing any more.
+    pub fn may_have_entries(&self, seat: &mut Seat<T, W>) -> bool
+        requires of { IsOf self.now seat.old }
         requires calm { seat.old.starved ≡ false }
         ensures some { result ≡ true → seat.new ≡ seat.old }
         ensures none { result ≡ false → seat.new ≡ with_paid seat.old }
     {
-        peek(&self.table.shared, &mut seat.inner) >= ENTRIES
+        peek(&self.table.shared, &mut seat.inner) % 8 >= ENTRIES
     }
+}
+
+// The table of a free lock: nobody has joined its list, and a ticket of its spare lies in the right's slot.
+fn free_table<T, W: Wakes>(
+    alloc: Global,
+    spare: &Spare<T>,
+    ticket: Ticket,
+) -> Result<Table<Cell<T, W>, View, Spare<T>, MutexRule, Global>, AllocError>
+    requires { ticket.deed ≡ spare.now.deed }
+    ensures sizes { IfOk result (λ table. (table.shared.table_id.words ≡ 2) × (table.shared.table_id.slots ≡ 2)) }
+    ensures key { IfOk result (λ table. table.shared.key ≡ spare.now) }
+{
+    let mut slots = Vec::with_capacity(alloc, 2)?;
+    slots.push_reserved(Cell::list(spare));
+    slots.push_reserved(Cell::of(ticket.rest()));
+    match Table::new(alloc, &[FREE, FREE], slots, spare) {
+        Ok((table, _first)) => Ok(table),
+        Err(_) => Err(AllocError),
+    }
+}
+
+// Takes the right out of its slot, which has come to the seat with the lock.
+#[inline]
+fn take_right<T, W: Wakes>(
+    shared: &Listing<T, W>,
+    spare: &Spare<T>,
+    inner: &mut Lister<T, W>,
+) -> Hold<T>
+    requires table { inner.old.table_id ≡ shared.now.table_id }
+    requires right { (right : Cell T W) × (inner.old.me.1 ≡ (1, right) ∷ []) × IsRight spare.now.room_id spare.now.deed right.right }
+    requires spare { IsSome spare.now.value }
+    ensures hold { result.room_id ≡ spare.now.room_id }
+    ensures seat { (inner.new.table_id ≡ inner.old.table_id) × (inner.new.me.0 ≡ inner.old.me.0) × HasSlots true inner.new.me.1 }
+{
+    let nothing = Cell::of(Rested::nothing(spare));
+    let lay = shared.exchange(inner, RIGHT_SLOT, nothing);
+    lay.into_right().into_hold(spare)
+}
+
+// Lays the right into its slot, and gives the lock back with it.
+#[inline]
+fn give_back<T, W: Wakes>(shared: &Listing<T, W>, inner: &mut Lister<T, W>, right: Rested<T>)
+    requires table { (inner.old.table_id ≡ shared.now.table_id) × (shared.now.table_id.words ≡ 2) × (shared.now.table_id.slots ≡ 2) }
+    requires right { IsRight inner.old.me.0.room inner.old.me.0.deed right }
+    requires holds { (inner.old.me.0.holds ≡ true) × HasSlots true inner.old.me.1 }
+    ensures { (inner.new.table_id ≡ inner.old.table_id) × (inner.new.me ≡ (cleared_of inner.old.me.0, [])) }
+{
+    drop(shared.exchange(inner, RIGHT_SLOT, Cell::of(right)));
+    clear(shared, inner);
 }

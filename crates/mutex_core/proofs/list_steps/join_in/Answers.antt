@@ -1,9 +1,9 @@
-use Rattle.mutex_core.specs.Lengths.{waiters_len, waiters_marked}
+use Rattle.mutex_core.specs.Cells.{cell_len, cell_marked}
 use Rattle.mutex_core.proofs.Returning.{lent, joined}
 use Rattle.mutex_core.proofs.list_steps.join_in.Goals as goal
 
 pub slot_mut-list-requires : goal.slot_mut-list-requires
-slot_mut-list-requires g c = (c.requires.table, lent waiters_len waiters_marked c.args.inner.now.me c.requires.held)
+slot_mut-list-requires g c = (c.requires.table, lent cell_len cell_marked c.args.inner.now.me c.requires.held)
 
 pub returns-clause-ready : goal.returns-clause-ready
-returns-clause-ready g c = joined waiters_len waiters_marked c.args.inner.now.me c.requires.held c.slot_mut-list.result.now c.join.new.self c.join.result.1 c.join.result.0 c.slot_mut-list.ensures.value c.join.ensures.says c.join.ensures.joined c.join.ensures.refused
+returns-clause-ready g c = joined cell_len cell_marked c.args.inner.now.me c.requires.held c.slot_mut-list.result.now c.join-joined.new.self c.says-says.result c.join-joined.result c.slot_mut-list.ensures.value c.says-says.ensures c.join-joined.ensures.joined c.join-joined.ensures.refused

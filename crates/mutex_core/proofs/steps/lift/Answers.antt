@@ -3,4 +3,4 @@ use Rattle.mutex_core.proofs.Keeps.{lifted}
 use Rattle.mutex_core.proofs.steps.lift.Goals as goal
 
 pub fetch_or-requires : goal.fetch_or-requires
-fetch_or-requires g c = (search rules, search rules, lifted _ _ _ _ _ _)
+fetch_or-requires g c = (search rules, search rules, lifted _ _ _ _ _ _ _ _ _)

@@ -3,4 +3,4 @@ use Rattle.mutex_core.proofs.Keeps.{looked}
 use Rattle.mutex_core.proofs.steps.look.Goals as goal
 
 pub load-requires : goal.load-requires
-load-requires g c = (search rules, search rules, looked _ _ _ _ _ _ c.requires.seen)
+load-requires g c = (search rules, search rules, looked _ _ _ _ _ _ _ _ _ c.requires.seen)

@@ -3,4 +3,4 @@ use Rattle.mutex_core.proofs.Keeps.{peeks}
 use Rattle.mutex_core.proofs.steps.peek.Goals as goal
 
 pub load-requires : goal.load-requires
-load-requires g c = (search rules, search rules, peeks _ _ _ _ _ _ c.requires.calm)
+load-requires g c = (search rules, search rules, peeks _ _ _ _ _ _ _ _ _ c.requires.calm)

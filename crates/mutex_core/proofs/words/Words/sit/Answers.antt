@@ -3,4 +3,4 @@ use Rattle.mutex_core.proofs.Keeps.{sits}
 use Rattle.mutex_core.proofs.words.Words.sit.Goals as goal
 
 pub load_new_seat-requires : goal.load_new_seat-requires
-load_new_seat-requires g c = (search rules, sits _ _ _ _ _)
+load_new_seat-requires g c = (search rules, sits _ _ _ _ _ _ _ _)

@@ -1,0 +1,88 @@
+-- What contracts see of a lock, and of a seat.
+use Rattle.std.specs.Prelude.{◌≡◌, ℕ, Bool, true, false, List, [], ◌∷◌, refl}
+use Rattle.std.specs.Coded.{Coded, code_by, coded×, coded_ℕ, coded_bool}
+use Rattle.atomic_table.specs.Seated.{TableId, table_id_coded}
+use Rattle.lock_place.specs.Held.{RoomId, room_id_coded}
+use Rattle.mutex_core.specs.declared.view.View.{View}
+
+-- Which right to a value it is: where the value lay when the lock was made, and the spare that the right may wait in.
+pub record RightId : Type 0 where
+  pub room : RoomId
+  pub deed : ℕ
+
+abbrev pub right_id_coded : Coded RightId
+right_id_coded = code_by (RoomId × ℕ) (coded× room_id_coded coded_ℕ) (λ l. (l.room, l.deed)) (λ p. record { room = p.0; deed = p.1 }) (λ _. refl)
+
+-- A lock: its table, the right to its value, and how many may be starved.
+pub record Lock : Type 0 where
+  pub table : TableId
+  pub right : RightId
+  pub limit : ℕ
+
+abbrev pub lock_coded : Coded Lock
+lock_coded = code_by (TableId × (RightId × ℕ)) (coded× table_id_coded (coded× right_id_coded coded_ℕ)) (λ l. (l.table, (l.right, l.limit))) (λ p. record { table = p.0; right = p.1.0; limit = p.1.1 }) (λ _. refl)
+
+-- A seat: of which table and right it is, whether it holds the lock, is counted as starved, owes, has an entry, and has not looked since it joined.
+pub record Seated : Type 0 where
+  pub table : TableId
+  pub right : RightId
+  pub holds : Bool
+  pub starved : Bool
+  pub owes : Bool
+  pub listed : Bool
+  pub fresh : Bool
+
+abbrev pub seated_coded : Coded Seated
+seated_coded = code_by (TableId × (RightId × (Bool × (Bool × (Bool × (Bool × Bool)))))) (coded× table_id_coded (coded× right_id_coded (coded× coded_bool (coded× coded_bool (coded× coded_bool (coded× coded_bool coded_bool)))))) (λ s. (s.table, (s.right, (s.holds, (s.starved, (s.owes, (s.listed, s.fresh))))))) (λ p. record { table = p.0; right = p.1.0; holds = p.1.1.0; starved = p.1.1.1.0; owes = p.1.1.1.1.0; listed = p.1.1.1.1.1.0; fresh = p.1.1.1.1.1.1 }) (λ _. refl)
+
+abbrev pub seated : TableId → View → Seated
+seated table v = record { table = table; right = record { room = v.room; deed = v.deed }; holds = v.holds; starved = v.starved; owes = v.owes; listed = v.listed; fresh = v.fresh }
+
+-- The seat is one of the lock.
+abbrev pub IsOf : Lock → Seated → Type 0
+IsOf lock seat = (seat.table ≡ lock.table) × (seat.right ≡ lock.right)
+
+-- The slots that are out with a seat: the right's, while it holds the lock.
+abbrev pub HasSlots : {S : Type 0} → Bool → List (ℕ × S) → Type 0
+HasSlots {S} true slots = (right : S) × (slots ≡ (1, right) ∷ [])
+HasSlots false slots = slots ≡ []
+
+-- a seat with nothing
+abbrev pub entering : Lock → Seated
+entering lock = record { table = lock.table; right = lock.right; holds = false; starved = false; owes = false; listed = false; fresh = false }
+
+abbrev pub with_got : Seated → Seated
+with_got s = record s { holds = true; owes = false; fresh = false }
+
+abbrev pub with_held : Seated → Seated
+with_held s = record s { owes = false; fresh = false }
+
+-- it has looked
+abbrev pub with_look : Seated → Seated
+with_look s = record s { fresh = false }
+
+abbrev pub with_cleared : Seated → Seated
+with_cleared s = record s { holds = false; owes = true }
+
+abbrev pub with_paid : Seated → Seated
+with_paid s = record s { owes = false }
+
+abbrev pub with_joined : Seated → Seated
+with_joined s = record s { listed = true; fresh = true }
+
+abbrev pub with_told : Seated → Seated
+with_told s = record s { listed = false; owes = true }
+
+abbrev pub with_gone : Seated → Seated
+with_gone s = record s { listed = false }
+
+-- it is counted as starved
+abbrev pub with_count : Seated → Seated
+with_count s = record s { starved = true }
+
+-- it is counted as starved, and owes a look
+abbrev pub with_count_owing : Seated → Seated
+with_count_owing s = record s { starved = true; owes = true }
+
+abbrev pub with_uncounted : Seated → Seated
+with_uncounted s = record s { starved = false }

@@ -1,0 +1,180 @@
+//! What lies in a slot of a mutex's table.
+
+ghost use Rattle.std.specs.Prelude.{◌≡◌, ◌<◌, ◌%◌, [], IsSome, OnOk, OnErr, true, length};
+ghost use Rattle.lock_event.specs.Lists.{marked_count};
+ghost use Rattle.mutex_core.specs.Asking.{ByAsk};
+ghost use Rattle.mutex_core.specs.Cells.{entries_of};
+ghost use Rattle.mutex_core.specs.Entries.{HasJoined, HasLeft, HasShrunk, IsSameSize, IsTold};
+ghost use Rattle.mutex_core.specs.Rule.{SaysEmpty};
+
+use crate::due::{Due, Wakes};
+use crate::list;
+use crate::rule::Content;
+use crate::steps::{ENTRIES, NOTIFICATION};
+use lock_event::{Asked, EntryId, Event, Memory};
+use lock_place::{Rested, Spare};
+use std::alloc::Global;
+
+// How many notifications a list's word counts at most.
+pub(crate) const MOST: u64 = 2_305_843_009_213_693_951;
+
+/// What lies in a slot of a mutex's table: its waiting list, which is made when somebody first joins, or the right to its value. One of
+/// the two is nothing.
+pub struct Cell<T, W> {
+    pub(crate) right: Rested<T>,
+    pub(crate) entries: Option<Box<Event<W>>>,
+}
+
+impl<T, W: Drop> Drop for Cell<T, W> {
+    fn drop(self) {
+        let Cell {
+            right: _,
+            entries: _,
+        } = self;
+    }
+}
+
+impl<T, W> Content for Cell<T, W> {
+    ghost use Rattle.std.specs.Prelude.{length};
+    ghost use Rattle.lock_event.specs.Lists.{marked_count};
+    ghost use Rattle.lock_place.specs.Rested.{IsRight};
+    ghost use Rattle.mutex_core.specs.Cells.{entries_of};
+
+    ghost len = { λ cell. length (entries_of cell) };
+
+    ghost marked = { λ cell. marked_count (entries_of cell) };
+
+    ghost is_right = { λ room deed cell. IsRight room deed cell.right };
+}
+
+impl<T, W> Cell<T, W> {
+    // A list that nobody has joined.
+    pub(crate) fn list(spare: &Spare<T>) -> Cell<T, W>
+        ensures { entries_of result ≡ [] }
+    {
+        Cell {
+            right: Rested::nothing(spare),
+            entries: None,
+        }
+    }
+
+    // Where the right rests.
+    pub(crate) fn of(right: Rested<T>) -> Cell<T, W>
+        ensures { result.right ≡ right }
+    {
+        Cell {
+            right,
+            entries: None,
+        }
+    }
+}
+
+impl<T, W: Wakes> Cell<T, W> {
+    // The right that rests there.
+    pub(crate) fn into_right(self) -> Rested<T>
+        ensures { result ≡ self.right }
+    {
+        let Cell { right, entries: _ } = self;
+        right
+    }
+
+    // Makes the list, if nobody has joined before.
+    fn make(&mut self, alloc: Global) -> Result<(), Memory>
+        ensures same { entries_of self.new ≡ entries_of self.old }
+        ensures made { OnOk result (IsSome self.new.entries) }
+    {
+        if self.entries.is_some() {
+            return Ok(());
+        }
+        let Ok(made) = Box::new(alloc, Event::new(alloc)) else {
+            return Err(Memory);
+        };
+        self.entries = Some(made);
+        Ok(())
+    }
+
+    fn join_made(&mut self, waker: Option<W>) -> Result<EntryId, Memory>
+        requires { IsSome self.old.entries }
+        ensures joined { OnOk result (HasJoined (entries_of self.old) (entries_of self.new)) }
+        ensures refused { OnErr result (entries_of self.new ≡ entries_of self.old) }
+    {
+        match &mut self.entries {
+            Some(event) => list::join(event, waker),
+            None => unreachable!(),
+        }
+    }
+
+    // An entry joins at the back, with this waker.
+    pub(crate) fn join(&mut self, alloc: Global, waker: Option<W>) -> Result<EntryId, Memory>
+        ensures joined { OnOk result (HasJoined (entries_of self.old) (entries_of self.new)) }
+        ensures refused { OnErr result (IsSameSize (entries_of self.old) (entries_of self.new)) }
+    {
+        match self.make(alloc) {
+            Ok(()) => self.join_made(waker),
+            Err(memory) => Err(memory),
+        }
+    }
+
+    // Notifies the first who waits, unless one is notified: the waker that is due.
+    pub(crate) fn notify(&mut self) -> Due<W>
+        ensures { IsTold (entries_of self.old) (entries_of self.new) }
+    {
+        let due = match &mut self.entries {
+            Some(event) => list::notify(event),
+            None => None,
+        };
+        Due::of(due)
+    }
+
+    // An entry leaves: what it kept, and the waker that is due.
+    pub(crate) fn leave(&mut self, id: EntryId) -> (Option<W>, Due<W>)
+        ensures { HasLeft (entries_of self.old) (entries_of self.new) }
+    {
+        let (kept, due) = match &mut self.entries {
+            Some(event) => list::leave(event, id),
+            None => (None, None),
+        };
+        (kept, Due::of(due))
+    }
+
+    // An entry asks for its notification.
+    pub(crate) fn ask(&mut self, id: EntryId, waker: Option<W>) -> Asked<W>
+        ensures { ByAsk result (HasShrunk (entries_of self.old) (entries_of self.new)) (IsSameSize (entries_of self.old) (entries_of self.new)) }
+    {
+        match &mut self.entries {
+            Some(event) => list::ask(event, id, waker),
+            None => Asked::Unlisted { unused: waker },
+        }
+    }
+
+    fn is_empty(&self) -> bool
+        ensures { result ≡ true → length (entries_of self.now) ≡ 0 }
+    {
+        match &self.entries {
+            Some(event) => event.is_empty(),
+            None => true,
+        }
+    }
+
+    // Whether an entry is notified.
+    pub(crate) fn is_notified(&self) -> bool {
+        match &self.entries {
+            Some(event) => event.marked() > 0,
+            None => false,
+        }
+    }
+
+    // What is to stand in the list's word, in which `found` stood: whether it has entries, and one notification more if it `tells`.
+    // Where the count can't grow any more it stays.
+    pub(crate) fn says(&self, found: u64, tells: bool) -> u64
+        ensures { (result % 4 ≡ 0) × (SaysEmpty result → length (entries_of self.now) ≡ 0) }
+    {
+        let told = found / NOTIFICATION;
+        let told = if tells && told < MOST { told + 1 } else { told };
+        if self.is_empty() {
+            told * NOTIFICATION
+        } else {
+            told * NOTIFICATION + ENTRIES
+        }
+    }
+}
