@@ -71,3 +71,12 @@ module _ {W : Type 0} where
     ap length h.1 ∙ ap length is ∙ length-joined old (slot_of id None),
     ap marked_count h.1 ∙ ap marked_count is ∙ marked_count-joined old (slot_of id None),
   )
+
+  -- an entry that waits asks twice
+  pub has-asked-twice : (id : EntryId) (w v : Option W) (old mid new : List (Entry (Slot W))) (kept : Option W) (a : Asked W) → HasAsked id w old (asked.Waiting kept) mid → HasAsked id v mid a new → ByAsk a (HasShrunk old new) (IsSameSize old new)
+  has-asked-twice id w v old mid new kept a h k = after a (has-asked id w old mid (asked.Waiting kept) h) (has-asked id v mid new a k)
+    where
+      after : (a : Asked W) → IsSameSize old mid → ByAsk a (HasShrunk mid new) (IsSameSize mid new) → ByAsk a (HasShrunk old new) (IsSameSize old new)
+      after (asked.Notified k u) s t = let l = s.0 in omega arith
+      after (asked.Waiting k) s t = (t.0 ∙ s.0, t.1 ∙ s.1)
+      after (asked.Unlisted u) s t = let l = s.0 in omega arith

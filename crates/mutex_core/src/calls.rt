@@ -4,16 +4,18 @@ ghost use Rattle.std.specs.Prelude.{◌≡◌, true, false, OnOk, OnErr};
 ghost use Rattle.mutex_core.specs.Locks.{IsOf, with_joined, with_told, with_paid, with_gone};
 
 use crate::cell::MOST;
-use crate::due::Wakes;
-use crate::list_steps::{ask_in, join_in, leave_in, notify_in, take_out, wake_next};
+use crate::due::{Task, Wakes};
+use crate::list_steps::{
+    ask_again_in, ask_in, give_asked, join_in, leave_in, notify_in, take_out, wake_next,
+};
 use crate::seat::Seat;
-use crate::steps::{LIST, NOTIFICATION, give_gone, give_joined, give_paid, give_same, give_told};
+use crate::steps::{LIST, NOTIFICATION, give_gone, give_joined, give_paid, give_same};
 use crate::words::Words;
-use lock_event::{Asked, EntryId, Memory};
+use lock_event::{EntryId, Memory};
 use std::sync::Wait;
 
 /// An entry that has joined, and the word that its list had then.
-#[derive(Drop)]
+#[derive(Clone, Copy)]
 pub(crate) struct Joined {
     pub(crate) id: EntryId,
     pub(crate) word: u64,
@@ -79,14 +81,13 @@ impl<T, W: Wakes> Words<T, W> {
         drop(due.pay());
     }
 
-    // Asks for the notification of an entry, with a waker to keep from now on, or none to keep what it has. Notified, it has left the list,
-    // and the seat owes.
-    pub(crate) fn ask<R: Wait>(
+    // Asks for the notification of an entry. One that waits keeps a waker of this task. Notified, it has left the list, and the seat owes.
+    pub(crate) fn ask<R: Wait, K: Task<W>>(
         &self,
         rt: &R,
         seat: &mut Seat<T, W>,
         id: EntryId,
-        waker: Option<W>,
+        task: &mut K,
     ) -> bool
         requires of { IsOf self.now seat.old }
         requires stands { (seat.old.listed ≡ true) × (seat.old.fresh ≡ false) }
@@ -95,31 +96,39 @@ impl<T, W: Wakes> Words<T, W> {
     {
         let shared = &self.table.shared;
         let found = take_out(shared, rt, &mut seat.inner);
-        let (asked, word) = ask_in(shared, &mut seat.inner, id, waker, found);
-        match asked {
-            Asked::Waiting { kept: _kept } => {
-                let found = give_same(shared, &mut seat.inner, word);
-                wake_next(shared, found);
-                false
-            }
-            Asked::Notified {
-                kept: _kept,
-                unused: _unused,
-            } => {
-                let found = give_told(shared, &mut seat.inner, word);
-                wake_next(shared, found);
-                true
-            }
-            Asked::Unlisted { unused: _unused } => {
-                let found = give_told(shared, &mut seat.inner, word);
-                wake_next(shared, found);
-                true
-            }
-        }
+        let (asked, word) = ask_in(shared, &mut seat.inner, id, task, found);
+        give_asked(shared, &mut seat.inner, asked, word)
     }
 
-    // Whether the list was not notified since its word was this: one load.
-    pub(crate) fn is_still(&self, word: u64) -> bool {
+    // The same, of an entry that keeps the waker that it has.
+    pub(crate) fn ask_again<R: Wait>(&self, rt: &R, seat: &mut Seat<T, W>, id: EntryId) -> bool
+        requires of { IsOf self.now seat.old }
+        requires stands { (seat.old.listed ≡ true) × (seat.old.fresh ≡ false) }
+        ensures told { result ≡ true → seat.new ≡ with_told seat.old }
+        ensures waits { result ≡ false → seat.new ≡ seat.old }
+    {
+        let shared = &self.table.shared;
+        let found = take_out(shared, rt, &mut seat.inner);
+        let (asked, word) = ask_again_in(shared, &mut seat.inner, id, found);
+        give_asked(shared, &mut seat.inner, asked, word)
+    }
+
+    // Asks for the notification of an entry that has joined with a waker: one load, where the list was not notified since.
+    pub(crate) fn ask_joined<R: Wait>(&self, rt: &R, seat: &mut Seat<T, W>, joined: Joined) -> bool
+        requires of { IsOf self.now seat.old }
+        requires stands { (seat.old.listed ≡ true) × (seat.old.fresh ≡ false) }
+        ensures told { result ≡ true → seat.new ≡ with_told seat.old }
+        ensures waits { result ≡ false → seat.new ≡ seat.old }
+    {
+        let Joined { id, word } = joined;
+        if self.is_still(word) {
+            return false;
+        }
+        self.ask_again(rt, seat, id)
+    }
+
+    // Whether the list was not notified since its word was this.
+    fn is_still(&self, word: u64) -> bool {
         let told = word / NOTIFICATION;
         told < MOST && self.table.shared.peek(LIST) / NOTIFICATION == told
     }

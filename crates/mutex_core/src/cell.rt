@@ -7,7 +7,7 @@ ghost use Rattle.mutex_core.specs.Cells.{entries_of};
 ghost use Rattle.mutex_core.specs.Entries.{HasJoined, HasLeft, HasShrunk, IsSameSize, IsTold};
 ghost use Rattle.mutex_core.specs.Rule.{SaysEmpty};
 
-use crate::due::{Due, Wakes};
+use crate::due::{Due, Task, Wakes};
 use crate::list;
 use crate::rule::Content;
 use crate::steps::{ENTRIES, NOTIFICATION};
@@ -137,13 +137,23 @@ impl<T, W: Wakes> Cell<T, W> {
         (kept, Due::of(due))
     }
 
-    // An entry asks for its notification.
-    pub(crate) fn ask(&mut self, id: EntryId, waker: Option<W>) -> Asked<W>
+    // An entry asks for its notification. One that waits keeps a waker of this task.
+    pub(crate) fn ask<K: Task<W>>(&mut self, id: EntryId, task: &mut K) -> Asked<W>
         ensures { ByAsk result (HasShrunk (entries_of self.old) (entries_of self.new)) (IsSameSize (entries_of self.old) (entries_of self.new)) }
     {
         match &mut self.entries {
-            Some(event) => list::ask(event, id, waker),
-            None => Asked::Unlisted { unused: waker },
+            Some(event) => list::ask(event, id, task),
+            None => Asked::Unlisted { unused: None },
+        }
+    }
+
+    // The same, of an entry that keeps what it has.
+    pub(crate) fn ask_again(&mut self, id: EntryId) -> Asked<W>
+        ensures { ByAsk result (HasShrunk (entries_of self.old) (entries_of self.new)) (IsSameSize (entries_of self.old) (entries_of self.new)) }
+    {
+        match &mut self.entries {
+            Some(event) => list::ask_again(event, id),
+            None => Asked::Unlisted { unused: None },
         }
     }
 

@@ -51,7 +51,7 @@ pub(crate) fn tally<T, S: Content, R: Wait>(
 {
     for _ in rt.forever() {
         let found = read(shared, inner);
-        if found / COUNT >= limit {
+        if limit <= found / COUNT {
             return false;
         }
         if count_unlisted(shared, inner, found) == found {

@@ -8,6 +8,13 @@ pub trait Wakes: Drop {
     fn wake(self);
 }
 
+/// A task that polls.
+pub trait Task<W> {
+    /// Puts a waker of this task there, unless one of this task is there already. None is left there only if there was no memory for one:
+    /// the task is polled again anyway then.
+    fn register(&mut self, waker: &mut Option<W>);
+}
+
 /// Shows that a waker was called. It is made by [`call`] alone.
 #[derive(Drop)]
 pub struct Woken {

@@ -22,9 +22,8 @@ mod view;
 mod words;
 
 pub use cell::Cell;
-pub use due::{Due, Wakes, Woken};
+pub use due::{Due, Task, Wakes, Woken};
 pub use laws::no_lost_wakeup;
-pub use mutex::Task;
 pub use rule::{Content, MutexRule};
 pub use seat::Seat;
 pub use turn::{Held, Starving, Turn, Waiting};

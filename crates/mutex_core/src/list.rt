@@ -6,6 +6,7 @@ ghost use Rattle.lock_event.specs.Slots.{has_id, slot_of};
 ghost use Rattle.mutex_core.specs.Asking.{ByAsk};
 ghost use Rattle.mutex_core.specs.Entries.{HasJoined, HasLeft, HasShrunk, IsSameSize, IsTold};
 
+use crate::due::Task;
 use lock_event::{Asked, EntryId, Event, Memory};
 
 // An entry joins at the back, with this waker.
@@ -34,12 +35,26 @@ pub(crate) fn leave<W: Drop>(event: &mut Event<W>, id: EntryId) -> (Option<W>, O
     (kept, event.next_waker())
 }
 
-// An entry asks for its notification. Without a waker in hand, one that waits keeps what it has.
-pub(crate) fn ask<W: Drop>(event: &mut Event<W>, id: EntryId, waker: Option<W>) -> Asked<W>
+// An entry asks for its notification. One that waits keeps a waker of this task.
+pub(crate) fn ask<W: Drop, K: Task<W>>(event: &mut Event<W>, id: EntryId, task: &mut K) -> Asked<W>
     ensures { ByAsk result (HasShrunk event.old.entries event.new.entries) (IsSameSize event.old.entries event.new.entries) }
 {
-    if waker.is_none() && event.is_waiting(id) {
+    match event.ask(id, None) {
+        Asked::Waiting { kept } => {
+            let mut waker = kept;
+            task.register(&mut waker);
+            event.ask(id, waker)
+        }
+        told => told,
+    }
+}
+
+// The same, of an entry that keeps what it has.
+pub(crate) fn ask_again<W: Drop>(event: &mut Event<W>, id: EntryId) -> Asked<W>
+    ensures { ByAsk result (HasShrunk event.old.entries event.new.entries) (IsSameSize event.old.entries event.new.entries) }
+{
+    if event.is_waiting(id) {
         return Asked::Waiting { kept: None };
     }
-    event.ask(id, waker)
+    event.ask(id, None)
 }

@@ -1,15 +1,18 @@
 //! The list, taken out of its place and given back.
 
-ghost use Rattle.std.specs.Prelude.{◌≡◌, MatchResult};
+ghost use Rattle.std.specs.Prelude.{◌≡◌, true, false, MatchResult};
 ghost use Rattle.atomic_table.specs.Table.{rest};
 ghost use Rattle.mutex_core.specs.Cells.{cell_len, cell_marked};
 ghost use Rattle.mutex_core.specs.Steps.{IsHeld, IsSame, CanJoin, CanHear, CanPay, CanLeave, CanStay};
 ghost use Rattle.mutex_core.specs.Asking.{ByAsk};
+ghost use Rattle.mutex_core.specs.Seats.{told_of, back};
 
 use crate::cell::Cell;
-use crate::due::{Due, Wakes};
+use crate::due::{Due, Task, Wakes};
 use crate::rule::Content;
-use crate::steps::{ASLEEP, ENTRIES, LIST, LIST_SLOT, OUT, Ruled, grab, grab_asleep};
+use crate::steps::{
+    ASLEEP, ENTRIES, LIST, LIST_SLOT, OUT, Ruled, give_same, give_told, grab, grab_asleep,
+};
 use crate::view::View;
 use atomic_table::Seat as TableSeat;
 use lock_event::{Asked, EntryId, Memory};
@@ -141,11 +144,11 @@ pub(crate) fn leave_in<T, W: Wakes>(
     (kept, due, says)
 }
 
-pub(crate) fn ask_in<T, W: Wakes>(
+pub(crate) fn ask_in<T, W: Wakes, K: Task<W>>(
     shared: &Listing<T, W>,
     inner: &mut Lister<T, W>,
     id: EntryId,
-    waker: Option<W>,
+    task: &mut K,
     found: u64,
 ) -> (Asked<W>, u64)
     requires table { inner.old.table_id ≡ shared.now.table_id }
@@ -156,7 +159,62 @@ pub(crate) fn ask_in<T, W: Wakes>(
     ensures ready { ByAsk result.0 (CanHear cell_len cell_marked inner.new.me result.1) (CanStay cell_len cell_marked inner.new.me result.1) }
 {
     let list = inner.slot_mut(shared, LIST_SLOT);
-    let asked = list.ask(id, waker);
+    let asked = list.ask(id, task);
     let says = list.says(found, false);
     (asked, says)
+}
+
+pub(crate) fn ask_again_in<T, W: Wakes>(
+    shared: &Listing<T, W>,
+    inner: &mut Lister<T, W>,
+    id: EntryId,
+    found: u64,
+) -> (Asked<W>, u64)
+    requires table { inner.old.table_id ≡ shared.now.table_id }
+    requires held { IsHeld cell_len cell_marked inner.old.me }
+    ensures table { inner.new.table_id ≡ inner.old.table_id }
+    ensures view { inner.new.me.0 ≡ inner.old.me.0 }
+    ensures others { rest inner.new.me.1 ≡ rest inner.old.me.1 }
+    ensures ready { ByAsk result.0 (CanHear cell_len cell_marked inner.new.me result.1) (CanStay cell_len cell_marked inner.new.me result.1) }
+{
+    let list = inner.slot_mut(shared, LIST_SLOT);
+    let asked = list.ask_again(id);
+    let says = list.says(found, false);
+    (asked, says)
+}
+
+// Gives the list back that an entry has asked, with this word: whether it was notified. What it kept is dropped then.
+pub(crate) fn give_asked<T, W: Wakes>(
+    shared: &Listing<T, W>,
+    inner: &mut Lister<T, W>,
+    asked: Asked<W>,
+    word: u64,
+) -> bool
+    requires table { (inner.old.table_id ≡ shared.now.table_id) × (shared.now.table_id.words ≡ 2) × (shared.now.table_id.slots ≡ 2) }
+    requires list { ByAsk asked (CanHear cell_len cell_marked inner.old.me word) (CanStay cell_len cell_marked inner.old.me word) }
+    requires stands { (inner.old.me.0.listed ≡ true) × (inner.old.me.0.fresh ≡ false) }
+    ensures table { inner.new.table_id ≡ inner.old.table_id }
+    ensures told { result ≡ true → inner.new.me ≡ (told_of inner.old.me.0, rest inner.old.me.1) }
+    ensures waits { result ≡ false → inner.new.me ≡ (back inner.old.me.0, rest inner.old.me.1) }
+{
+    match asked {
+        Asked::Waiting { kept: _kept } => {
+            let found = give_same(shared, inner, word);
+            wake_next(shared, found);
+            false
+        }
+        Asked::Notified {
+            kept: _kept,
+            unused: _unused,
+        } => {
+            let found = give_told(shared, inner, word);
+            wake_next(shared, found);
+            true
+        }
+        Asked::Unlisted { unused: _unused } => {
+            let found = give_told(shared, inner, word);
+            wake_next(shared, found);
+            true
+        }
+    }
 }

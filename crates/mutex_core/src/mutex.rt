@@ -6,8 +6,7 @@ ghost use Rattle.std.specs.Prelude.{◌≡◌, true, false, IfSome};
 ghost use Rattle.mutex_core.specs.Locks.{IsOf};
 ghost use Rattle.mutex_core.specs.Turns.{IsHeldOf, IsTurnOf};
 
-use crate::calls::Joined;
-use crate::due::Wakes;
+use crate::due::{Task, Wakes};
 use crate::seat::Seat;
 use crate::turn::{Held, Starving, Turn, Waiting};
 use crate::words::Words;
@@ -19,12 +18,6 @@ use words_base::{Setting, Taking, TakingAlone};
 
 /// How long a waiter is overtaken by newcomers before it counts as starved, in microseconds.
 const PATIENCE: u64 = 500;
-
-/// A task that polls.
-pub trait Task<W> {
-    /// Makes a waker of this task. None comes only if there was no memory for one: the task is then polled again anyway.
-    fn waker(&mut self) -> Option<W>;
-}
 
 impl<T, W: Wakes> Words<T, W> {
     /// Takes the lock, if it is free and nobody is starved.
@@ -87,7 +80,7 @@ impl<T, W: Wakes> Words<T, W> {
             since,
         } = waiting;
         // L3
-        if !self.ask(rt, &mut seat, id, task.waker()) {
+        if !self.ask(rt, &mut seat, id, task) {
             return Turn::Waits(Waiting { seat, id, since });
         }
         self.wait(rt, task, seat, since, true)
@@ -105,7 +98,7 @@ impl<T, W: Wakes> Words<T, W> {
     {
         let Starving { mut seat, id } = starving;
         // L8
-        if !self.ask(rt, &mut seat, id, task.waker()) {
+        if !self.ask(rt, &mut seat, id, task) {
             return Turn::Starves(Starving { seat, id });
         }
         self.strive(rt, task, seat, true)
@@ -128,7 +121,8 @@ impl<T, W: Wakes> Words<T, W> {
     pub fn cancel_starving<R: Wait>(&self, rt: &R, starving: Starving<T, W>)
         requires { IsOf self.now starving.seat }
     {
-        let Starving { mut seat, id } = starving;
+        let Starving { seat, id } = starving;
+        let mut seat = seat;
         self.uncount(&mut seat);
         self.leave(rt, &mut seat, id);
         seat.rise();
@@ -167,11 +161,11 @@ impl<T, W: Wakes> Words<T, W> {
                 }
             }
             // L1
-            let joined = match self.join(rt, &mut seat, task.waker()) {
+            let joined = match self.join(rt, &mut seat, waker_of(task)) {
                 Ok(joined) => joined,
                 Err(Memory) => return self.refuse(rt, seat, told, Refusal::Memory),
             };
-            let Joined { id, word } = joined;
+            let id = joined.id;
             // L2
             match self.take(&mut seat) {
                 Taking::Got(hold) => {
@@ -183,9 +177,13 @@ impl<T, W: Wakes> Words<T, W> {
                 Taking::Starved => return self.count_here(rt, task, seat, id, told),
             }
             // L3
-            if self.is_still(word) || !self.ask(rt, &mut seat, id, None) {
-                let since = first_of(rt, since);
-                return Turn::Waits(Waiting { seat, id, since });
+            if !self.ask_joined(rt, &mut seat, joined) {
+                let first = first_of(rt, since);
+                return Turn::Waits(Waiting {
+                    seat,
+                    id,
+                    since: first,
+                });
             }
             told = true;
         }
@@ -213,7 +211,7 @@ impl<T, W: Wakes> Words<T, W> {
             return self.refuse(rt, seat, told, Refusal::Starved);
         }
         // L8
-        if !self.ask(rt, &mut seat, id, None) {
+        if !self.ask_again(rt, &mut seat, id) {
             return Turn::Starves(Starving { seat, id });
         }
         self.strive(rt, task, seat, true)
@@ -266,11 +264,10 @@ impl<T, W: Wakes> Words<T, W> {
                 }
             }
             // L6
-            let joined = match self.join(rt, &mut seat, task.waker()) {
-                Ok(joined) => joined,
+            let id = match self.join(rt, &mut seat, waker_of(task)) {
+                Ok(joined) => joined.id,
                 Err(Memory) => return self.refuse_starved(rt, seat),
             };
-            let Joined { id, word: _ } = joined;
             // L7
             match self.take_alone(&mut seat) {
                 TakingAlone::Got(hold) => {
@@ -283,7 +280,7 @@ impl<T, W: Wakes> Words<T, W> {
                 TakingAlone::FreeWithOthers => self.notify(rt, &mut seat),
             }
             // L8
-            if !self.ask(rt, &mut seat, id, None) {
+            if !self.ask_again(rt, &mut seat, id) {
                 return Turn::Starves(Starving { seat, id });
             }
             told = true;
@@ -321,6 +318,14 @@ impl<T, W: Wakes> Words<T, W> {
         seat.rise();
         Turn::Refused(Refusal::Memory)
     }
+}
+
+// A waker of this task.
+#[inline]
+fn waker_of<W, K: Task<W>>(task: &mut K) -> Option<W> {
+    let mut waker = None;
+    task.register(&mut waker);
+    waker
 }
 
 // When a party first waited, which waits now.
