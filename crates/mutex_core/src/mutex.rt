@@ -1,6 +1,6 @@
 //! Whole calls of a mutex, action by action as its program has them.
 //!
-//! A call's comments name its places: L0 to L11 of a lock, whose pending ends are L3 and L8.
+//! The comments name the places of the program's table, which are `lock_program`'s.
 
 ghost use Rattle.std.specs.Prelude.{◌≡◌, true, false, IfSome};
 ghost use Rattle.mutex_core.specs.Locks.{IsOf};
@@ -55,7 +55,7 @@ impl<T, W: Wakes> Words<T, W> {
         ensures { IsTurnOf self.now result }
     {
         let mut seat = self.sit();
-        // L0
+        // Enter
         match self.take(&mut seat) {
             Taking::Got(hold) => return Turn::Got(Held { seat, hold }),
             Taking::Held => {}
@@ -79,7 +79,7 @@ impl<T, W: Wakes> Words<T, W> {
             id,
             since,
         } = waiting;
-        // L3
+        // Ask
         if !self.ask(rt, &mut seat, id, task) {
             return Turn::Waits(Waiting { seat, id, since });
         }
@@ -97,7 +97,7 @@ impl<T, W: Wakes> Words<T, W> {
         ensures { IsTurnOf self.now result }
     {
         let Starving { mut seat, id } = starving;
-        // L8
+        // AskStarved
         if !self.ask(rt, &mut seat, id, task) {
             return Turn::Starves(Starving { seat, id });
         }
@@ -128,7 +128,7 @@ impl<T, W: Wakes> Words<T, W> {
         seat.rise();
     }
 
-    // L4, if it was told, or L1: joins, looks and asks, until it has the lock or waits, or others or it are starved.
+    // From Retry on, if it was told, or from Join on: joins, looks and asks, until it has the lock or waits, or others or it are starved.
     fn wait<R: Wait + Clock, K: Task<W>>(
         &self,
         rt: &R,
@@ -146,7 +146,7 @@ impl<T, W: Wakes> Words<T, W> {
         let mut told = told;
         for _ in rt.forever() {
             if told {
-                // L4
+                // Retry, and PassOn
                 match self.take(&mut seat) {
                     Taking::Got(hold) => return Turn::Got(Held { seat, hold }),
                     Taking::Held => {
@@ -160,23 +160,23 @@ impl<T, W: Wakes> Words<T, W> {
                     }
                 }
             }
-            // L1
+            // Join
             let joined = match self.join(rt, &mut seat, waker_of(task)) {
                 Ok(joined) => joined,
                 Err(Memory) => return self.refuse(rt, seat, told, Refusal::Memory),
             };
             let id = joined.id;
-            // L2
+            // Look
             match self.take(&mut seat) {
                 Taking::Got(hold) => {
-                    // L11
+                    // Leave
                     self.leave(rt, &mut seat, id);
                     return Turn::Got(Held { seat, hold });
                 }
                 Taking::Held => {}
                 Taking::Starved => return self.count_here(rt, task, seat, id, told),
             }
-            // L3
+            // Ask
             if !self.ask_joined(rt, &mut seat, joined) {
                 let first = first_of(rt, since);
                 return Turn::Waits(Waiting {
@@ -190,7 +190,7 @@ impl<T, W: Wakes> Words<T, W> {
         unreachable!()
     }
 
-    // L5, of a party that has an entry.
+    // Count, of a party that has an entry.
     #[cold]
     #[inline(never)]
     fn count_here<R: Wait + Clock, K: Task<W>>(
@@ -207,17 +207,18 @@ impl<T, W: Wakes> Words<T, W> {
     {
         let mut seat = seat;
         if !self.count_listed(rt, &mut seat) {
+            // RefuseLeave
             self.leave(rt, &mut seat, id);
             return self.refuse(rt, seat, told, Refusal::Starved);
         }
-        // L8
+        // AskStarved
         if !self.ask_again(rt, &mut seat, id) {
             return Turn::Starves(Starving { seat, id });
         }
         self.strive(rt, task, seat, true)
     }
 
-    // L5, of a party that was told and has no entry.
+    // Count, of a party that was told and has no entry.
     #[cold]
     #[inline(never)]
     fn count_away<R: Wait + Clock, K: Task<W>>(
@@ -237,7 +238,7 @@ impl<T, W: Wakes> Words<T, W> {
         self.strive(rt, task, seat, false)
     }
 
-    // L9, if it was told, or L6, of a starved party: joins, looks and asks, until it has the lock or waits.
+    // From Seize on, if it was told, or from JoinStarved on, of a starved party: joins, looks and asks, until it has the lock or waits.
     fn strive<R: Wait + Clock, K: Task<W>>(
         &self,
         rt: &R,
@@ -253,25 +254,25 @@ impl<T, W: Wakes> Words<T, W> {
         let mut told = told;
         for _ in rt.forever() {
             if told {
-                // L9
+                // Seize
                 match self.set(&mut seat) {
                     Setting::Got(hold) => {
-                        // L10
+                        // Uncount
                         self.uncount(&mut seat);
                         return Turn::Got(Held { seat, hold });
                     }
                     Setting::WasSet => {}
                 }
             }
-            // L6
+            // JoinStarved
             let id = match self.join(rt, &mut seat, waker_of(task)) {
                 Ok(joined) => joined.id,
                 Err(Memory) => return self.refuse_starved(rt, seat),
             };
-            // L7
+            // LookAlone, and PassOnListed
             match self.take_alone(&mut seat) {
                 TakingAlone::Got(hold) => {
-                    // L10, L11
+                    // Uncount, Leave
                     self.uncount(&mut seat);
                     self.leave(rt, &mut seat, id);
                     return Turn::Got(Held { seat, hold });
@@ -279,7 +280,7 @@ impl<T, W: Wakes> Words<T, W> {
                 TakingAlone::Held => {}
                 TakingAlone::FreeWithOthers => self.notify(rt, &mut seat),
             }
-            // L8
+            // AskStarved
             if !self.ask_again(rt, &mut seat, id) {
                 return Turn::Starves(Starving { seat, id });
             }
