@@ -48,28 +48,33 @@ def place_library(crate, kept, jobs):
     return key
 
 
-def try_alone(words, is_checked):
-    """Does what `rt try` does, but that what is built is optimised, and that no check is started beside it, which gives a hint alone.
+def try_alone(words):
+    """Does what `rt try` does, without the check that it starts beside the program, which gives a hint alone."""
+    rt.rtlib.RATTLE = 'true'
+    return rt.main(['try', *words])
 
-    `rt try` compiles with checks of each address, and without optimisation; the walks of the lockstep tests then take more than ten times as long.
-    So the compiler is reached through a folder of links, by a script that has it optimise, and leave the checks out unless they are wanted.
+
+def try_fast(words):
+    """Does the same without checks of each address, and optimised: what runs for long then takes a tenth of the time.
+
+    `rt try` knows no other way to build. So its compiler is reached through a folder of links, by a script that changes these two words.
     """
     with tempfile.TemporaryDirectory(prefix='kit-') as room:
         linked(FOLDER, room, 'toolchain')
         linked(f'{FOLDER}/toolchain', f'{room}/toolchain', 'bin')
         linked(f'{FOLDER}/toolchain/bin', f'{room}/toolchain/bin', 'clang')
         with open(f'{room}/toolchain/bin/clang', 'w', encoding='utf-8') as file:
-            file.write(OPTIMISED.format(FOLDER, *(('-O1', '-fsanitize=address') if is_checked else ('-O2', ''))))
+            file.write(FAST.format(FOLDER))
         os.chmod(f'{room}/toolchain/bin/clang', 0o755)
-        rt.rtlib.RATTLE, rt.rtlib.KIT = 'true', room
-        return rt.main(['try', *words])
+        rt.rtlib.KIT = room
+        return try_alone(words)
 
 
-OPTIMISED = """#!/bin/bash
+FAST = """#!/bin/bash
 for word; do
     case $word in
-    -O0) words+=({1}) ;;
-    -fsanitize=address) words+=({2}) ;;
+    -O0) words+=(-O2) ;;
+    -fsanitize=address) ;;
     *) words+=("$word") ;;
     esac
 done
@@ -86,4 +91,4 @@ def linked(folder, to, apart):
 
 
 if __name__ == '__main__':
-    sys.exit(try_alone([it for it in sys.argv[1:] if it != '--unchecked'], '--unchecked' not in sys.argv))
+    sys.exit(try_fast(sys.argv[2:]) if sys.argv[1:2] == ['--fast'] else try_alone(sys.argv[1:]))

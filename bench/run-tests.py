@@ -33,7 +33,8 @@ MEMORY = 4_500_000_000
 SECONDS = 900
 # What cuts the walks short, in tests/walks.
 SHORT = {'IS_SHORT: bool = false': 'IS_SHORT: bool = true', 'usize = 10_000_000': 'usize = 5_000', 'u64 = 1000': 'u64 = 50'}
-# The walks take as long as all other tests.
+# The walks do so much that they are built without checks of each address, and optimised.
+FAST = {'walks'}
 GROUPS = {'walks': lambda name: name.startswith('test_lockstep'), 'stories': lambda name: True}
 # `rt try`, by itself.
 TRY = [sys.executable, f'{os.path.dirname(os.path.realpath(__file__))}/kit.py']
@@ -172,7 +173,8 @@ def call(words, folder, given=b''):
 
 def run_group(layout, group):
     """Runs the tests of a group, and returns how many passed, what failed, and the seconds."""
-    status, out, errors, seconds = call([*TRY, '--test', '--seconds', str(SECONDS)], f'{layout.folder}/crates/{group}')
+    fast = ['--fast'] if group in FAST else []
+    status, out, errors, seconds = call([*TRY, *fast, '--test', '--seconds', str(SECONDS)], f'{layout.folder}/crates/{group}')
     said = (out + errors).decode(errors='replace')
     found = RAN.findall(said)
     failed = [f'test {name}: {what}' for name, what in found if what != 'ok']
