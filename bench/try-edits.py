@@ -7,7 +7,7 @@ A contract is all that a caller knows of a function. So an edit of one function'
 other's: edits that turn different functions stand in one copy of their crate, which is checked once, from nothing, for the functions
 that they turn. An edit is an *.edit file: a line 'file: src/NAME.rt', then pairs of lines 'old: TEXT' and 'new: TEXT'; each old
 text stands once in that file. Lines 'add: TEXT' after a line 'file:' make a new file, for a loop's measure, say. A line 'at: NAME' names
-the function at which an edit must be refused that turns no body alone (a clause, a constant, an impl); such an edit is tried by
+the function at which an edit must be refused that turns no body alone (a clause, a constant, an impl), or as 'struct NAME' the struct; such an edit is tried by
 itself. A line that begins with '#' is a note.
 
 Each edit has one line, with what it came to:
@@ -50,7 +50,9 @@ ANSWERED = re.compile(r'(?:\./)?proofs/(\S+)/\w+\.antt:\d+:\d+: error: (`[^`]+`)
 GAVE_UP = re.compile(r'gave up at one of its limits|stopped at a limit|stopped at the step limit|ran out of|outgrew')
 # An answer that names what the edit took away says nothing of a contract.
 LOST_NAME = re.compile(r'has no field|is not in scope|has no `|was not admitted|is no name')
-FUNCTION = re.compile(r'fn (\S+): (.*)')
+# What a check says of a function or, of an impl that promises Send or Sync, of its struct; and where such a promise is refused.
+JUDGED = re.compile(r'(?:fn (\S+)|(struct \S+)): (.*)')
+PROMISED = re.compile(r'(src/\S+?):(\d+):\d+: error: (`the_\w+`: .*)')
 
 
 class Edit:
@@ -66,6 +68,7 @@ class Edit:
         self.stands_alone = bool(named)
         if named:
             self.symbols = [it for it in symbols if it.partition('::')[2] in named]
+            self.symbols += [f'struct {crate.name}::{it[7:]}' for it in named if it.startswith('struct ')]
         else:
             self.symbols = [it for one in self.functions for it in symbols_of(crate.name, one, symbols)]
         if not self.verdict and not self.symbols:
@@ -198,7 +201,9 @@ class Round:
                 os.makedirs(os.path.dirname(f'{room}/{path}'), exist_ok=True)
                 with open(f'{room}/{path}', 'w', encoding='utf-8') as file:
                     file.write('\n'.join([*lines, '']))
-            only = [word for edit in self.edits for it in edit.symbols for word in ('--only', it.partition('::')[2])]
+            # (what a struct's impls promise is no part of a function: then all is checked)
+            every = [it for edit in self.edits for it in edit.symbols]
+            only = [word for it in every for word in ('--only', it.partition('::')[2])] * all(' ' not in it for it in every)
             words = [rt.rtlib.RATTLE, 'check', *crate.words(['--jobs', '1'], keeps=False), '--incremental', self.over, *only]
             with open(f'{room}/said', 'wb') as said:
                 running = subprocess.Popen(words, cwd=room, stdin=subprocess.DEVNULL, stdout=said, stderr=subprocess.STDOUT)
@@ -220,21 +225,22 @@ class Round:
     def judge(self, said, status):
         """Gives each edit that the check says something of its verdict."""
         lines = said.split('\n')
-        states = {it[1]: it[2] for it in map(FUNCTION.fullmatch, lines) if it}
+        states = {it[1] or it[2]: it[3] for it in map(JUDGED.fullmatch, lines) if it}
         unproved = [it for it in map(UNPROVED.match, lines) if it]
         answered = [it for it in map(ANSWERED.match, lines) if it]
+        promised = [it for it in map(PROMISED.match, lines) if it]
         for edit in self.edits:
             own = [(f'{it[1]}:{it[2]}', it[3]) for it in unproved for one in edit.functions if self.is_inside(it, one)]
             folders = ['/'.join(it.split('::')[1:]) for it in edit.symbols]
             own += [(f'proofs/{it[1]}', f'{it[2]}: {it[3]}') for it in answered if it[1] in folders]
             if edit.stands_alone:
-                own += [(f'{it[1]}:{it[2]}', it[3]) for it in unproved]
+                own += [(f'{it[1]}:{it[2]}', it[3]) for it in [*unproved, *promised]]
             failed = [it for it in edit.symbols if not states.get(it, 'proved').startswith('proved')]
             own = [it for it in own if not LOST_NAME.search(it[1])]
-            sharp = [it for it in own if not GAVE_UP.search(it[1])]
-            if failed and not own and all(states[it].startswith('no proof: it calls') for it in failed) and len(self.edits) > 1:
-                # (what it calls is turned in this round: it is tried by itself)
+            if failed and not own and len(self.edits) > 1:
+                # (what it calls may be turned in this round: it is tried by itself)
                 continue
+            sharp = [it for it in own if not GAVE_UP.search(it[1])]
             if failed and sharp:
                 edit.end(REFUSED, f'{sharp[0][0]}: {sharp[0][1].strip()}'[:200])
             elif failed and own:
