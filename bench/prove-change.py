@@ -6,7 +6,7 @@ usage: bench/prove-change.py [--plan] [--touched] [BASE]
 Run it at the top of the repository. The change is what differs from the commit BASE, which is the branch that this one follows, or HEAD
 if it follows none; files that git doesn't know yet belong to it. Of what it touches:
 - each crate is proved (`rt ci NAME..`), and each of its wrong bodies is tried (bench/try-edits.py), as is done with each crate above it;
-- each test that stands on one of these is run (bench/run-tests.py), with the walks cut short;
+- each test that stands on one of these is run (bench/run-tests.py);
 - the checks bench/check-* are run.
 What earlier runs on this machine passed is kept. --plan prints the plan alone. --touched leaves out the crates above. It is no gate: the
 whole gate is .ci/run.

@@ -1,7 +1,7 @@
 #!/usr/bin/env python3
 """Builds and runs every test and every program, and proves nothing.
 
-usage: bench/run-tests.py [--whole] [--jobs N] [--minutes FILE] [--into FOLDER] [NAME..]
+usage: bench/run-tests.py [--jobs N] [--minutes FILE] [--into FOLDER] [NAME..]
 
 The tests stand in tests/NAME as *.rattle files: what the toolchain proves is each .rt file of crates/, and of a test the run is
 what tells. tests/tests.txt says what each stands on, as crates.txt does. They are laid out as modules of a few crates in a copy of the
@@ -13,8 +13,7 @@ with the arguments in NAME.args; it has to end with status 0, and prints what NA
 Each test has a line, and each is counted, as each program is. The last line is 'N passed, M failed', and the status is 1 if
 any failed.
 
-The walks of the lockstep tests are cut short, after some thousand states; with --whole they go through all, which takes some ten minutes
-more. NAME..: these alone. --jobs: how many are built at a time; one for each processor, as memory allows. --into lays the copy out in this
+NAME..: these alone. --jobs: how many are built at a time; one for each processor, as memory allows. --into lays the copy out in this
 folder, and leaves it there for `rt try --test` or `rt check` by hand. --minutes appends what each took of a processor.
 """
 
@@ -31,8 +30,6 @@ from concurrent.futures import ThreadPoolExecutor
 # What a build takes of memory, in bytes, and for how long what was built may run, in seconds.
 MEMORY = 4_500_000_000
 SECONDS = 900
-# What cuts the walks short, in tests/walks.
-SHORT = {'IS_SHORT: bool = false': 'IS_SHORT: bool = true', 'usize = 10_000_000': 'usize = 5_000', 'u64 = 1000': 'u64 = 50'}
 # The walks do so much that they are built without checks of each address, and optimised.
 FAST = {'walks'}
 GROUPS = {'walks': lambda name: name.startswith('test_lockstep'), 'stories': lambda name: True}
@@ -67,19 +64,11 @@ def write(path, text):
         file.write(text)
 
 
-def shortened(text):
-    """Returns the text of tests/walks with which the walks are short."""
-    for whole, short in SHORT.items():
-        assert text.count(whole) == 1, whole
-        text = text.replace(whole, short)
-    return text
-
-
 class Layout:
     """A copy of the repository in which the tests are crates."""
 
-    def __init__(self, top, folder, wanted, is_whole):
-        self.top, self.folder, self.wanted, self.is_whole = top, folder, wanted, is_whole
+    def __init__(self, top, folder, wanted):
+        self.top, self.folder, self.wanted = top, folder, wanted
         self.needs, self.crates = listed(f'{top}/tests/tests.txt'), listed(f'{top}/crates.txt')
         self.programs, self.groups = [], {}
         shutil.copytree(f'{top}/crates', f'{folder}/crates', ignore=shutil.ignore_patterns('out', 'wrong'))
@@ -143,8 +132,6 @@ class Layout:
             for path in sources(own):
                 text = re.sub(r'\bcrate::', f'crate::{name}::', text_of(f'{own}/{path}.rattle'))
                 text = re.sub(r'(?m)^#!\[tactic\(.*\)\]\n', '', self.among(shared, text))
-                if name == 'walks' and not self.is_whole:
-                    text = shortened(text)
                 write(f'{crate}/src/{name if path == "lib" else f"{name}/{path}"}.rt', text)
 
     def among(self, shared, text):
@@ -229,7 +216,6 @@ def free():
 
 def main():
     parser = argparse.ArgumentParser(usage=__doc__)
-    parser.add_argument('--whole', action='store_true')
     parser.add_argument('--jobs', type=int)
     parser.add_argument('--minutes')
     parser.add_argument('--into')
@@ -237,7 +223,7 @@ def main():
     given, began = parser.parse_args(), time.monotonic()
     jobs = given.jobs or max(1, min(len(os.sched_getaffinity(0)), int(free() * 0.85 // MEMORY)))
     with tempfile.TemporaryDirectory(prefix='run-tests-') as room:
-        layout = Layout(os.getcwd(), given.into or f'{room}/copy', given.names, given.whole)
+        layout = Layout(os.getcwd(), given.into or f'{room}/copy', given.names)
         if given.into:
             return
         with ThreadPoolExecutor(jobs) as pool:
@@ -250,8 +236,7 @@ def main():
     failed = [it for _, _, some, _ in results for it in some]
     print('\n'.join(failed + [f'{name}: {passed} passed' for name, passed, _, _ in results]))
     passed, took = sum(it[1] for it in results), sum(it[3] for it in results) / 60
-    walks = 'the walks whole' if given.whole else 'the walks cut short'
-    print(f'tests and programs were run, {walks}, and nothing was proved: {took:.0f} minutes of a processor, {(time.monotonic() - began) / 60:.0f} in all')
+    print(f'tests and programs were run, and nothing was proved: {took:.0f} minutes of a processor, {(time.monotonic() - began) / 60:.0f} in all')
     print(f'{passed} passed, {len(failed)} failed')
     sys.exit(1 if failed else 0)
 
