@@ -145,27 +145,14 @@ def symbols_of(crate, function, symbols):
     inside = [(it, it[len(start) :].split('::')) for it in symbols if it.startswith(start)]
     if function.block is None:
         return [it for it, rest in inside if rest == [function.name]]
-    if not function.in_trait:
-        own = [it for it, rest in inside if rest[1:] == [function.name] and rest[0].partition('+')[0] == function.owner]
-        # (an impl may stand in another module than its type, by whose module the check names the method)
-        return own or [it for it in symbols if it.split('::')[-2:] == [function.owner, function.name]]
-    trait = bodies.named(function.block.trait)[0]
-    own = [(it, rest) for it, rest in inside if rest[1:] == [function.name] and trait in rest[0]]
-    return [it for it, rest in own if function.block.fits(rest[0])] or [it for it, _ in own]
-
-
-def edits_of(crate):
-    """Returns the edits of a crate, read."""
-    folder = f'{crate.folder}/wrong'
-    names = sorted(os.listdir(folder)) if os.path.isdir(folder) else []
-    if not names:
-        return []
-    source = bodies.Source(crate.folder)
-    source.read('src/main.rt' if crate.is_program else 'src/lib.rt')
-    with open(f'{crate.folder}/out/rlib/{crate.name}.rlib/toolchain/mir.json', encoding='utf-8') as file:
-        symbols = [it[0] for it in json.load(file)]
-    found = [Edit(crate, f'{folder}/{it}', source, symbols) for it in names if it.endswith('.edit')]
-    return found
+    trait = bodies.named(function.block.trait)[0] if function.in_trait else ''
+    # (a drop has the name that a method of the type would have)
+    if trait and trait != 'Drop':
+        own = [(it, rest) for it, rest in inside if rest[1:] == [function.name] and trait in rest[0]]
+        return [it for it, rest in own if function.block.fits(rest[0])] or [it for it, _ in own]
+    own = [it for it, rest in inside if rest[1:] == [function.name] and rest[0].partition('+')[0] == function.owner]
+    # (an impl may stand in another module than its type, by whose module the check names the method)
+    return own or [it for it in symbols if it.split('::')[-2:] == [function.owner, function.name]]
 
 
 class Round:
