@@ -155,6 +155,20 @@ def symbols_of(crate, function, symbols):
     return own or [it for it in symbols if it.split('::')[-2:] == [function.owner, function.name]]
 
 
+def edits_of(crate):
+    """Returns the edits of a crate, read."""
+    folder = f'{crate.folder}/wrong'
+    names = sorted(os.listdir(folder)) if os.path.isdir(folder) else []
+    if not names:
+        return []
+    source = bodies.Source(crate.folder)
+    source.read('src/main.rt' if crate.is_program else 'src/lib.rt')
+    with open(f'{crate.folder}/out/rlib/{crate.name}.rlib/toolchain/mir.json', encoding='utf-8') as file:
+        symbols = [it[0] for it in json.load(file)]
+    found = [Edit(crate, f'{folder}/{it}', source, symbols) for it in names if it.endswith('.edit')]
+    return found
+
+
 class Round:
     """Some edits of a crate that turn different functions, in one copy of it."""
 
