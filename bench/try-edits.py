@@ -45,7 +45,7 @@ PASSES = REFUSED, AT_LIMIT
 # What one check takes of memory, in bytes.
 MEMORY = 3_000_000_000
 # The check's words for a goal that fails, in the source and in a file of answers.
-UNPROVED = re.compile(r'note: (src/\S+?):(\d+):\d+: (?:it is not proved that|the loop)(.*)')
+UNPROVED = re.compile(r'note: (src/\S+?):(\d+):\d+: (?:it is not proved that|the loop|(?=`search` found))(.*)')
 ANSWERED = re.compile(r'(?:\./)?proofs/(\S+)/\w+\.antt:\d+:\d+: error: (`[^`]+`): (.*)')
 GAVE_UP = re.compile(r'gave up at one of its limits|stopped at a limit|stopped at the step limit|ran out of|outgrew')
 UNFOUND = re.compile(r'`search` did not prove `[^`]+`')
