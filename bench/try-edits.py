@@ -47,7 +47,7 @@ MEMORY = 3_000_000_000
 # The check's words for a goal that fails, in the source and in a file of answers.
 UNPROVED = re.compile(r'note: (src/\S+?):(\d+):\d+: (?:it is not proved that|the loop|(?=`search` found))(.*)')
 ANSWERED = re.compile(r'(?:\./)?proofs/(\S+)/\w+\.antt:\d+:\d+: error: (`[^`]+`): (.*)')
-GAVE_UP = re.compile(r'gave up at one of its limits|stopped at a limit|stopped at the step limit|ran out of|outgrew')
+GAVE_UP = re.compile(r'no note says more|gave up at one of its limits|stopped at a limit|stopped at the step limit|ran out of|outgrew')
 UNFOUND = re.compile(r'`search` did not prove `[^`]+`')
 # An answer that names what the edit took away says nothing of a contract.
 LOST_NAME = re.compile(r'has no field|is not in scope|has no `|was not admitted|is no name')
@@ -241,7 +241,7 @@ class Round:
             own = [it for it in own if not LOST_NAME.search(it[1])]
             if failed and not own:
                 # (a goal that no note tells more of)
-                own = [(it, f'{found[0]} gave up at one of its limits') for it in failed for found in UNFOUND.finditer(states[it])]
+                own = [(it, f'{found[0]}; no note says more') for it in failed for found in UNFOUND.finditer(states[it])]
             if failed and not own and len(self.edits) > 1:
                 # (what it calls may be turned in this round: it is tried by itself)
                 continue
