@@ -7,8 +7,7 @@ ghost use Rattle.lock_program.specs.declared.refusal.Refusal.{Refusal};
 use crate::raw::RawBarrier;
 use crate::result::BarrierWaitResult;
 use crate::wait::BarrierWait;
-use async_driver::Settled;
-use futures::executor::block_on;
+use async_driver::wait_for;
 use lock_program::Refusal;
 use std::alloc::AllocGlobal;
 use std::fmt;
@@ -80,17 +79,14 @@ impl<R: Wait> Barrier<R> {
 }
 
 impl<R: Wait + Clock + RandomSource + AllocGlobal> Barrier<R> {
-    /// Waits at this barrier, blocking the calling thread until its generation is finished. Any error of `block_on` is
+    /// Waits at this barrier, blocking the calling thread until its generation is finished. Any error of the executor is
     /// [`Refusal::Memory`]. It is refused by the names by which a wait gives up, and never as finished (`refused`).
     ///
     /// Don't call it in an async context: it blocks the thread that runs the other tasks, and may deadlock.
     pub fn wait_blocking(&self) -> Result<BarrierWaitResult, Refusal>
         ensures refused { IfErr result IsGivenUp }
     {
-        match block_on(&self.rt, Settled(self.wait())) {
-            Ok(settled) => settled,
-            Err(_) => Err(Refusal::Memory),
-        }
+        wait_for(&self.rt, self.wait())
     }
 }
 

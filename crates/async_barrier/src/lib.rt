@@ -19,7 +19,7 @@ pub mod lock_futures {
 }
 
 pub use arrivals::{Arrivals, Verdict};
-pub use async_driver::{Polled, Settled, Turn};
+pub use async_driver::{Polled, Runtime, Settled, Turn, wait_for};
 pub use barrier::Barrier;
 pub use lock_program::Refusal;
 pub use party::{BarrierParty, Call, WaitEnd};

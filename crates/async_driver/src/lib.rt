@@ -4,8 +4,8 @@
 //! notify it an [`Owed`]; neither can be dropped. A [`WeightedList`] is the same of entries that each wait for a number of
 //! units. [`Carries`] carries out a lock's program, which is a table: at a place one
 //! action is done, and what it finds gives the next place. An action is a single try on a lock's words or one function of
-//! a list, and between two actions nothing is held. [`Turn`] is what a poll answers, and [`Settled`] makes a lock's future
-//! a `Future`.
+//! a list, and between two actions nothing is held. [`Turn`] is what a poll answers, [`Settled`] makes a lock's future
+//! a `Future`, and [`wait_for`] waits for it in the calling thread. [`Runtime`] has what the locks ask of the runtime.
 #![tactic(auto)]
 
 mod carries;
@@ -15,10 +15,12 @@ mod empty;
 mod kept;
 mod list_id;
 mod locked;
+mod runtime;
 mod settled;
 mod summary;
 mod turn;
 mod units;
+mod wait;
 mod waiting_list;
 mod weighted_list;
 
@@ -28,8 +30,10 @@ pub use duty::{ListKey, Owed};
 pub use empty::{nothing, put};
 pub use kept::Kept;
 pub use list_id::ListId;
+pub use runtime::Runtime;
 pub use settled::{Polled, Settled};
 pub use turn::Turn;
 pub use units::Units;
+pub use wait::wait_for;
 pub use waiting_list::{Heard, Joined, Listed, WaitingList, Wakes};
 pub use weighted_list::{WeightedHeard, WeightedJoined, WeightedList, WeightedListed};

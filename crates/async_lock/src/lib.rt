@@ -14,9 +14,6 @@
 //! stands on them.
 #![tactic(auto)]
 
-mod runtime;
-mod wait;
-
 /// The futures of the locks.
 pub mod lock_futures {
     pub use async_barrier::lock_futures::BarrierWait;
@@ -29,12 +26,12 @@ pub mod lock_futures {
 }
 
 pub use async_barrier::{Barrier, BarrierWaitResult};
-pub use async_mutex::{Mutex, MutexGuard, MutexGuardArc, Polled, Refusal, Settled, Turn};
+pub use async_mutex::{
+    Mutex, MutexGuard, MutexGuardArc, Polled, Refusal, Runtime, Settled, Turn, wait_for,
+};
 pub use async_once_cell::{InitFault, OnceCell, SetFault};
 pub use async_rwlock::{
     RwLock, RwLockReadGuard, RwLockReadGuardArc, RwLockUpgradableReadGuard,
     RwLockUpgradableReadGuardArc, RwLockWriteGuard, RwLockWriteGuardArc,
 };
 pub use async_semaphore::{Given, Lowered, Semaphore, SemaphoreGuard, SemaphoreGuardArc};
-pub use runtime::Runtime;
-pub use wait::wait_for;

@@ -38,7 +38,7 @@ pub type MutexGuard<'a, T, R> = Guard<T, R, &'a Mutex<T, R>>;
 /// A guard that owns its share of the mutex, and borrows nothing.
 pub type MutexGuardArc<T, R> = Guard<T, R, Arc<Mutex<T, R>>>;
 
-pub use async_driver::{Polled, Settled, Turn};
+pub use async_driver::{Polled, Runtime, Settled, Turn, wait_for};
 pub use guard::Guard;
 pub use lock_program::Refusal;
 pub use mutex::Mutex;

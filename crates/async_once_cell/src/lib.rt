@@ -17,7 +17,7 @@ pub mod lock_futures {
     pub use crate::wait::Wait;
 }
 
-pub use async_driver::{Polled, Settled, Turn};
+pub use async_driver::{Polled, Runtime, Settled, Turn, wait_for};
 pub use cell::OnceCell;
 pub use faults::{InitFault, SetFault};
 pub use lock_program::Refusal;

@@ -20,8 +20,7 @@ use crate::{
     RwLockReadGuard, RwLockReadGuardArc, RwLockUpgradableReadGuard, RwLockUpgradableReadGuardArc,
     RwLockWriteGuard, RwLockWriteGuardArc,
 };
-use async_driver::Settled;
-use futures::executor::block_on;
+use async_driver::wait_for;
 use lock_program::Refusal;
 use rwlock_driver::{Aim, Tried};
 use std::alloc::AllocGlobal;
@@ -112,7 +111,7 @@ impl<T, R: Wait> RwLock<T, R> {
 }
 
 impl<T: Drop, R: Wait + Clock + RandomSource + AllocGlobal> RwLock<T, R> {
-    /// Acquires a right to read, blocking the calling thread until it has it. Any error of `block_on` is
+    /// Acquires a right to read, blocking the calling thread until it has it. Any error of the executor is
     /// [`Refusal::Memory`]; the others are those of [`RwLock::read`]'s polls.
     /// Don't call it in an async context: it blocks the thread that runs the other tasks, and may deadlock.
     pub fn read_blocking(&self) -> Result<RwLockReadGuard<'_, T, R>, Refusal>
@@ -122,13 +121,10 @@ impl<T: Drop, R: Wait + Clock + RandomSource + AllocGlobal> RwLock<T, R> {
         if let Some(guard) = self.try_read() {
             return Ok(guard);
         }
-        match block_on(&self.rt, Settled(self.read())) {
-            Ok(settled) => settled,
-            Err(_) => Err(Refusal::Memory),
-        }
+        wait_for(&self.rt, self.read())
     }
 
-    /// Acquires the right to read that can become a right to write, blocking the calling thread until it has it. Any error of `block_on` is
+    /// Acquires the right to read that can become a right to write, blocking the calling thread until it has it. Any error of the executor is
     /// [`Refusal::Memory`]; the others are those of [`RwLock::upgradable_read`]'s polls.
     /// Don't call it in an async context: it blocks the thread that runs the other tasks, and may deadlock.
     pub fn upgradable_read_blocking(&self) -> Result<RwLockUpgradableReadGuard<'_, T, R>, Refusal>
@@ -138,13 +134,10 @@ impl<T: Drop, R: Wait + Clock + RandomSource + AllocGlobal> RwLock<T, R> {
         if let Some(guard) = self.try_upgradable_read() {
             return Ok(guard);
         }
-        match block_on(&self.rt, Settled(self.upgradable_read())) {
-            Ok(settled) => settled,
-            Err(_) => Err(Refusal::Memory),
-        }
+        wait_for(&self.rt, self.upgradable_read())
     }
 
-    /// Acquires the right to write, blocking the calling thread until it has it. Any error of `block_on` is
+    /// Acquires the right to write, blocking the calling thread until it has it. Any error of the executor is
     /// [`Refusal::Memory`]; the others are those of [`RwLock::write`]'s polls.
     /// Don't call it in an async context: it blocks the thread that runs the other tasks, and may deadlock.
     pub fn write_blocking(&self) -> Result<RwLockWriteGuard<'_, T, R>, Refusal>
@@ -154,10 +147,7 @@ impl<T: Drop, R: Wait + Clock + RandomSource + AllocGlobal> RwLock<T, R> {
         if let Some(guard) = self.try_write() {
             return Ok(guard);
         }
-        match block_on(&self.rt, Settled(self.write())) {
-            Ok(settled) => settled,
-            Err(_) => Err(Refusal::Memory),
-        }
+        wait_for(&self.rt, self.write())
     }
 }
 
@@ -246,10 +236,7 @@ impl<T: Drop, R: Wait + Clock + RandomSource + AllocGlobal + Drop> RwLock<T, R> 
         if let Some(guard) = RwLock::try_read_arc(this) {
             return Ok(guard);
         }
-        match block_on(&this.rt, Settled(RwLock::read_arc(this))) {
-            Ok(settled) => settled,
-            Err(_) => Err(Refusal::Memory),
-        }
+        wait_for(&this.rt, RwLock::read_arc(this))
     }
 
     /// Does as [`RwLock::upgradable_read_blocking`] does, for a guard that has a share of the lock.
@@ -262,10 +249,7 @@ impl<T: Drop, R: Wait + Clock + RandomSource + AllocGlobal + Drop> RwLock<T, R> 
         if let Some(guard) = RwLock::try_upgradable_read_arc(this) {
             return Ok(guard);
         }
-        match block_on(&this.rt, Settled(RwLock::upgradable_read_arc(this))) {
-            Ok(settled) => settled,
-            Err(_) => Err(Refusal::Memory),
-        }
+        wait_for(&this.rt, RwLock::upgradable_read_arc(this))
     }
 
     /// Does as [`RwLock::write_blocking`] does, for a guard that has a share of the lock.
@@ -278,10 +262,7 @@ impl<T: Drop, R: Wait + Clock + RandomSource + AllocGlobal + Drop> RwLock<T, R> 
         if let Some(guard) = RwLock::try_write_arc(this) {
             return Ok(guard);
         }
-        match block_on(&this.rt, Settled(RwLock::write_arc(this))) {
-            Ok(settled) => settled,
-            Err(_) => Err(Refusal::Memory),
-        }
+        wait_for(&this.rt, RwLock::write_arc(this))
     }
 }
 

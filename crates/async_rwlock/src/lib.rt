@@ -77,7 +77,7 @@ pub type RwLockWriteGuard<'a, T, R> = WriteGuard<T, R, &'a RwLock<T, R>>;
 /// The right to write, with a share of the lock.
 pub type RwLockWriteGuardArc<T, R> = WriteGuard<T, R, Arc<RwLock<T, R>>>;
 
-pub use async_driver::{Polled, Settled, Turn};
+pub use async_driver::{Polled, Runtime, Settled, Turn, wait_for};
 pub use lock_program::Refusal;
 pub use owns::Owns;
 pub use read_guard::ReadGuard;

@@ -10,8 +10,7 @@ use crate::owns::Owns;
 use crate::read_guard::ReadGuard;
 use crate::upgrade::UpgradeFuture;
 use crate::write_guard::WriteGuard;
-use async_driver::Settled;
-use futures::executor::block_on;
+use async_driver::wait_for;
 use lock_program::Refusal;
 use rwlock_vault::Glance;
 use std::alloc::AllocGlobal;
@@ -181,11 +180,8 @@ impl<
         let Some(owner) = guard.owner.again() else {
             return Err(Refusal::Memory);
         };
-        let settled = block_on(&owner.lock().rt, Settled(UpgradableGuard::upgrade(guard)));
+        let settled = wait_for(&owner.lock().rt, UpgradableGuard::upgrade(guard));
         drop(owner);
-        match settled {
-            Ok(settled) => settled,
-            Err(_) => Err(Refusal::Memory),
-        }
+        settled
     }
 }

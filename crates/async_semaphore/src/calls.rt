@@ -11,8 +11,7 @@ use crate::lock_futures::{Acquire, AcquireArc};
 use crate::semaphore::Semaphore;
 use crate::stage::{Stage, first};
 use crate::{SemaphoreGuard, SemaphoreGuardArc};
-use async_driver::Settled;
-use futures::executor::block_on;
+use async_driver::wait_for;
 use lock_program::Refusal;
 use semaphore_driver::{Given, Tried};
 use std::alloc::AllocGlobal;
@@ -99,7 +98,7 @@ impl<R: Wait> Semaphore<R> {
 
 impl<R: Wait + Clock + RandomSource + AllocGlobal> Semaphore<R> {
     /// Acquires a permit, blocking the calling thread until it has one. It is refused for memory
-    /// alone (`memory`), and any error of `block_on` is [`Refusal::Memory`].
+    /// alone (`memory`), and any error of the executor is [`Refusal::Memory`].
     /// Don't call it in an async context: it blocks the thread that runs the other tasks, and may deadlock.
     pub fn acquire_blocking(&self) -> Result<SemaphoreGuard<'_, R>, Refusal>
         ensures permits { IfOk result (λ guard. (guard.semaphore ≡ self.now) × (guard.permits ≡ 1)) }
@@ -109,7 +108,7 @@ impl<R: Wait + Clock + RandomSource + AllocGlobal> Semaphore<R> {
     }
 
     /// Acquires this many permits at once, as [`Semaphore::acquire_many`], blocking the calling thread until it has them. Any
-    /// error of `block_on` is [`Refusal::Memory`].
+    /// error of the executor is [`Refusal::Memory`].
     /// Don't call it in an async context: it blocks the thread that runs the other tasks, and may deadlock.
     pub fn acquire_many_blocking(&self, permits: usize) -> Result<SemaphoreGuard<'_, R>, Refusal>
         ensures permits { IfOk result (λ guard. (guard.semaphore ≡ self.now) × (guard.permits ≡ permits)) }
@@ -118,10 +117,7 @@ impl<R: Wait + Clock + RandomSource + AllocGlobal> Semaphore<R> {
         if let Some(guard) = self.try_acquire_many(permits) {
             return Ok(guard);
         }
-        match block_on(&self.rt, Settled(self.acquire_many(permits))) {
-            Ok(settled) => settled,
-            Err(_) => Err(Refusal::Memory),
-        }
+        wait_for(&self.rt, self.acquire_many(permits))
     }
 }
 
@@ -200,12 +196,6 @@ impl<R: Wait + Clock + RandomSource + AllocGlobal + Drop> Semaphore<R> {
         if let Some(guard) = Semaphore::try_acquire_many_arc(this, permits) {
             return Ok(guard);
         }
-        match block_on(
-            &this.rt,
-            Settled(Semaphore::acquire_many_arc(this, permits)),
-        ) {
-            Ok(settled) => settled,
-            Err(_) => Err(Refusal::Memory),
-        }
+        wait_for(&this.rt, Semaphore::acquire_many_arc(this, permits))
     }
 }

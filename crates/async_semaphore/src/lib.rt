@@ -36,7 +36,7 @@ pub type SemaphoreGuard<'a, R> = PermitGuard<R, &'a Semaphore<R>>;
 /// Permits of a semaphore, with a share of the semaphore.
 pub type SemaphoreGuardArc<R> = PermitGuard<R, Arc<Semaphore<R>>>;
 
-pub use async_driver::{Polled, Settled, Turn};
+pub use async_driver::{Polled, Runtime, Settled, Turn, wait_for};
 pub use guard::PermitGuard;
 pub use lock_program::Refusal;
 pub use owns::Owns;

@@ -1,9 +1,10 @@
 //! Waiting for a future in the calling thread.
 ghost use Rattle.std.specs.Prelude.{IfOk, IfErr};
-ghost use Rattle.async_lock.specs.Waited.{RefusesOrMemory};
+ghost use Rattle.async_driver.specs.Waited.{RefusesOrMemory};
 
-use crate::{Polled, Refusal, Settled};
+use crate::settled::{Polled, Settled};
 use futures::executor::block_on;
+use lock_program::Refusal;
 use std::alloc::AllocGlobal;
 use std::random::RandomSource;
 use std::sync::Wait;
