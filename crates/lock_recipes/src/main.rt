@@ -1,0 +1,36 @@
+//! Recipes: what is built with the locks most often. Each module is one, and the program prints a line for each.
+#![tactic(auto)]
+
+mod channel;
+mod configuration;
+mod deadline;
+mod phases;
+mod pool;
+mod requests;
+mod tasks;
+
+use async_lock::Runtime;
+use std::io;
+use std::process::ExitCode;
+use std::thread::Threads;
+
+// A refusal is an error of input and output too, so `?` takes both.
+fn print_all<R>(rt: R) -> io::Result<()>
+where
+    R: Runtime + Threads + Sync + Copy + Print,
+{
+    println!(rt; "channel: {}", channel::run(rt)?)?;
+    println!(rt; "pool: {}", pool::run(rt)?)?;
+    println!(rt; "configuration: {}", configuration::run(rt)?)?;
+    println!(rt; "phases: {}", phases::run(rt)?)?;
+    println!(rt; "deadline: {}", deadline::run(rt)?)?;
+    println!(rt; "tasks: {}", tasks::run(rt)?)?;
+    println!(rt; "requests: {}", requests::run(rt)?)
+}
+
+fn main(rt: HostRuntime) -> ExitCode {
+    match print_all(rt) {
+        Ok(()) => ExitCode::SUCCESS,
+        Err(_) => ExitCode::FAILURE,
+    }
+}
