@@ -42,9 +42,11 @@ impl<R: Runtime + Copy> Pool<R> {
     fn take(&self) -> Result<Option<Lease<'_, R>>, Refusal> {
         let permit = self.permits.acquire_blocking()?;
         let mut connections = self.connections.lock_blocking()?;
-        Ok(connections
-            .pop()
-            .map(|connection| Lease { connection, permit }))
+        Ok(
+            connections
+                .pop()
+                .map(|connection| Lease { connection, permit }),
+        )
     }
 
     // The permit is dropped last: whoever gets it finds the connection. If it is refused, the lease comes back.

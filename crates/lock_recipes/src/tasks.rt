@@ -2,8 +2,7 @@
 
 use async_lock::{Mutex, MutexGuard, Refusal, Runtime, Settled};
 use futures::executor::run_all;
-use futures::{FutureExt, StreamExt};
-use futures::stream;
+use futures::{FutureExt, StreamExt, stream};
 
 // What a task does once it has the lock.
 fn add<R: Runtime>(locked: Result<MutexGuard<'_, u64, R>, Refusal>) {

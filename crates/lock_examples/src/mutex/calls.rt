@@ -2,8 +2,7 @@
 //! holds, and a mutex that nobody else can have.
 
 use async_lock::lock_futures::Lock;
-use async_lock::{Mutex, MutexGuard, MutexGuardArc, Refusal, Runtime, Settled, Turn};
-use futures::executor::block_on;
+use async_lock::{Mutex, MutexGuard, MutexGuardArc, Refusal, Runtime, Turn, wait_for};
 use futures::task::Context;
 use futures::test::MockTask;
 use std::alloc::AllocGlobal;
@@ -73,14 +72,9 @@ fn owned<R>(rt: R) -> Result<bool, Refusal>
 where
     R: Runtime + Copy,
 {
-    let Ok(mutex) = Arc::new(rt.alloc(), Mutex::new(rt, 1_u64)?) else {
-        return Err(Refusal::Memory);
-    };
+    let mutex = Arc::new(rt.alloc(), Mutex::new(rt, 1_u64)?)?;
     let is_free = Mutex::try_lock_arc(&mutex).is_some();
-    let mut guard = match block_on(&rt, Settled(Mutex::lock_arc(&mutex))) {
-        Ok(settled) => settled?,
-        Err(_) => return Err(Refusal::Memory),
-    };
+    let mut guard = wait_for(&rt, Mutex::lock_arc(&mutex))?;
     *guard = guard.saturating_add(1);
     let is_held = Mutex::try_lock_arc(MutexGuardArc::source(&guard)).is_none();
     Ok(is_free && is_held && *guard == 2)

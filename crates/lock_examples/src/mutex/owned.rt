@@ -11,8 +11,6 @@ where
 {
     let alloc = rt.alloc();
     let mutex = Mutex::new(rt, value)?;
-    let Ok(shared) = Arc::new(alloc, mutex) else {
-        return Err(Refusal::Memory);
-    };
+    let shared = Arc::new(alloc, mutex)?;
     Mutex::lock_arc_blocking(&shared)
 }

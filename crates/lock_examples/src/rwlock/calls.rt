@@ -1,7 +1,6 @@
 //! The other calls of a read-write lock: tries, futures on an executor, and the forms that own their share of the lock.
 
-use async_lock::{Refusal, Runtime, RwLock, RwLockUpgradableReadGuard, RwLockWriteGuard, Settled};
-use futures::executor::block_on;
+use async_lock::{Refusal, Runtime, RwLock, RwLockUpgradableReadGuard, RwLockWriteGuard, wait_for};
 use std::alloc::AllocGlobal;
 use std::sync::{Arc, Wait};
 
@@ -39,25 +38,13 @@ where
     R: Runtime + Copy,
 {
     let lock = RwLock::new(rt, 5_u64)?;
-    let read = match block_on(&rt, Settled(lock.read())) {
-        Ok(settled) => *settled?,
-        Err(_) => return Err(Refusal::Memory),
-    };
-    let mut writer = match block_on(&rt, Settled(lock.write())) {
-        Ok(settled) => settled?,
-        Err(_) => return Err(Refusal::Memory),
-    };
+    let read = *wait_for(&rt, lock.read())?;
+    let mut writer = wait_for(&rt, lock.write())?;
     *writer = writer.saturating_add(1);
     drop(writer);
-    let upgradable = match block_on(&rt, Settled(lock.upgradable_read())) {
-        Ok(settled) => settled?,
-        Err(_) => return Err(Refusal::Memory),
-    };
+    let upgradable = wait_for(&rt, lock.upgradable_read())?;
     let upgrade = RwLockUpgradableReadGuard::upgrade(upgradable);
-    let mut writer = match block_on(&rt, Settled(upgrade)) {
-        Ok(settled) => settled?,
-        Err(_) => return Err(Refusal::Memory),
-    };
+    let mut writer = wait_for(&rt, upgrade)?;
     *writer = writer.saturating_add(1);
     drop(writer);
     Ok(read == 5 && lock.into_inner() == 7)
@@ -68,9 +55,7 @@ fn owned<R>(rt: R) -> Result<bool, Refusal>
 where
     R: Runtime + Copy,
 {
-    let Ok(lock) = Arc::new(rt.alloc(), RwLock::new(rt, 1_u64)?) else {
-        return Err(Refusal::Memory);
-    };
+    let lock = Arc::new(rt.alloc(), RwLock::new(rt, 1_u64)?)?;
     let reads = RwLock::try_read_arc(&lock).is_some();
     let upgrades = RwLock::try_upgradable_read_arc(&lock).is_some();
     let writes = RwLock::try_write_arc(&lock).is_some();
@@ -86,23 +71,12 @@ fn owned_futures<R>(rt: R) -> Result<bool, Refusal>
 where
     R: Runtime + Copy,
 {
-    let Ok(lock) = Arc::new(rt.alloc(), RwLock::new(rt, 1_u64)?) else {
-        return Err(Refusal::Memory);
-    };
-    let mut writer = match block_on(&rt, Settled(RwLock::write_arc(&lock))) {
-        Ok(settled) => settled?,
-        Err(_) => return Err(Refusal::Memory),
-    };
+    let lock = Arc::new(rt.alloc(), RwLock::new(rt, 1_u64)?)?;
+    let mut writer = wait_for(&rt, RwLock::write_arc(&lock))?;
     *writer = writer.saturating_add(1);
     drop(writer);
-    let reader = match block_on(&rt, Settled(RwLock::read_arc(&lock))) {
-        Ok(settled) => settled?,
-        Err(_) => return Err(Refusal::Memory),
-    };
-    let upgradable = match block_on(&rt, Settled(RwLock::upgradable_read_arc(&lock))) {
-        Ok(settled) => settled?,
-        Err(_) => return Err(Refusal::Memory),
-    };
+    let reader = wait_for(&rt, RwLock::read_arc(&lock))?;
+    let upgradable = wait_for(&rt, RwLock::upgradable_read_arc(&lock))?;
     Ok(*reader == 2 && *upgradable == 2)
 }
 

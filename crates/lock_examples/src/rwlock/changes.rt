@@ -2,9 +2,8 @@
 
 use async_lock::{
     Refusal, Runtime, RwLock, RwLockUpgradableReadGuard, RwLockUpgradableReadGuardArc,
-    RwLockWriteGuard, RwLockWriteGuardArc, Settled,
+    RwLockWriteGuard, RwLockWriteGuardArc, wait_for,
 };
-use futures::executor::block_on;
 use std::alloc::AllocGlobal;
 use std::sync::{Arc, Wait};
 
@@ -31,9 +30,7 @@ fn owned_downgraded<R>(rt: R) -> Result<bool, Refusal>
 where
     R: Runtime + Copy,
 {
-    let Ok(lock) = Arc::new(rt.alloc(), RwLock::new(rt, 1_u64)?) else {
-        return Err(Refusal::Memory);
-    };
+    let lock = Arc::new(rt.alloc(), RwLock::new(rt, 1_u64)?)?;
     let mut writer = RwLock::write_arc_blocking(&lock)?;
     *writer = writer.saturating_add(1);
     let reader = RwLockWriteGuardArc::downgrade(writer);
@@ -52,9 +49,7 @@ fn owned_upgraded<R>(rt: R) -> Result<bool, Refusal>
 where
     R: Runtime + Copy,
 {
-    let Ok(lock) = Arc::new(rt.alloc(), RwLock::new(rt, 1_u64)?) else {
-        return Err(Refusal::Memory);
-    };
+    let lock = Arc::new(rt.alloc(), RwLock::new(rt, 1_u64)?)?;
     let upgradable = RwLock::upgradable_read_arc_blocking(&lock)?;
     let Ok(mut writer) = RwLockUpgradableReadGuardArc::try_upgrade(upgradable) else {
         return Ok(false);
@@ -65,10 +60,7 @@ where
     *writer = writer.saturating_add(1);
     let upgradable = RwLockWriteGuardArc::downgrade_to_upgradable(writer);
     let upgrade = RwLockUpgradableReadGuardArc::upgrade(upgradable);
-    let mut writer = match block_on(&rt, Settled(upgrade)) {
-        Ok(settled) => settled?,
-        Err(_) => return Err(Refusal::Memory),
-    };
+    let mut writer = wait_for(&rt, upgrade)?;
     *writer = writer.saturating_add(1);
     Ok(*writer == 4)
 }

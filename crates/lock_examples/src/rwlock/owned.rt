@@ -9,8 +9,6 @@ pub(crate) fn read<R>(rt: R, number: u64) -> Result<RwLockReadGuardArc<u64, R>, 
 where
     R: Runtime + Copy,
 {
-    let Ok(lock) = Arc::new(rt.alloc(), RwLock::new(rt, number)?) else {
-        return Err(Refusal::Memory);
-    };
+    let lock = Arc::new(rt.alloc(), RwLock::new(rt, number)?)?;
     RwLock::read_arc_blocking(&lock)
 }

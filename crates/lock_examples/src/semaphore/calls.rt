@@ -1,7 +1,6 @@
 //! The other calls of a semaphore: tries, futures on an executor, and the forms that own their share of the semaphore.
 
-use async_lock::{Refusal, Runtime, Semaphore, Settled};
-use futures::executor::block_on;
+use async_lock::{Refusal, Runtime, Semaphore, wait_for};
 use std::alloc::AllocGlobal;
 use std::sync::{Arc, Wait};
 
@@ -30,16 +29,10 @@ where
     R: Runtime + Copy,
 {
     let semaphore = Semaphore::new(rt, 3)?;
-    let one = match block_on(&rt, Settled(semaphore.acquire())) {
-        Ok(settled) => settled?,
-        Err(_) => return Err(Refusal::Memory),
-    };
+    let one = wait_for(&rt, semaphore.acquire())?;
     let of_two = semaphore.acquire_many(2);
     let is_of_two = of_two.permits() == 2;
-    let two = match block_on(&rt, Settled(of_two)) {
-        Ok(settled) => settled?,
-        Err(_) => return Err(Refusal::Memory),
-    };
+    let two = wait_for(&rt, of_two)?;
     let has_all = one.permits() == 1 && two.permits() == 2;
     Ok(is_of_two && has_all && semaphore.available_permits() == 0)
 }
@@ -49,9 +42,7 @@ fn owned<R>(rt: R) -> Result<bool, Refusal>
 where
     R: Runtime + Copy,
 {
-    let Ok(semaphore) = Arc::new(rt.alloc(), Semaphore::new(rt, 3)?) else {
-        return Err(Refusal::Memory);
-    };
+    let semaphore = Arc::new(rt.alloc(), Semaphore::new(rt, 3)?)?;
     let one = Semaphore::try_acquire_arc(&semaphore).is_some();
     let two = Semaphore::try_acquire_many_arc(&semaphore, 2).is_some();
     let first = Semaphore::acquire_arc_blocking(&semaphore)?;
@@ -64,17 +55,9 @@ fn owned_futures<R>(rt: R) -> Result<bool, Refusal>
 where
     R: Runtime + Copy,
 {
-    let Ok(semaphore) = Arc::new(rt.alloc(), Semaphore::new(rt, 3)?) else {
-        return Err(Refusal::Memory);
-    };
-    let one = match block_on(&rt, Settled(Semaphore::acquire_arc(&semaphore))) {
-        Ok(settled) => settled?,
-        Err(_) => return Err(Refusal::Memory),
-    };
-    let two = match block_on(&rt, Settled(Semaphore::acquire_many_arc(&semaphore, 2))) {
-        Ok(settled) => settled?,
-        Err(_) => return Err(Refusal::Memory),
-    };
+    let semaphore = Arc::new(rt.alloc(), Semaphore::new(rt, 3)?)?;
+    let one = wait_for(&rt, Semaphore::acquire_arc(&semaphore))?;
+    let two = wait_for(&rt, Semaphore::acquire_many_arc(&semaphore, 2))?;
     Ok(one.permits() == 1 && two.permits() == 2)
 }
 
