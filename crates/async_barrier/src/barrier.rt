@@ -38,6 +38,10 @@ impl<R: AllocGlobal + Drop> Barrier<R> {
     ///
     /// The first `n` - 1 arrivals of a generation wait, and the last leads and ends their wait. At a barrier for 0 or 1 each
     /// arrival leads.
+    ///
+    /// ```
+    /// let barrier = Barrier::new(rt, 2)?;
+    /// ```
     pub fn new(rt: R, n: usize) -> Result<Barrier<R>, Refusal>
         ensures memory { IfErr result (λ refusal. refusal ≡ Refusal.Memory) }
         ensures barrier { IfOk result (λ barrier. (barrier.raw.size ≡ n) × (barrier.raw.most ≡ u64.MAX)) }
@@ -71,6 +75,10 @@ impl<R: Wait> Barrier<R> {
 
     /// Returns a future of a wait at this barrier, which does nothing until it is polled. Its arrival counts once a poll has had the
     /// inner lock.
+    ///
+    /// ```
+    /// let result = wait_for(&rt, barrier.wait())?;
+    /// ```
     pub fn wait(&self) -> BarrierWait<'_, R>
         ensures { result ≡ future self.now false None }
     {
@@ -83,6 +91,10 @@ impl<R: Wait + Clock + RandomSource + AllocGlobal> Barrier<R> {
     /// [`Refusal::Memory`]. It is refused by the names by which a wait gives up, and never as finished (`refused`).
     ///
     /// Don't call it in an async context: it blocks the thread that runs the other tasks, and may deadlock.
+    ///
+    /// ```
+    /// let first = barrier.wait_blocking()?.is_leader();
+    /// ```
     pub fn wait_blocking(&self) -> Result<BarrierWaitResult, Refusal>
         ensures refused { IfErr result IsGivenUp }
     {

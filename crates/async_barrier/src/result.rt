@@ -27,6 +27,10 @@ impl BarrierWaitResult {
     }
 
     /// Returns whether this wait was the arrival that finished its generation. Of each generation exactly one is.
+    ///
+    /// ```
+    /// Ok(result.is_leader())
+    /// ```
     pub fn is_leader(&self) -> bool
         ensures { result ≡ self.now.is_leader }
     {

@@ -43,6 +43,10 @@ impl<T: Drop, R: AllocGlobal + Drop> OnceCell<T, R> {
     /// Creates an empty cell. If memory is refused, it returns [`Refusal::Memory`] (`memory`); of the runtime it asks memory alone.
     ///
     /// The Rust crate's call takes no runtime and can't fail.
+    ///
+    /// ```
+    /// let cell = OnceCell::new(rt)?;
+    /// ```
     pub fn new(rt: R) -> Result<OnceCell<T, R>, Refusal>
         ensures memory { IfErr result (λ refusal. refusal ≡ Refusal.Memory) }
         ensures empty { IfOk result (λ cell. cell.raw.word.start ≡ false) }
@@ -56,6 +60,10 @@ impl<T: Drop, R: AllocGlobal + Drop> OnceCell<T, R> {
     /// Creates a cell that has this value. If memory is refused, it returns [`Refusal::Memory`] and drops the value (`memory`).
     ///
     /// The Rust crate has it as `From<T>`, which can't fail.
+    ///
+    /// ```
+    /// let mut cell = OnceCell::with_value(rt, 3_u64)?;
+    /// ```
     pub fn with_value(rt: R, value: T) -> Result<OnceCell<T, R>, Refusal>
         ensures memory { IfErr result (λ refusal. refusal ≡ Refusal.Memory) }
         ensures full { IfOk result (λ cell. cell.raw.word.start ≡ true) }
@@ -70,6 +78,10 @@ impl<T: Drop, R: AllocGlobal + Drop> OnceCell<T, R> {
 impl<T, R> OnceCell<T, R> {
     /// Returns whether the cell had a value at some moment of the call. It waits for nobody and takes no memory. That it is so is
     /// tested, and no clause says it.
+    ///
+    /// ```
+    /// let was_full = cell.is_initialized();
+    /// ```
     pub fn is_initialized(&self) -> bool {
         self.raw.is_full()
     }
@@ -77,6 +89,10 @@ impl<T, R> OnceCell<T, R> {
     /// Returns the value, if there is one. It waits for nobody and takes no memory.
     ///
     /// No clause says which value a plain reference shows: [`OnceCell::witness`] does.
+    ///
+    /// ```
+    /// Ok(is_put && has_come_back && cell.get() == Some(&1))
+    /// ```
     pub fn get(&self) -> Option<&T> {
         self.raw.get()
     }
@@ -85,6 +101,11 @@ impl<T, R> OnceCell<T, R> {
     ///
     /// Whatever shows the value of a cell shows the same value (`OnceToken::agrees`): by it a user proves that two reads agree.
     /// The Rust crate has no such call.
+    ///
+    /// ```
+    /// let found = cell.witness()?;
+    /// mine.agrees(&found);
+    /// ```
     pub fn witness(&self) -> Option<OnceToken<'_, T>>
         ensures { IfSome result (λ token. token.of ≡ self.now.raw.word.store) }
     {
@@ -92,6 +113,10 @@ impl<T, R> OnceCell<T, R> {
     }
 
     /// Returns the value that this shows. It waits for nobody and takes no memory.
+    ///
+    /// ```
+    /// Some(*cell.value(&found))
+    /// ```
     pub fn value<'a>(&'a self, shown: &OnceToken<'a, T>) -> &'a T
         requires { shown.now.of ≡ self.now.raw.word.store }
         ensures { result.now ≡ shown.now.value }
@@ -101,17 +126,31 @@ impl<T, R> OnceCell<T, R> {
 
     /// Returns the value to be written, if there is one. It waits for nobody and takes no memory. A cell whose maker was forgotten
     /// (`mem::forget`) has none.
+    ///
+    /// ```
+    /// if let Some(value) = cell.get_mut() {
+    ///     *value = value.saturating_add(1);
+    /// }
+    /// ```
     pub fn get_mut(&mut self) -> Option<&mut T> {
         self.raw.get_mut()
     }
 
     /// Takes the value out, if there is one; the cell is empty then. It waits for nobody and takes no memory. A cell whose maker was
     /// forgotten (`mem::forget`) has none, and stays being made.
+    ///
+    /// ```
+    /// let taken = cell.take();
+    /// ```
     pub fn take(&mut self) -> Option<T> {
         self.raw.take()
     }
 
     /// Returns the value, if there is one. It waits for nobody and takes no memory.
+    ///
+    /// ```
+    /// let is_left = cell.into_inner();
+    /// ```
     pub fn into_inner(self) -> Option<T>
     where
         R: Drop,
@@ -134,6 +173,10 @@ impl<T, R> OnceCell<T, R> {
 impl<T: Drop, R: Waits> OnceCell<T, R> {
     /// Returns a future of the value, which only waits until the cell has one. It does nothing until it is polled; its polls ask the runtime
     /// for the clock, the lists' short locks and memory. In the Rust crate it is an `async fn`, as are the three below.
+    ///
+    /// ```
+    /// let waited = *wait_for(&rt, cell.wait())?;
+    /// ```
     pub fn wait(&self) -> Wait<'_, T, R>
         ensures { result ≡ record { cell = self.now; is_over = false; entry = None } }
     {
@@ -146,6 +189,11 @@ impl<T: Drop, R: Waits> OnceCell<T, R> {
     ///
     /// The closure may be called (`call`), and what it answers may be polled (`poll`): of a closure without conditions, and a
     /// future that may be polled at any time, that is so.
+    ///
+    /// ```
+    /// let failing = cell.get_or_try_init(|| future::ready(Err::<u64, &str>("no number")));
+    /// let has_failed = wait_for(&rt, failing)? == Err("no number");
+    /// ```
     pub fn get_or_try_init<E: Drop, F: FnOnce() -> Fut, Fut: Future<Output = Result<T, E>>>(
         &self,
         closure: F,
@@ -159,6 +207,10 @@ impl<T: Drop, R: Waits> OnceCell<T, R> {
 
     /// Returns a future of the value, which the closure's future makes if the cell is empty. It does nothing until it is polled. The closure
     /// is called once at most by each future. What it asks of the closure (`call`, `poll`) is as in [`OnceCell::get_or_try_init`].
+    ///
+    /// ```
+    /// let made = *wait_for(&rt, cell.get_or_init(|| future::ready(5_u64)))?;
+    /// ```
     pub fn get_or_init<F: FnOnce() -> Fut, Fut: Future<Output = T>>(
         &self,
         closure: F,
@@ -171,6 +223,10 @@ impl<T: Drop, R: Waits> OnceCell<T, R> {
     }
 
     /// Returns a future that puts this value in if the cell is empty, and else has it back. It does nothing until it is polled.
+    ///
+    /// ```
+    /// let came_back = wait_for(&rt, cell.set(6))? == Err(6);
+    /// ```
     pub fn set(&self, value: T) -> Set<'_, T, R>
         ensures { result ≡ record { cell = self.now; is_over = false; entry = None; value = Some value } }
     {
@@ -180,6 +236,11 @@ impl<T: Drop, R: Waits> OnceCell<T, R> {
     /// Puts this value in at once if the cell is empty, and else gives it back: also while another task makes the value. What it
     /// gives back is what was handed in. It waits for nobody but for the lists' short locks. It takes memory for the wakers that are
     /// due, and does without where that is refused.
+    ///
+    /// ```
+    /// let is_put = cell.try_set(1u64).is_ok();
+    /// let has_come_back = cell.try_set(2u64) == Err(2);
+    /// ```
     pub fn try_set(&self, value: T) -> Result<(), T>
         ensures { IfErr result (λ back. back ≡ value) }
     {
@@ -188,6 +249,12 @@ impl<T: Drop, R: Waits> OnceCell<T, R> {
 
     /// Does as [`OnceCell::try_set`] does; a value that is put in is shown (`shown`), so that whatever shows the cell's value while this does shows
     /// the same. The Rust crate has no such call.
+    ///
+    /// ```
+    /// let Ok(mine) = cell.try_set_shown(number) else {
+    ///     return None;
+    /// };
+    /// ```
     pub fn try_set_shown(&self, value: T) -> Result<OnceToken<'_, T>, T>
         ensures shown { IfOk result (λ token. (token.of ≡ self.now.raw.word.store) × (token.value ≡ value)) }
         ensures back { IfErr result (λ back. back ≡ value) }
@@ -203,6 +270,10 @@ impl<T: Drop, R: Waits + Clock + RandomSource + AllocGlobal> OnceCell<T, R> {
     ///
     /// It asks the runtime to wait, and for the clock, memory and random numbers, which its executor takes; where those are refused, so
     /// is the call, as for memory. So do the three below. In the Rust crate none of them is refused.
+    ///
+    /// ```
+    /// let waited = *cell.wait_blocking()? == 7;
+    /// ```
     pub fn wait_blocking(&self) -> Result<&T, Refusal>
         ensures memory { IfErr result (λ refusal. refusal ≡ Refusal.Memory) }
     {
@@ -220,6 +291,10 @@ impl<T: Drop, R: Waits + Clock + RandomSource + AllocGlobal> OnceCell<T, R> {
     /// error of `block_on` is [`Refusal::Memory`], and a refused call gives the value back too. In an async context it may deadlock.
     ///
     /// What it gives is the value that was handed in (`value`), and so is what it gives back (`back`).
+    ///
+    /// ```
+    /// let is_taken = matches!(cell.set_blocking(8), Err(SetFault::Taken(8)));
+    /// ```
     pub fn set_blocking(&self, value: T) -> Result<&T, SetFault<T>>
         ensures value { IfOk result (λ r. r.now ≡ value) }
         ensures back { IfErr result (HasBack value) }
@@ -231,6 +306,10 @@ impl<T: Drop, R: Waits + Clock + RandomSource + AllocGlobal> OnceCell<T, R> {
     /// Any error of `block_on` is [`Refusal::Memory`]; a cell that is full gives its value without. A refused call drops the closure,
     /// which it hasn't called, and leaves the cell as it was. In an async context it may deadlock. It asks for a closure that may be
     /// called: one without conditions of its own always may.
+    ///
+    /// ```
+    /// let value = cell.get_or_init_blocking(|| 21u64)?;
+    /// ```
     pub fn get_or_init_blocking<F: FnOnce() -> T>(&self, closure: F) -> Result<&T, Refusal>
         requires { F.pre closure }
         ensures memory { IfErr result (λ refusal. refusal ≡ Refusal.Memory) }
@@ -257,6 +336,10 @@ impl<T: Drop, R: Waits + Clock + RandomSource + AllocGlobal> OnceCell<T, R> {
     ///
     /// A failure is what the closure answered; it is refused for memory alone (`fault`). It asks for a closure that may be called, as
     /// the call above.
+    ///
+    /// ```
+    /// let failed = cell.get_or_try_init_blocking(|| Err::<u64, &str>("no number"));
+    /// ```
     pub fn get_or_try_init_blocking<E: Drop, F: FnOnce() -> Result<T, E>>(
         &self,
         closure: F,

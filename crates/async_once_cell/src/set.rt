@@ -58,6 +58,10 @@ impl<'a, T: Drop, R: Wait> Set<'a, T, R> {
 
 impl<'a, T: Drop, R: Wait> Set<'a, T, R> {
     /// Ends the future, and returns its value, if it wasn't ready.
+    ///
+    /// ```
+    /// let has_ended = cell.set(7).into_value() == Some(7);
+    /// ```
     pub fn into_value(self) -> Option<T>
         ensures { result ≡ self.entry.value }
     {

@@ -34,6 +34,10 @@ impl<T, R: Wait> RwLock<T, R> {
     /// Attempts to acquire a right to read: it does if nobody writes or waits for readers to leave, and fewer read than may.
     ///
     /// The contract guarantees that a returned guard belongs to this lock. That a free lock is acquired is only tested.
+    ///
+    /// ```
+    /// let is_shared = lock.try_read().is_some();
+    /// ```
     pub fn try_read(&self) -> Option<RwLockReadGuard<'_, T, R>>
         ensures { IfSome result (λ guard. guard.lock ≡ self.now) }
     {
@@ -52,6 +56,10 @@ impl<T, R: Wait> RwLock<T, R> {
 
     /// Attempts to acquire the right to read that can become a right to write: it does if nobody has it or writes, nobody is starved
     /// for it, and fewer read than may.
+    ///
+    /// ```
+    /// let is_free = lock.try_upgradable_read().is_some();
+    /// ```
     pub fn try_upgradable_read(&self) -> Option<RwLockUpgradableReadGuard<'_, T, R>>
         ensures { IfSome result (λ guard. guard.lock ≡ self.now) }
     {
@@ -69,6 +77,10 @@ impl<T, R: Wait> RwLock<T, R> {
     }
 
     /// Attempts to acquire the right to write: it does if nobody reads or writes, and nobody is starved for it.
+    ///
+    /// ```
+    /// let reads = *reader == 2 && lock.try_write().is_none();
+    /// ```
     pub fn try_write(&self) -> Option<RwLockWriteGuard<'_, T, R>>
         ensures { IfSome result (λ guard. guard.lock ≡ self.now) }
     {
@@ -86,6 +98,10 @@ impl<T, R: Wait> RwLock<T, R> {
     }
 
     /// Returns a future of a right to read of this lock, which does nothing until it is polled.
+    ///
+    /// ```
+    /// let read = *wait_for(&rt, lock.read())?;
+    /// ```
     pub fn read(&self) -> Read<'_, T, R>
         ensures lock { IsOf (λ o. o.now) result.stage self.now }
         ensures waiting { result.waiting ≡ None }
@@ -94,6 +110,10 @@ impl<T, R: Wait> RwLock<T, R> {
     }
 
     /// Returns a future of the right to read that can become a right to write, which does nothing until it is polled.
+    ///
+    /// ```
+    /// let upgradable = wait_for(&rt, lock.upgradable_read())?;
+    /// ```
     pub fn upgradable_read(&self) -> UpgradableRead<'_, T, R>
         ensures lock { IsOf (λ o. o.now) result.stage self.now }
         ensures waiting { result.waiting ≡ None }
@@ -102,6 +122,11 @@ impl<T, R: Wait> RwLock<T, R> {
     }
 
     /// Returns a future of the right to write, which does nothing until it is polled.
+    ///
+    /// ```
+    /// let mut writer = wait_for(&rt, lock.write())?;
+    /// *writer = writer.saturating_add(1);
+    /// ```
     pub fn write(&self) -> Write<'_, T, R>
         ensures lock { IsOf (λ o. o.now) result.stage self.now }
         ensures waiting { result.waiting ≡ None }
@@ -114,6 +139,11 @@ impl<T: Drop, R: Wait + Clock + RandomSource + AllocGlobal> RwLock<T, R> {
     /// Acquires a right to read, blocking the calling thread until it has it. Any error of the executor is
     /// [`Refusal::Memory`]; the others are those of [`RwLock::read`]'s polls.
     /// Don't call it in an async context: it blocks the thread that runs the other tasks, and may deadlock.
+    ///
+    /// ```
+    /// let guard = lock.read_blocking()?;
+    /// Ok(*guard)
+    /// ```
     pub fn read_blocking(&self) -> Result<RwLockReadGuard<'_, T, R>, Refusal>
         ensures lock { IfOk result (λ guard. guard.lock ≡ self.now) }
         ensures refused { IfErr result (Refuses aims.Read) }
@@ -127,6 +157,13 @@ impl<T: Drop, R: Wait + Clock + RandomSource + AllocGlobal> RwLock<T, R> {
     /// Acquires the right to read that can become a right to write, blocking the calling thread until it has it. Any error of the executor is
     /// [`Refusal::Memory`]; the others are those of [`RwLock::upgradable_read`]'s polls.
     /// Don't call it in an async context: it blocks the thread that runs the other tasks, and may deadlock.
+    ///
+    /// ```
+    /// let guard = lock.upgradable_read_blocking()?;
+    /// if *guard % 2 == 1 {
+    ///     return Ok(*guard);
+    /// }
+    /// ```
     pub fn upgradable_read_blocking(&self) -> Result<RwLockUpgradableReadGuard<'_, T, R>, Refusal>
         ensures lock { IfOk result (λ guard. guard.lock ≡ self.now) }
         ensures refused { IfErr result (Refuses aims.UpgradableRead) }
@@ -140,6 +177,11 @@ impl<T: Drop, R: Wait + Clock + RandomSource + AllocGlobal> RwLock<T, R> {
     /// Acquires the right to write, blocking the calling thread until it has it. Any error of the executor is
     /// [`Refusal::Memory`]; the others are those of [`RwLock::write`]'s polls.
     /// Don't call it in an async context: it blocks the thread that runs the other tasks, and may deadlock.
+    ///
+    /// ```
+    /// let mut writer = lock.write_blocking()?;
+    /// *writer = writer.saturating_add(1);
+    /// ```
     pub fn write_blocking(&self) -> Result<RwLockWriteGuard<'_, T, R>, Refusal>
         ensures lock { IfOk result (λ guard. guard.lock ≡ self.now) }
         ensures refused { IfErr result (Refuses aims.Write) }
@@ -153,6 +195,10 @@ impl<T: Drop, R: Wait + Clock + RandomSource + AllocGlobal> RwLock<T, R> {
 
 impl<T: Drop, R: Wait + Drop> RwLock<T, R> {
     /// Does as [`RwLock::try_read`] does, for a guard that has a share of the lock. It is `None` too if that share can't be had.
+    ///
+    /// ```
+    /// let reads = RwLock::try_read_arc(&lock).is_some();
+    /// ```
     pub fn try_read_arc(this: &Arc<RwLock<T, R>>) -> Option<RwLockReadGuardArc<T, R>>
         ensures { IfSome result (λ guard. guard.lock ≡ arc_value this.now) }
     {
@@ -167,6 +213,10 @@ impl<T: Drop, R: Wait + Drop> RwLock<T, R> {
     }
 
     /// Does as [`RwLock::try_upgradable_read`] does, for a guard that has a share of the lock. It is `None` too if that share can't be had.
+    ///
+    /// ```
+    /// let upgrades = RwLock::try_upgradable_read_arc(&lock).is_some();
+    /// ```
     pub fn try_upgradable_read_arc(
         this: &Arc<RwLock<T, R>>,
     ) -> Option<RwLockUpgradableReadGuardArc<T, R>>
@@ -186,6 +236,10 @@ impl<T: Drop, R: Wait + Drop> RwLock<T, R> {
     }
 
     /// Does as [`RwLock::try_write`] does, for a guard that has a share of the lock. It is `None` too if that share can't be had.
+    ///
+    /// ```
+    /// let writes = RwLock::try_write_arc(&lock).is_some();
+    /// ```
     pub fn try_write_arc(this: &Arc<RwLock<T, R>>) -> Option<RwLockWriteGuardArc<T, R>>
         ensures { IfSome result (λ guard. guard.lock ≡ arc_value this.now) }
     {
@@ -201,6 +255,10 @@ impl<T: Drop, R: Wait + Drop> RwLock<T, R> {
 
     /// Returns a future as [`RwLock::read`] does, which has a share of the lock and gives it to its guard. If that share can't be
     /// had, its polls are refused as [`Refusal::Memory`].
+    ///
+    /// ```
+    /// let reader = wait_for(&rt, RwLock::read_arc(&lock))?;
+    /// ```
     pub fn read_arc(this: &Arc<RwLock<T, R>>) -> ReadArc<T, R>
         ensures lock { IsFor arc_value result.stage (arc_value this.now) }
         ensures waiting { result.waiting ≡ None }
@@ -210,6 +268,10 @@ impl<T: Drop, R: Wait + Drop> RwLock<T, R> {
 
     /// Returns a future as [`RwLock::upgradable_read`] does, which has a share of the lock and gives it to its guard. If that share can't be
     /// had, its polls are refused as [`Refusal::Memory`].
+    ///
+    /// ```
+    /// let upgradable = wait_for(&rt, RwLock::upgradable_read_arc(&lock))?;
+    /// ```
     pub fn upgradable_read_arc(this: &Arc<RwLock<T, R>>) -> UpgradableReadArc<T, R>
         ensures lock { IsFor arc_value result.stage (arc_value this.now) }
         ensures waiting { result.waiting ≡ None }
@@ -219,6 +281,11 @@ impl<T: Drop, R: Wait + Drop> RwLock<T, R> {
 
     /// Returns a future as [`RwLock::write`] does, which has a share of the lock and gives it to its guard. If that share can't be
     /// had, its polls are refused as [`Refusal::Memory`].
+    ///
+    /// ```
+    /// let mut writer = wait_for(&rt, RwLock::write_arc(&lock))?;
+    /// *writer = writer.saturating_add(1);
+    /// ```
     pub fn write_arc(this: &Arc<RwLock<T, R>>) -> WriteArc<T, R>
         ensures lock { IsFor arc_value result.stage (arc_value this.now) }
         ensures waiting { result.waiting ≡ None }
@@ -229,6 +296,10 @@ impl<T: Drop, R: Wait + Drop> RwLock<T, R> {
 
 impl<T: Drop, R: Wait + Clock + RandomSource + AllocGlobal + Drop> RwLock<T, R> {
     /// Does as [`RwLock::read_blocking`] does, for a guard that has a share of the lock.
+    ///
+    /// ```
+    /// RwLock::read_arc_blocking(&lock)
+    /// ```
     pub fn read_arc_blocking(this: &Arc<RwLock<T, R>>) -> Result<RwLockReadGuardArc<T, R>, Refusal>
         ensures lock { IfOk result (λ guard. guard.lock ≡ arc_value this.now) }
         ensures refused { IfErr result (Refuses aims.Read) }
@@ -240,6 +311,10 @@ impl<T: Drop, R: Wait + Clock + RandomSource + AllocGlobal + Drop> RwLock<T, R> 
     }
 
     /// Does as [`RwLock::upgradable_read_blocking`] does, for a guard that has a share of the lock.
+    ///
+    /// ```
+    /// let upgradable = RwLock::upgradable_read_arc_blocking(&lock)?;
+    /// ```
     pub fn upgradable_read_arc_blocking(
         this: &Arc<RwLock<T, R>>,
     ) -> Result<RwLockUpgradableReadGuardArc<T, R>, Refusal>
@@ -253,6 +328,11 @@ impl<T: Drop, R: Wait + Clock + RandomSource + AllocGlobal + Drop> RwLock<T, R> 
     }
 
     /// Does as [`RwLock::write_blocking`] does, for a guard that has a share of the lock.
+    ///
+    /// ```
+    /// let mut writer = RwLock::write_arc_blocking(&lock)?;
+    /// *writer = writer.saturating_add(1);
+    /// ```
     pub fn write_arc_blocking(
         this: &Arc<RwLock<T, R>>,
     ) -> Result<RwLockWriteGuardArc<T, R>, Refusal>

@@ -29,6 +29,10 @@ impl<T: Drop, R: AllocGlobal + Drop> RwLock<T, R> {
     /// Creates a free lock over a value. If memory is refused, it returns [`Refusal::Memory`] and drops the value.
     ///
     /// By the contract it has the greatest limits (`limits`), and no other refusal is returned (`memory`).
+    ///
+    /// ```
+    /// let lock = RwLock::new(rt, 1_u64)?;
+    /// ```
     pub fn new(rt: R, value: T) -> Result<RwLock<T, R>, Refusal>
         ensures memory { IfErr result (λ refusal. refusal ≡ Refusal.Memory) }
         ensures limits { IfOk result (λ lock. (lock.raw.words.starved ≡ 1073741823) × (lock.raw.words.readers ≡ 1073741823)) }
@@ -64,6 +68,10 @@ impl<T: Drop, R: AllocGlobal + Drop> RwLock<T, R> {
 
 impl<T, R> RwLock<T, R> {
     /// Returns the value, whatever became of the guards. It waits for nobody and takes no memory.
+    ///
+    /// ```
+    /// Ok(lock.into_inner() == 2)
+    /// ```
     pub fn into_inner(self) -> T
     where
         R: Drop,
@@ -84,6 +92,11 @@ impl<T, R> RwLock<T, R> {
 
     /// Returns the value, to write, whatever became of the guards: a forgotten one stays counted. It waits for nobody and takes
     /// no memory.
+    ///
+    /// ```
+    /// let value = lock.get_mut();
+    /// *value = value.saturating_add(1);
+    /// ```
     pub fn get_mut(&mut self) -> &mut T {
         let renewal = self.vault.next_age();
         self.vault.get_mut(renewal)

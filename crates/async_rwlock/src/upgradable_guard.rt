@@ -82,6 +82,10 @@ impl<T, R: Wait, O: Owns<Value = T, Runtime = R>> UpgradableGuard<T, R, O> {
 
     /// Reads on without the right to upgrade: upgradable readers and writers that wait may go on. It is the same seat, by one step
     /// (`same`).
+    ///
+    /// ```
+    /// let reader = RwLockUpgradableReadGuard::downgrade(upgradable);
+    /// ```
     pub fn downgrade(guard: Self) -> ReadGuard<T, R, O>
         ensures lock { result.lock ≡ guard.lock }
         ensures same { (result.seat ≡ guard.seat) × (result.view ≡ without_turn guard.view) }
@@ -93,6 +97,13 @@ impl<T, R: Wait, O: Owns<Value = T, Runtime = R>> UpgradableGuard<T, R, O> {
     }
 
     /// Writes, if nobody else reads. Otherwise the guard comes back: by the contract its seat has found another reader (`beside`).
+    ///
+    /// ```
+    /// let Ok(mut writer) = RwLockUpgradableReadGuard::try_upgrade(upgradable) else {
+    ///     return Ok(false);
+    /// };
+    /// *writer = writer.saturating_add(1);
+    /// ```
     pub fn try_upgrade(guard: Self) -> Result<WriteGuard<T, R, O>, Self>
         ensures writes { IfOk result (λ writer. writer.lock ≡ guard.lock) }
         ensures reads { IfErr result (λ reader. reader.lock ≡ guard.lock) }
@@ -108,6 +119,12 @@ impl<T, R: Wait, O: Owns<Value = T, Runtime = R>> UpgradableGuard<T, R, O> {
 
     /// Begins to write: from now on nobody begins to read. The future is ready once no other reader is left. Until then it lends
     /// nothing.
+    ///
+    /// ```
+    /// let upgrade = RwLockUpgradableReadGuard::upgrade(upgradable);
+    /// let mut writer = wait_for(&rt, upgrade)?;
+    /// *writer = writer.saturating_add(1);
+    /// ```
     #[inline]
     pub fn upgrade(guard: Self) -> UpgradeFuture<T, R, O>
         ensures { IsOf O.lock_of result.stage guard.lock }
@@ -169,6 +186,11 @@ impl<
     /// Writes once nobody else reads, blocking the calling thread until then. It takes no memory where nobody else reads now. If it is
     /// refused, which is for memory alone, the right is given up.
     /// Don't call it in an async context: it blocks the thread that runs the other tasks, and may deadlock.
+    ///
+    /// ```
+    /// let mut guard = RwLockUpgradableReadGuard::upgrade_blocking(guard)?;
+    /// *guard = guard.saturating_add(by);
+    /// ```
     pub fn upgrade_blocking(guard: Self) -> Result<WriteGuard<T, R, O>, Refusal>
         ensures lock { IfOk result (λ writer. writer.lock ≡ guard.lock) }
         ensures memory { IfErr result (λ refusal. refusal ≡ Refusal.Memory) }

@@ -74,6 +74,10 @@ impl<T, R: Wait, O: Owns<Value = T, Runtime = R>> WriteGuard<T, R, O> {
     /// Reads in place of writing, and notifies the readers that wait. Upgradable readers and writers that wait may go on.
     ///
     /// It is the same seat throughout, and by two steps alone (`same`): at no time has it neither right, so nobody writes in between.
+    ///
+    /// ```
+    /// let reader = RwLockWriteGuard::downgrade(writer);
+    /// ```
     pub fn downgrade(guard: Self) -> ReadGuard<T, R, O>
         ensures lock { result.lock ≡ guard.lock }
         ensures same { (result.seat ≡ guard.seat) × (result.view ≡ without_turn (downgraded guard.view)) }
@@ -86,6 +90,10 @@ impl<T, R: Wait, O: Owns<Value = T, Runtime = R>> WriteGuard<T, R, O> {
 
     /// Reads in place of writing, with the right to upgrade, and notifies the readers that wait. It is the same seat, by one step
     /// (`same`).
+    ///
+    /// ```
+    /// let upgradable = RwLockWriteGuard::downgrade_to_upgradable(writer);
+    /// ```
     pub fn downgrade_to_upgradable(guard: Self) -> UpgradableGuard<T, R, O>
         ensures lock { result.lock ≡ guard.lock }
         ensures same { (result.seat ≡ guard.seat) × (result.view ≡ downgraded guard.view) }

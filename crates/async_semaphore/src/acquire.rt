@@ -56,6 +56,10 @@ impl<R: Wait, O: Owns<Runtime = R>> AcquireFuture<R, O> {
     }
 
     /// Returns for how many permits the future is.
+    ///
+    /// ```
+    /// let is_of_two = of_two.permits() == 2;
+    /// ```
     pub fn permits(&self) -> usize
         ensures { result ≡ self.now.permits }
     {

@@ -24,6 +24,12 @@ impl<R: Wait> Semaphore<R> {
     /// number of permits between its look and its exchange.
     ///
     /// By the contract a guard that it returns has one permit of this semaphore. That an available one is acquired is tested.
+    ///
+    /// ```
+    /// let Some(guard) = semaphore.try_acquire() else {
+    ///     return Ok(false);
+    /// };
+    /// ```
     #[inline]
     pub fn try_acquire(&self) -> Option<SemaphoreGuard<'_, R>>
         ensures { IfSome result (λ guard. (guard.semaphore ≡ self.now) × (guard.permits ≡ 1)) }
@@ -43,6 +49,10 @@ impl<R: Wait> Semaphore<R> {
     /// are enough for 0.
     ///
     /// The Rust crate has no such call.
+    ///
+    /// ```
+    /// let three_more = semaphore.try_acquire_many(3).is_some();
+    /// ```
     #[inline]
     pub fn try_acquire_many(&self, permits: usize) -> Option<SemaphoreGuard<'_, R>>
         ensures { IfSome result (λ guard. (guard.semaphore ≡ self.now) × (guard.permits ≡ permits)) }
@@ -60,6 +70,10 @@ impl<R: Wait> Semaphore<R> {
     }
 
     /// Returns a future of a permit, which does nothing until it is polled.
+    ///
+    /// ```
+    /// let one = wait_for(&rt, semaphore.acquire())?;
+    /// ```
     #[inline]
     pub fn acquire(&self) -> Acquire<'_, R>
         ensures semaphore { IsFor (λ o. o.now) result.stage self.now }
@@ -74,6 +88,10 @@ impl<R: Wait> Semaphore<R> {
     /// With 0 it is ready at once. With more than the semaphore's limit it waits until enough are added. It isn't fair to large
     /// requests: a waiter for fewer permits may be notified first, and a large request that was notified and found too few goes
     /// on waiting. The Rust crate has no such call.
+    ///
+    /// ```
+    /// let of_two = semaphore.acquire_many(2);
+    /// ```
     #[inline]
     pub fn acquire_many(&self, permits: usize) -> Acquire<'_, R>
         ensures semaphore { IsFor (λ o. o.now) result.stage self.now }
@@ -88,6 +106,10 @@ impl<R: Wait> Semaphore<R> {
     ///
     /// If the limit would pass 18,446,744,073,709,551,615, it returns [`Refusal::Permits`] and changes nothing. The Rust crate
     /// wraps there, and returns nothing.
+    ///
+    /// ```
+    /// let given = semaphore.add_permits(2)?;
+    /// ```
     pub fn add_permits(&self, permits: usize) -> Result<Given, Refusal>
         ensures given { IfOk result (λ given. given.permits ≡ permits) }
         ensures refused { IfErr result (λ refusal. refusal ≡ Refusal.Permits) }
@@ -100,6 +122,10 @@ impl<R: Wait + Clock + RandomSource + AllocGlobal> Semaphore<R> {
     /// Acquires a permit, blocking the calling thread until it has one. It is refused for memory
     /// alone (`memory`), and any error of the executor is [`Refusal::Memory`].
     /// Don't call it in an async context: it blocks the thread that runs the other tasks, and may deadlock.
+    ///
+    /// ```
+    /// let permit = semaphore.acquire_blocking()?;
+    /// ```
     pub fn acquire_blocking(&self) -> Result<SemaphoreGuard<'_, R>, Refusal>
         ensures permits { IfOk result (λ guard. (guard.semaphore ≡ self.now) × (guard.permits ≡ 1)) }
         ensures memory { IfErr result (λ refusal. refusal ≡ Refusal.Memory) }
@@ -110,6 +136,10 @@ impl<R: Wait + Clock + RandomSource + AllocGlobal> Semaphore<R> {
     /// Acquires this many permits at once, as [`Semaphore::acquire_many`], blocking the calling thread until it has them. Any
     /// error of the executor is [`Refusal::Memory`].
     /// Don't call it in an async context: it blocks the thread that runs the other tasks, and may deadlock.
+    ///
+    /// ```
+    /// let three = semaphore.acquire_many_blocking(3)?;
+    /// ```
     pub fn acquire_many_blocking(&self, permits: usize) -> Result<SemaphoreGuard<'_, R>, Refusal>
         ensures permits { IfOk result (λ guard. (guard.semaphore ≡ self.now) × (guard.permits ≡ permits)) }
         ensures memory { IfErr result (λ refusal. refusal ≡ Refusal.Memory) }
@@ -123,6 +153,10 @@ impl<R: Wait + Clock + RandomSource + AllocGlobal> Semaphore<R> {
 
 impl<R: Wait + Drop> Semaphore<R> {
     /// Does as [`Semaphore::try_acquire`] does, for a guard that has a share of the semaphore. It is `None` too if that share can't be had.
+    ///
+    /// ```
+    /// let one = Semaphore::try_acquire_arc(&semaphore).is_some();
+    /// ```
     #[inline]
     pub fn try_acquire_arc(this: &Arc<Semaphore<R>>) -> Option<SemaphoreGuardArc<R>>
         ensures { IfSome result (λ guard. (guard.semaphore ≡ arc_value this.now) × (guard.permits ≡ 1)) }
@@ -132,6 +166,10 @@ impl<R: Wait + Drop> Semaphore<R> {
 
     /// Does as [`Semaphore::try_acquire_many`] does, for a guard that has a share of the semaphore. It is `None` too if that share can't be
     /// had.
+    ///
+    /// ```
+    /// let two = Semaphore::try_acquire_many_arc(&semaphore, 2).is_some();
+    /// ```
     #[inline]
     pub fn try_acquire_many_arc(
         this: &Arc<Semaphore<R>>,
@@ -154,6 +192,10 @@ impl<R: Wait + Drop> Semaphore<R> {
 
     /// Returns a future as [`Semaphore::acquire`] does, which has a share of the semaphore and gives it to its guard. If that share can't be
     /// had, its polls are refused as [`Refusal::Memory`].
+    ///
+    /// ```
+    /// let one = wait_for(&rt, Semaphore::acquire_arc(&semaphore))?;
+    /// ```
     #[inline]
     pub fn acquire_arc(this: &Arc<Semaphore<R>>) -> AcquireArc<R>
         ensures semaphore { IsFor arc_value result.stage (arc_value this.now) }
@@ -165,6 +207,10 @@ impl<R: Wait + Drop> Semaphore<R> {
 
     /// Returns a future as [`Semaphore::acquire_many`] does, which has a share of the semaphore and gives it to its guard. If that share
     /// can't be had, its polls are refused as [`Refusal::Memory`].
+    ///
+    /// ```
+    /// let two = wait_for(&rt, Semaphore::acquire_many_arc(&semaphore, 2))?;
+    /// ```
     #[inline]
     pub fn acquire_many_arc(this: &Arc<Semaphore<R>>, permits: usize) -> AcquireArc<R>
         ensures semaphore { IsFor arc_value result.stage (arc_value this.now) }
@@ -178,6 +224,10 @@ impl<R: Wait + Drop> Semaphore<R> {
 
 impl<R: Wait + Clock + RandomSource + AllocGlobal + Drop> Semaphore<R> {
     /// Does as [`Semaphore::acquire_blocking`] does, for a guard that has a share of the semaphore.
+    ///
+    /// ```
+    /// let first = Semaphore::acquire_arc_blocking(&semaphore)?;
+    /// ```
     pub fn acquire_arc_blocking(this: &Arc<Semaphore<R>>) -> Result<SemaphoreGuardArc<R>, Refusal>
         ensures permits { IfOk result (λ guard. (guard.semaphore ≡ arc_value this.now) × (guard.permits ≡ 1)) }
         ensures memory { IfErr result (λ refusal. refusal ≡ Refusal.Memory) }
@@ -186,6 +236,10 @@ impl<R: Wait + Clock + RandomSource + AllocGlobal + Drop> Semaphore<R> {
     }
 
     /// Does as [`Semaphore::acquire_many_blocking`] does, for a guard that has a share of the semaphore.
+    ///
+    /// ```
+    /// let others = Semaphore::acquire_many_arc_blocking(&semaphore, 2)?;
+    /// ```
     pub fn acquire_many_arc_blocking(
         this: &Arc<Semaphore<R>>,
         permits: usize,

@@ -48,6 +48,10 @@ impl<R: Wait, O: Owns<Runtime = R>> PermitGuard<R, O> {
     }
 
     /// Returns how many permits the guard has.
+    ///
+    /// ```
+    /// let has_all = one.permits() == 1 && two.permits() == 2;
+    /// ```
     pub fn permits(&self) -> usize
         ensures { result ≡ self.now.permits }
     {
@@ -58,6 +62,10 @@ impl<R: Wait, O: Owns<Runtime = R>> PermitGuard<R, O> {
     /// It waits for nobody and takes no memory.
     ///
     /// By the contract the receipt is of exactly the guard's permits. The Rust crate's call returns nothing.
+    ///
+    /// ```
+    /// semaphore.acquire_blocking()?.forget();
+    /// ```
     pub fn forget(self) -> Lowered
         ensures { result.permits ≡ self.permits }
     {

@@ -28,6 +28,10 @@ impl<R: AllocGlobal + Drop> Semaphore<R> {
     /// Creates a semaphore of this many permits, all of them available. If memory is refused, it returns [`Refusal::Memory`].
     ///
     /// By the contract it begins with exactly these (`permits`), and no other refusal is returned (`memory`).
+    ///
+    /// ```
+    /// let semaphore = Semaphore::new(rt, 2)?;
+    /// ```
     pub fn new(rt: R, permits: usize) -> Result<Semaphore<R>, Refusal>
         ensures permits { IfOk result (λ semaphore. semaphore.raw.word.start ≡ permits) }
         ensures memory { IfErr result (λ refusal. refusal ≡ Refusal.Memory) }
@@ -43,6 +47,10 @@ impl<R> Semaphore<R> {
     /// Returns how many permits were available at some moment of the call. It waits for nobody and takes no memory.
     ///
     /// Other tasks may acquire or give back permits before the call returns.
+    ///
+    /// ```
+    /// let is_lent = semaphore.available_permits() == 0;
+    /// ```
     #[inline]
     pub fn available_permits(&self) -> usize {
         self.raw.available() as usize
