@@ -8,7 +8,8 @@ what tells. tests/tests.txt says what each stands on, as crates.txt does. They a
 repository, since to build a crate costs more than to run its tests, and `rt try --test` builds and runs these with checks of each
 address. A folder of tests/ with a main.rattle is a program. It is run as the programs of crates/ are: on its files stdin and args, and
 what it prints is compared with its file stdout, and its status with its file status. Or it has a folder cases, and is run on each file NAME there
-with the arguments in NAME.args; it has to end with status 0, and prints what NAME.stdout has, if that is there.
+with the arguments in NAME.args; it has to end with status 0, and prints what NAME.stdout has, if that is there. What all cases printed is then
+handed to its file check, if that is there, which has to end with status 0 and counts as one more.
 
 Each test has a line, and each is counted, as each program is. The last line is 'N passed, M failed', and the status is 1 if
 any failed.
@@ -110,7 +111,7 @@ class Layout:
                 text = text.replace(mark, mark + '\n' + ''.join(f'mod {it};\n' for it in shared), 1)
             write(f'{crate}/src/{path}.rt', text)
         self.lay_modules(crate, shared, shared)
-        for part in ('stdin', 'stdout', 'args', 'status'):
+        for part in ('stdin', 'stdout', 'args', 'status', 'check'):
             if os.path.isfile(f'{own}/{part}'):
                 shutil.copy(f'{own}/{part}', crate)
         if os.path.isdir(f'{own}/cases'):
@@ -206,7 +207,13 @@ def run_cases(folder, name):
     failed = [f'program {name}: its case {it} ended otherwise' for it in cases if not re.search(rf'(?m)^case={it} run=ended status=0\b', said)]
     failed += [f'program {name}: a case printed something else'] * (status != 0 and not failed)
     print(said[-3000:], flush=True)
-    return len(cases) - len(failed), failed, seconds
+    passed = len(cases) - len(failed)
+    if os.path.isfile(f'{folder}/check'):
+        checked = subprocess.run([f'{folder}/check'], input=out, stdout=subprocess.PIPE, stderr=subprocess.STDOUT, check=False)
+        print(checked.stdout.decode(errors='replace'), flush=True)
+        failed += [f'program {name}: its check of what it printed failed'] * (checked.returncode != 0)
+        passed += checked.returncode == 0
+    return passed, failed, seconds
 
 
 def free():
