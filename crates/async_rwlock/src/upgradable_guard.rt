@@ -3,7 +3,7 @@
 ghost use Rattle.std.specs.Prelude.{◌≡◌, ◌≢◌, IfOk, IfErr};
 ghost use Rattle.lock_program.specs.declared.refusal.Refusal.{Refusal};
 ghost use Rattle.rwlock_driver.specs.Rights.{Has, upgradable};
-ghost use Rattle.words_rwlock.specs.Steps.{without_turn};
+ghost use Rattle.words_rwlock.specs.Steps.{having_found, with_write, without_turn};
 ghost use Rattle.async_rwlock.specs.Stages.{IsOf};
 
 use crate::owns::Owns;
@@ -98,6 +98,8 @@ impl<T, R: Wait, O: Owns<Value = T, Runtime = R>> UpgradableGuard<T, R, O> {
 
     /// Writes, if nobody else reads. Otherwise the guard comes back: by the contract its seat has found another reader (`beside`).
     ///
+    /// It is the same seat, by one try (`writes`, `reads`): at no time has it neither right, so nobody writes in between.
+    ///
     /// ```
     /// let Ok(mut writer) = RwLockUpgradableReadGuard::try_upgrade(upgradable) else {
     ///     return Ok(false);
@@ -105,8 +107,9 @@ impl<T, R: Wait, O: Owns<Value = T, Runtime = R>> UpgradableGuard<T, R, O> {
     /// *writer = writer.saturating_add(1);
     /// ```
     pub fn try_upgrade(guard: Self) -> Result<WriteGuard<T, R, O>, Self>
-        ensures writes { IfOk result (λ writer. writer.lock ≡ guard.lock) }
-        ensures reads { IfErr result (λ reader. reader.lock ≡ guard.lock) }
+        ensures writes { IfOk result (λ writer. (writer.lock ≡ guard.lock) × (writer.seat ≡ guard.seat) × (writer.view ≡ with_write guard.view)) }
+        ensures reads { IfErr result (λ reader. (reader.lock ≡ guard.lock) × (reader.seat ≡ guard.seat)
+            × (reader.view ≡ having_found reader.view.found guard.view)) }
         ensures beside { IfErr result (λ reader. reader.view.found ≢ 2) }
     {
         let (owner, mut seat) = guard.into_seat();

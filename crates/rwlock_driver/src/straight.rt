@@ -27,7 +27,7 @@ ghost use Rattle.lock_program.specs.declared.mutex.Action.TheVariants as turn_do
 ghost use Rattle.lock_program.specs.declared.mutex.Found.TheVariants as turn_finds;
 ghost use Rattle.lock_program.specs.declared.mutex.Place.TheVariants as turn_at;
 ghost use Rattle.lock_program.specs.declared.rwlock.Wanted.TheVariants as wanted;
-ghost use Rattle.words_rwlock.specs.Steps.{downgraded, upgraded, without_turn};
+ghost use Rattle.words_rwlock.specs.Steps.{downgraded, having_found, upgraded, with_write, without_turn};
 
 use crate::aim::Aim;
 use crate::raw::RawRwLock;
@@ -492,10 +492,12 @@ impl RawRwLock {
     }
 
     /// Writes in place of reading with the turn, if nobody else reads. Returns whether it writes: it doesn't only where it found
-    /// another reader.
+    /// another reader. It is the same seat, by that one try (`same`).
     pub fn try_upgrade(&self, seat: &mut Seat) -> bool
         requires { Has self.now upgradable seat.old }
         ensures { MatchBool result (Has self.now writer seat.new) (Has self.now upgradable seat.new × ReadsBeside seat.new) }
+        ensures same { (seat.new.inner.id ≡ seat.old.inner.id) × MatchBool result (seat.new.inner.me.0 ≡ with_write seat.old.inner.me.0)
+            (seat.new.inner.me.0 ≡ having_found seat.new.inner.me.0.found seat.old.inner.me.0) }
     {
         change_rows();
         self.words.try_upgrade(seat)
