@@ -495,7 +495,7 @@ impl RawRwLock {
     /// another reader. It is the same seat, by that one try (`same`).
     pub fn try_upgrade(&self, seat: &mut Seat) -> bool
         requires { Has self.now upgradable seat.old }
-        ensures { MatchBool result (Has self.now writer seat.new) (Has self.now upgradable seat.new × ReadsBeside seat.new) }
+        ensures right { MatchBool result (Has self.now writer seat.new) (Has self.now upgradable seat.new × ReadsBeside seat.new) }
         ensures same { (seat.new.inner.id ≡ seat.old.inner.id) × MatchBool result (seat.new.inner.me.0 ≡ with_write seat.old.inner.me.0)
             (seat.new.inner.me.0 ≡ having_found seat.new.inner.me.0.found seat.old.inner.me.0) }
     {

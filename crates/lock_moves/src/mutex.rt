@@ -12,12 +12,8 @@ where
     R: Runtime + Abort + Threads + Send + Sync,
 {
     shared(rt, mutex);
-    let lock = mutex.lock();
-    shared(rt, &lock);
-    moved(rt, lock);
-    let guard = mutex.try_lock().expect(rt, "the mutex is free");
-    shared(rt, &guard);
-    moved(rt, guard);
+    moved(rt, mutex.lock());
+    moved(rt, mutex.try_lock().expect(rt, "the mutex is free"));
 }
 
 // Those that own a share of it.
@@ -25,15 +21,15 @@ fn owned<R>(rt: &R, mutex: &Arc<Mutex<u64, R>>)
 where
     R: Runtime + Abort + Threads + Send + Sync,
 {
-    let lock = Mutex::lock_arc(mutex);
-    shared(rt, &lock);
-    moved(rt, lock);
-    let guard = Mutex::try_lock_arc(mutex).expect(rt, "the mutex is free");
-    shared(rt, &guard);
-    moved(rt, guard);
+    moved(rt, Mutex::lock_arc(mutex));
+    moved(
+        rt,
+        Mutex::try_lock_arc(mutex).expect(rt, "the mutex is free"),
+    );
 }
 
-fn all<R>(rt: R)
+/// Shares the lock, and moves each.
+pub(crate) fn all<R>(rt: R)
 where
     R: Runtime + Abort + Threads + Send + Sync + Copy,
 {
@@ -43,9 +39,4 @@ where
     owned(&rt, &mutex);
     moved(&rt, mutex);
     moved(&rt, Mutex::new(rt, 0_u64).expect(&rt, AMPLE));
-}
-
-#[test]
-fn a_mutex_its_guards_and_futures_go_to_another_thread(rt: HostRuntime) {
-    all(rt);
 }

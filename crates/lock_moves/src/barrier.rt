@@ -10,24 +10,16 @@ where
     R: Runtime + Abort + Threads + Send + Sync,
 {
     shared(rt, barrier);
-    let wait = barrier.wait();
-    shared(rt, &wait);
-    moved(rt, wait);
+    moved(rt, barrier.wait());
 }
 
-fn all<R>(rt: R)
+/// Shares the lock, and moves each.
+pub(crate) fn all<R>(rt: R)
 where
     R: Runtime + Abort + Threads + Send + Sync + Copy,
 {
     let barrier = Barrier::new(rt, 1).expect(&rt, AMPLE);
     borrowed(&rt, &barrier);
-    let result = barrier.wait_blocking().expect(&rt, AMPLE);
-    shared(&rt, &result);
-    moved(&rt, result);
+    moved(&rt, barrier.wait_blocking().expect(&rt, AMPLE));
     moved(&rt, barrier);
-}
-
-#[test]
-fn a_barrier_and_its_future_go_to_another_thread(rt: HostRuntime) {
-    all(rt);
 }

@@ -12,12 +12,8 @@ where
     R: Runtime + Abort + Threads + Send + Sync,
 {
     shared(rt, semaphore);
-    let acquire = semaphore.acquire();
-    shared(rt, &acquire);
-    moved(rt, acquire);
-    let guard = semaphore.try_acquire().expect(rt, "one is available");
-    shared(rt, &guard);
-    moved(rt, guard);
+    moved(rt, semaphore.acquire());
+    moved(rt, semaphore.try_acquire().expect(rt, "one is available"));
 }
 
 // Those that own a share of it.
@@ -25,15 +21,15 @@ fn owned<R>(rt: &R, semaphore: &Arc<Semaphore<R>>)
 where
     R: Runtime + Abort + Threads + Send + Sync,
 {
-    let acquire = Semaphore::acquire_arc(semaphore);
-    shared(rt, &acquire);
-    moved(rt, acquire);
-    let guard = Semaphore::try_acquire_arc(semaphore).expect(rt, "one is available");
-    shared(rt, &guard);
-    moved(rt, guard);
+    moved(rt, Semaphore::acquire_arc(semaphore));
+    moved(
+        rt,
+        Semaphore::try_acquire_arc(semaphore).expect(rt, "one is available"),
+    );
 }
 
-fn all<R>(rt: R)
+/// Shares the lock, and moves each.
+pub(crate) fn all<R>(rt: R)
 where
     R: Runtime + Abort + Threads + Send + Sync + Copy,
 {
@@ -43,9 +39,4 @@ where
     owned(&rt, &semaphore);
     moved(&rt, semaphore);
     moved(&rt, Semaphore::new(rt, 1).expect(&rt, AMPLE));
-}
-
-#[test]
-fn a_semaphore_its_guards_and_futures_go_to_another_thread(rt: HostRuntime) {
-    all(rt);
 }
