@@ -1,11 +1,11 @@
 -- What is known of a list that is about to be given back.
 use Rattle.std.proofs.Common.{◌≡◌, ℕ, ◌<◌, ◌≤◌, ◌+◌, List, [], ◌∷◌, refl, sym, ap, ◌∙◌, subst, Result, Ok, Err, OnOk, OnErr, MatchResult}
 use Rattle.atomic_table.specs.Table.{Me, rest}
-use Rattle.lock_event.specs.declared.event.Asked.{Asked}
-use Rattle.lock_event.specs.declared.event.Asked.TheVariants.{Notified, Waiting, Unlisted}
 use Rattle.mutex_core.specs.Seats.{listing_of}
 use Rattle.mutex_core.specs.Steps.{Has, Says, IsHeld, IsSame, CanJoin, CanHear, CanPay, CanLeave, CanStay}
-use Rattle.mutex_core.specs.Asking.{ByAsk}
+use Rattle.mutex_core.specs.Asking.{ByHeard}
+use Rattle.mutex_core.specs.declared.heard.Heard.{Heard}
+use Rattle.mutex_core.specs.declared.heard.Heard.TheVariants.{Told, Waits}
 use Rattle.mutex_core.specs.declared.view.View.{View}
 
 module _ {S : Type 0} (len_of marked_of : S → ℕ) (m : Me S View) (held : IsHeld len_of marked_of m) where
@@ -58,11 +58,10 @@ module _ {S : Type 0} (len_of marked_of : S → ℕ) (m : Me S View) (held : IsH
     subst (λ (k : ℕ). 0 < len_of left → 0 < k → 0 < marked_of left) (marked-now now e) f.2,
   )
 
-  pub asks : {W : Type 0} (now left : S) (n : ℕ) (a : Asked W) → m.1 ≡ (0, now) ∷ rest m.1 → Says len_of left n → ByAsk a (len_of now ≤ len_of left + 1) ((len_of left ≡ len_of now) × (marked_of left ≡ marked_of now))
-      → ByAsk a (CanHear len_of marked_of (After left) n) (CanStay len_of marked_of (After left) n)
-  asks now left n (Notified kept unused) e says f = hears now left n e says f
-  asks now left n (Waiting kept) e says f = stays now left n e says f
-  asks now left n (Unlisted unused) e says f = hears now left n e says f
+  pub asks : {K : Type 0} (now left : S) (n : ℕ) (h : Heard K) → m.1 ≡ (0, now) ∷ rest m.1 → Says len_of left n → ByHeard h (len_of now ≤ len_of left + 1) (λ _. (len_of left ≡ len_of now) × (marked_of left ≡ marked_of now))
+      → ByHeard h (CanHear len_of marked_of (After left) n) (λ _. CanStay len_of marked_of (After left) n)
+  asks now left n (Told kept) e says f = hears now left n e says f
+  asks now left n (Waits k) e says f = stays now left n e says f
 
 -- the list is out now
 pub held_of : {S : Type 0} (len_of marked_of : S → ℕ) (m m' : Me S View) (list : S) → m' ≡ (listing_of (len_of list) (marked_of list) m.0, (0, list) ∷ m.1) → IsHeld len_of marked_of m' × IsSame m.0 m'.0 × (rest m'.1 ≡ m.1)

@@ -1,9 +1,7 @@
 -- What the rule says of a free lock.
-use Rattle.std.proofs.Common.{◌≡◌, ℕ, ◌+◌, ◌%◌, ◌<◌, ◌≤◌, get_or, false, sym, ◌∙◌, arith, ◌⊎◌, inl, inr, ⊎_elim}
-use mathlib.Core.Option.{some}
+use Rattle.std.proofs.Common.{◌≡◌, ℕ, ◌+◌, ◌<◌, ◌≤◌, sym, ◌∙◌, arith, ◌⊎◌, inl, inr, ⊎_elim}
 use mathlib.Core.Logic.{dite}
 use native.Mathlib.Decide.{ℕ_discrete}
-use lib.ListN.{get_elem?}
 use Rattle.atomic_table.specs.Table.{State}
 use Rattle.lock_place.specs.Held.{RoomId}
 use Rattle.words_base.specs.Sums.{number}

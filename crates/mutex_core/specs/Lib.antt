@@ -6,4 +6,5 @@ pub mod Steps
 pub mod Asking
 pub mod Entries
 pub mod Cells
-pub mod Turns
+pub mod Receipts
+pub mod Outcomes

@@ -13,14 +13,18 @@ pub record RightId : Type 0 where
 abbrev pub right_id_coded : Coded RightId
 right_id_coded = code_by (RoomId × ℕ) (coded× room_id_coded coded_ℕ) (λ l. (l.room, l.deed)) (λ p. record { room = p.0; deed = p.1 }) (λ _. refl)
 
--- A lock: its table, the right to its value, and how many may be starved.
+-- A lock: its table, the right to its value as the lock was made, where the value lies now, with which source its waiters register, how many may be
+-- starved, and whether a forgotten seat left it held, and its value was lent past that seat.
 pub record Lock : Type 0 where
   pub table : TableId
   pub right : RightId
+  pub room : RoomId
+  pub source : ℕ
   pub limit : ℕ
+  pub is_left : Bool
 
 abbrev pub lock_coded : Coded Lock
-lock_coded = code_by (TableId × (RightId × ℕ)) (coded× table_id_coded (coded× right_id_coded coded_ℕ)) (λ l. (l.table, (l.right, l.limit))) (λ p. record { table = p.0; right = p.1.0; limit = p.1.1 }) (λ _. refl)
+lock_coded = code_by (TableId × (RightId × (RoomId × (ℕ × (ℕ × Bool))))) (coded× table_id_coded (coded× right_id_coded (coded× room_id_coded (coded× coded_ℕ (coded× coded_ℕ coded_bool))))) (λ l. (l.table, (l.right, (l.room, (l.source, (l.limit, l.is_left)))))) (λ p. record { table = p.0; right = p.1.0; room = p.1.1.0; source = p.1.1.1.0; limit = p.1.1.1.1.0; is_left = p.1.1.1.1.1 }) (λ _. refl)
 
 -- A seat: of which table and right it is, whether it holds the lock, is counted as starved, owes, has an entry, and has not looked since it joined.
 pub record Seated : Type 0 where
@@ -86,3 +90,7 @@ with_count_owing s = record s { starved = true; owes = true }
 
 abbrev pub with_uncounted : Seated → Seated
 with_uncounted s = record s { starved = false }
+
+-- it holds the lock, and has and owes nothing else
+abbrev pub IsHolding : Seated → Type 0
+IsHolding s = (s.holds ≡ true) × (s.starved ≡ false) × (s.owes ≡ false) × (s.listed ≡ false) × (s.fresh ≡ false)

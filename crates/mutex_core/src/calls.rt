@@ -1,35 +1,35 @@
 //! The calls on the list.
 
-ghost use Rattle.std.specs.Prelude.{◌≡◌, true, false, OnOk, OnErr};
+ghost use Rattle.std.specs.Prelude.{◌≡◌, true, false, IfNone, IfOk, IfSome, OnOk, OnErr};
+ghost use Rattle.futures.specs.Task.{Keeps};
 ghost use Rattle.mutex_core.specs.Locks.{IsOf, with_joined, with_told, with_paid, with_gone};
+ghost use Rattle.mutex_core.specs.Receipts.{IsReceipt};
 
 use crate::cell::MOST;
-use crate::due::{Task, Wakes};
 use crate::list_steps::{
-    ask_again_in, ask_in, give_asked, join_in, leave_in, notify_in, take_out, wake_next,
+    ask_again_in, ask_in, give_asked, join_in, join_waking_in, leave_in, notify_in, take_out,
+    wake_next,
 };
 use crate::seat::Seat;
 use crate::steps::{LIST, NOTIFICATION, give_gone, give_joined, give_paid, give_same};
+use crate::whose::Whose;
 use crate::words::Words;
+use futures::task::Context;
 use lock_event::{EntryId, Memory};
 use std::sync::Wait;
 
-/// An entry that has joined, and the word that its list had then.
-#[derive(Clone, Copy)]
+/// An entry that has joined with a waker of its task, and the word that its list had then.
+#[derive(Drop)]
 pub(crate) struct Joined {
     pub(crate) id: EntryId,
-    pub(crate) word: u64,
+    pub(crate) whose: Whose,
+    word: u64,
 }
 
-impl<T, W: Wakes> Words<T, W> {
-    // Adds an entry at the back, with this waker. The seat has not looked yet then. [`Memory`] comes only if memory was refused, and nothing has
-    // changed then.
-    pub(crate) fn join<R: Wait>(
-        &self,
-        rt: &R,
-        seat: &mut Seat<T, W>,
-        waker: Option<W>,
-    ) -> Result<Joined, Memory>
+impl<T> Words<T> {
+    // Adds an entry at the back, with no waker. The seat has not looked yet then. [`Memory`] comes only if memory was refused, and nothing
+    // has changed then.
+    pub(crate) fn join<R: Wait>(&self, rt: &R, seat: &mut Seat<T>) -> Result<EntryId, Memory>
         requires of { IsOf self.now seat.old }
         requires away { (seat.old.listed ≡ false) × (seat.old.starved ≡ true → seat.old.owes ≡ true) }
         ensures joined { OnOk result (seat.new ≡ with_joined seat.old) }
@@ -37,12 +37,50 @@ impl<T, W: Wakes> Words<T, W> {
     {
         let shared = &self.table.shared;
         let found = take_out(shared, rt, &mut seat.inner);
-        let (joined, word) = join_in(shared, &mut seat.inner, self.alloc, waker, found);
+        let (joined, word) = join_in(shared, &mut seat.inner, self.alloc, found);
         match joined {
             Ok(id) => {
                 let found = give_joined(shared, &mut seat.inner, word);
                 wake_next(shared, found);
-                Ok(Joined { id, word })
+                Ok(id)
+            }
+            Err(memory) => {
+                let found = give_same(shared, &mut seat.inner, word);
+                wake_next(shared, found);
+                Err(memory)
+            }
+        }
+    }
+
+    // The same, with a waker of the task of `cx`.
+    pub(crate) fn join_waking<R: Wait>(
+        &self,
+        rt: &R,
+        seat: &mut Seat<T>,
+        cx: &mut Context<'_>,
+    ) -> Result<Joined, Memory>
+        requires of { IsOf self.now seat.old }
+        requires away { (seat.old.listed ≡ false) × (seat.old.starved ≡ true → seat.old.owes ≡ true) }
+        ensures joined { OnOk result (seat.new ≡ with_joined seat.old) }
+        ensures refused { OnErr result (seat.new ≡ seat.old) }
+        ensures keeps { IfOk result (λ joined. IsReceipt self.now.source cx.new joined.whose) }
+        ensures kept { Keeps cx.old cx.new }
+    {
+        let shared = &self.table.shared;
+        let found = take_out(shared, rt, &mut seat.inner);
+        let (joined, word) = join_waking_in(
+            shared,
+            &mut seat.inner,
+            self.alloc,
+            &self.source,
+            cx,
+            found,
+        );
+        match joined {
+            Ok((id, whose)) => {
+                let found = give_joined(shared, &mut seat.inner, word);
+                wake_next(shared, found);
+                Ok(Joined { id, whose, word })
             }
             Err(memory) => {
                 let found = give_same(shared, &mut seat.inner, word);
@@ -53,7 +91,8 @@ impl<T, W: Wakes> Words<T, W> {
     }
 
     // Notifies the first who waits, unless one is notified. The seat owes nothing any more.
-    pub(crate) fn notify<R: Wait>(&self, rt: &R, seat: &mut Seat<T, W>)
+    #[inline(never)]
+    pub(crate) fn notify<R: Wait>(&self, rt: &R, seat: &mut Seat<T>)
         requires of { IsOf self.now seat.old }
         requires stands { seat.old.starved ≡ true → (seat.old.listed ≡ true) × (seat.old.fresh ≡ false) }
         ensures { seat.new ≡ with_paid seat.old }
@@ -67,7 +106,7 @@ impl<T, W: Wakes> Words<T, W> {
     }
 
     // An entry leaves without asking: a notification that it had goes on to the next.
-    pub(crate) fn leave<R: Wait>(&self, rt: &R, seat: &mut Seat<T, W>, id: EntryId)
+    pub(crate) fn leave<R: Wait>(&self, rt: &R, seat: &mut Seat<T>, id: EntryId)
         requires of { IsOf self.now seat.old }
         requires stands { (seat.old.listed ≡ true) × (seat.old.fresh ≡ false) × (seat.old.starved ≡ false) }
         ensures { seat.new ≡ with_gone seat.old }
@@ -81,50 +120,50 @@ impl<T, W: Wakes> Words<T, W> {
         drop(due.pay());
     }
 
-    // Asks for the notification of an entry. One that waits keeps a waker of this task. Notified, it has left the list, and the seat owes.
-    pub(crate) fn ask<R: Wait, K: Task<W>>(
+    // Asks for the notification of an entry. One that waits keeps a waker of the task of `cx`, which is answered. Notified, it has left the
+    // list, and the seat owes.
+    pub(crate) fn ask<R: Wait>(
         &self,
         rt: &R,
-        seat: &mut Seat<T, W>,
+        seat: &mut Seat<T>,
         id: EntryId,
-        task: &mut K,
-    ) -> bool
+        cx: &mut Context<'_>,
+    ) -> Option<Whose>
         requires of { IsOf self.now seat.old }
         requires stands { (seat.old.listed ≡ true) × (seat.old.fresh ≡ false) }
-        ensures told { result ≡ true → seat.new ≡ with_told seat.old }
-        ensures waits { result ≡ false → seat.new ≡ seat.old }
+        ensures told { IfNone result ((seat.new ≡ with_told seat.old) × (cx.new ≡ cx.old)) }
+        ensures waits { IfSome result (λ whose. (seat.new ≡ seat.old) × IsReceipt self.now.source cx.new whose) }
+        ensures kept { Keeps cx.old cx.new }
     {
         let shared = &self.table.shared;
         let found = take_out(shared, rt, &mut seat.inner);
-        let (asked, word) = ask_in(shared, &mut seat.inner, id, task, found);
-        give_asked(shared, &mut seat.inner, asked, word)
+        let (heard, word) = ask_in(shared, &mut seat.inner, id, &self.source, cx, found);
+        give_asked(shared, &mut seat.inner, heard, word)
     }
 
-    // The same, of an entry that keeps the waker that it has.
-    pub(crate) fn ask_again<R: Wait>(&self, rt: &R, seat: &mut Seat<T, W>, id: EntryId) -> bool
+    // The same, of an entry that keeps the waker that it has: whether it waits.
+    #[cold]
+    #[inline(never)]
+    fn ask_again<R: Wait>(&self, rt: &R, seat: &mut Seat<T>, id: EntryId) -> bool
         requires of { IsOf self.now seat.old }
         requires stands { (seat.old.listed ≡ true) × (seat.old.fresh ≡ false) }
-        ensures told { result ≡ true → seat.new ≡ with_told seat.old }
-        ensures waits { result ≡ false → seat.new ≡ seat.old }
+        ensures told { result ≡ false → seat.new ≡ with_told seat.old }
+        ensures waits { result ≡ true → seat.new ≡ seat.old }
     {
         let shared = &self.table.shared;
         let found = take_out(shared, rt, &mut seat.inner);
-        let (asked, word) = ask_again_in(shared, &mut seat.inner, id, found);
-        give_asked(shared, &mut seat.inner, asked, word)
+        let (heard, word) = ask_again_in(shared, &mut seat.inner, id, found);
+        give_asked(shared, &mut seat.inner, heard, word).is_some()
     }
 
-    // Asks for the notification of an entry that has joined with a waker: one load, where the list was not notified since.
-    pub(crate) fn ask_joined<R: Wait>(&self, rt: &R, seat: &mut Seat<T, W>, joined: Joined) -> bool
+    // Whether an entry waits that has joined with a waker: one load, where the list was not notified since. Else it asks for its notification.
+    pub(crate) fn still_waits<R: Wait>(&self, rt: &R, seat: &mut Seat<T>, joined: &Joined) -> bool
         requires of { IsOf self.now seat.old }
         requires stands { (seat.old.listed ≡ true) × (seat.old.fresh ≡ false) }
-        ensures told { result ≡ true → seat.new ≡ with_told seat.old }
-        ensures waits { result ≡ false → seat.new ≡ seat.old }
+        ensures told { result ≡ false → seat.new ≡ with_told seat.old }
+        ensures waits { result ≡ true → seat.new ≡ seat.old }
     {
-        let Joined { id, word } = joined;
-        if self.is_still(word) {
-            return false;
-        }
-        self.ask_again(rt, seat, id)
+        self.is_still(joined.word) || self.ask_again(rt, seat, joined.id)
     }
 
     // Whether the list was not notified since its word was this.

@@ -1,17 +1,23 @@
 //! What lies in a slot of a mutex's table.
 
-ghost use Rattle.std.specs.Prelude.{◌≡◌, ◌<◌, ◌%◌, [], IsSome, OnOk, OnErr, true, length};
-ghost use Rattle.lock_event.specs.Lists.{marked_count};
-ghost use Rattle.mutex_core.specs.Asking.{ByAsk};
+ghost use Rattle.std.specs.Prelude.{◌≡◌, ◌<◌, ◌%◌, [], IfOk, IsSome, OnOk, OnErr, true, false, length};
+ghost use Rattle.futures.specs.Task.{Keeps};
+ghost use Rattle.lock_event.specs.Lists.{is_waiting_at, marked_count};
+ghost use Rattle.lock_event.specs.Slots.{has_id};
+ghost use Rattle.mutex_core.specs.Asking.{ByHeard};
 ghost use Rattle.mutex_core.specs.Cells.{entries_of};
 ghost use Rattle.mutex_core.specs.Entries.{HasJoined, HasLeft, HasShrunk, IsSameSize, IsTold};
+ghost use Rattle.mutex_core.specs.Receipts.{KeepsAt, IsReceipt};
 ghost use Rattle.mutex_core.specs.Rule.{SaysEmpty};
 
-use crate::due::{Due, Task, Wakes};
+use crate::due::Due;
+use crate::heard::Heard;
 use crate::list;
 use crate::rule::Content;
 use crate::steps::{ENTRIES, NOTIFICATION};
-use lock_event::{Asked, EntryId, Event, Memory};
+use crate::whose::Whose;
+use futures::task::{Context, Source, Waker};
+use lock_event::{EntryId, Event, Memory};
 use lock_place::{Rested, Spare};
 use std::alloc::Global;
 
@@ -20,12 +26,12 @@ pub(crate) const MOST: u64 = 2_305_843_009_213_693_951;
 
 /// What lies in a slot of a mutex's table: its waiting list, which is made when somebody first joins, or the right to its value. One of
 /// the two is nothing.
-pub struct Cell<T, W> {
+pub struct Cell<T> {
     pub(crate) right: Rested<T>,
-    pub(crate) entries: Option<Box<Event<W>>>,
+    pub(crate) entries: Option<Box<Event<Waker>>>,
 }
 
-impl<T, W: Drop> Drop for Cell<T, W> {
+impl<T> Drop for Cell<T> {
     fn drop(self) {
         let Cell {
             right: _,
@@ -34,7 +40,7 @@ impl<T, W: Drop> Drop for Cell<T, W> {
     }
 }
 
-impl<T, W> Content for Cell<T, W> {
+impl<T> Content for Cell<T> {
     ghost use Rattle.std.specs.Prelude.{length};
     ghost use Rattle.lock_event.specs.Lists.{marked_count};
     ghost use Rattle.lock_place.specs.Rested.{IsRight};
@@ -47,9 +53,9 @@ impl<T, W> Content for Cell<T, W> {
     ghost is_right = { λ room deed cell. IsRight room deed cell.right };
 }
 
-impl<T, W> Cell<T, W> {
+impl<T> Cell<T> {
     // A list that nobody has joined.
-    pub(crate) fn list(spare: &Spare<T>) -> Cell<T, W>
+    pub(crate) fn list(spare: &Spare<T>) -> Cell<T>
         ensures { entries_of result ≡ [] }
     {
         Cell {
@@ -59,7 +65,7 @@ impl<T, W> Cell<T, W> {
     }
 
     // Where the right rests.
-    pub(crate) fn of(right: Rested<T>) -> Cell<T, W>
+    pub(crate) fn of(right: Rested<T>) -> Cell<T>
         ensures { result.right ≡ right }
     {
         Cell {
@@ -67,9 +73,7 @@ impl<T, W> Cell<T, W> {
             entries: None,
         }
     }
-}
 
-impl<T, W: Wakes> Cell<T, W> {
     // The right that rests there.
     pub(crate) fn into_right(self) -> Rested<T>
         ensures { result ≡ self.right }
@@ -93,30 +97,65 @@ impl<T, W: Wakes> Cell<T, W> {
         Ok(())
     }
 
-    fn join_made(&mut self, waker: Option<W>) -> Result<EntryId, Memory>
+    fn join_made(&mut self) -> Result<EntryId, Memory>
         requires { IsSome self.old.entries }
         ensures joined { OnOk result (HasJoined (entries_of self.old) (entries_of self.new)) }
         ensures refused { OnErr result (entries_of self.new ≡ entries_of self.old) }
     {
         match &mut self.entries {
-            Some(event) => list::join(event, waker),
+            Some(event) => list::join(event),
             None => unreachable!(),
         }
     }
 
-    // An entry joins at the back, with this waker.
-    pub(crate) fn join(&mut self, alloc: Global, waker: Option<W>) -> Result<EntryId, Memory>
+    // An entry joins at the back, with no waker.
+    pub(crate) fn join(&mut self, alloc: Global) -> Result<EntryId, Memory>
         ensures joined { OnOk result (HasJoined (entries_of self.old) (entries_of self.new)) }
         ensures refused { OnErr result (IsSameSize (entries_of self.old) (entries_of self.new)) }
     {
         match self.make(alloc) {
-            Ok(()) => self.join_made(waker),
+            Ok(()) => self.join_made(),
+            Err(memory) => Err(memory),
+        }
+    }
+
+    fn join_waking_made(
+        &mut self,
+        source: &Source,
+        cx: &mut Context<'_>,
+    ) -> Result<(EntryId, Whose), Memory>
+        requires { IsSome self.old.entries }
+        ensures joined { OnOk result (HasJoined (entries_of self.old) (entries_of self.new)) }
+        ensures refused { OnErr result (entries_of self.new ≡ entries_of self.old) }
+        ensures keeps { IfOk result (λ joined. KeepsAt joined.0 joined.1 (entries_of self.new) × IsReceipt source.now.id cx.new joined.1) }
+        ensures kept { Keeps cx.old cx.new }
+    {
+        match &mut self.entries {
+            Some(event) => list::join_waking(event, source, cx),
+            None => unreachable!(),
+        }
+    }
+
+    // An entry joins at the back, with a waker of the task of `cx`, which registers with `source`.
+    pub(crate) fn join_waking(
+        &mut self,
+        alloc: Global,
+        source: &Source,
+        cx: &mut Context<'_>,
+    ) -> Result<(EntryId, Whose), Memory>
+        ensures joined { OnOk result (HasJoined (entries_of self.old) (entries_of self.new)) }
+        ensures refused { OnErr result (IsSameSize (entries_of self.old) (entries_of self.new)) }
+        ensures keeps { IfOk result (λ joined. KeepsAt joined.0 joined.1 (entries_of self.new) × IsReceipt source.now.id cx.new joined.1) }
+        ensures kept { Keeps cx.old cx.new }
+    {
+        match self.make(alloc) {
+            Ok(()) => self.join_waking_made(source, cx),
             Err(memory) => Err(memory),
         }
     }
 
     // Notifies the first who waits, unless one is notified: the waker that is due.
-    pub(crate) fn notify(&mut self) -> Due<W>
+    pub(crate) fn notify(&mut self) -> Due
         ensures { IsTold (entries_of self.old) (entries_of self.new) }
     {
         let due = match &mut self.entries {
@@ -127,7 +166,7 @@ impl<T, W: Wakes> Cell<T, W> {
     }
 
     // An entry leaves: what it kept, and the waker that is due.
-    pub(crate) fn leave(&mut self, id: EntryId) -> (Option<W>, Due<W>)
+    pub(crate) fn leave(&mut self, id: EntryId) -> (Option<Waker>, Due)
         ensures { HasLeft (entries_of self.old) (entries_of self.new) }
     {
         let (kept, due) = match &mut self.entries {
@@ -137,23 +176,27 @@ impl<T, W: Wakes> Cell<T, W> {
         (kept, Due::of(due))
     }
 
-    // An entry asks for its notification. One that waits keeps a waker of this task.
-    pub(crate) fn ask<K: Task<W>>(&mut self, id: EntryId, task: &mut K) -> Asked<W>
-        ensures { ByAsk result (HasShrunk (entries_of self.old) (entries_of self.new)) (IsSameSize (entries_of self.old) (entries_of self.new)) }
+    // An entry asks for its notification. One that waits keeps a waker of the task of `cx`, which registers with `source`.
+    pub(crate) fn ask(&mut self, id: EntryId, source: &Source, cx: &mut Context<'_>) -> Heard<Whose>
+        ensures answer { ByHeard result (is_waiting_at (has_id id) (entries_of self.old) ≡ false) (λ _. is_waiting_at (has_id id) (entries_of self.old) ≡ true) }
+        ensures asked { ByHeard result (HasShrunk (entries_of self.old) (entries_of self.new)) (λ _. IsSameSize (entries_of self.old) (entries_of self.new)) }
+        ensures waits { ByHeard result (cx.new ≡ cx.old) (λ whose. KeepsAt id whose (entries_of self.new) × IsReceipt source.now.id cx.new whose) }
+        ensures kept { Keeps cx.old cx.new }
     {
         match &mut self.entries {
-            Some(event) => list::ask(event, id, task),
-            None => Asked::Unlisted { unused: None },
+            Some(event) => list::ask(event, id, source, cx),
+            None => Heard::Told(None),
         }
     }
 
     // The same, of an entry that keeps what it has.
-    pub(crate) fn ask_again(&mut self, id: EntryId) -> Asked<W>
-        ensures { ByAsk result (HasShrunk (entries_of self.old) (entries_of self.new)) (IsSameSize (entries_of self.old) (entries_of self.new)) }
+    pub(crate) fn ask_again(&mut self, id: EntryId) -> Heard<()>
+        ensures answer { ByHeard result (is_waiting_at (has_id id) (entries_of self.old) ≡ false) (λ _. is_waiting_at (has_id id) (entries_of self.old) ≡ true) }
+        ensures asked { ByHeard result (HasShrunk (entries_of self.old) (entries_of self.new)) (λ _. IsSameSize (entries_of self.old) (entries_of self.new)) }
     {
         match &mut self.entries {
             Some(event) => list::ask_again(event, id),
-            None => Asked::Unlisted { unused: None },
+            None => Heard::Told(None),
         }
     }
 

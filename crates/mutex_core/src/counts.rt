@@ -1,6 +1,6 @@
 //! Counts of starved seats, tried until nobody comes between.
 
-ghost use Rattle.std.specs.Prelude.{◌≡◌, ◌≤◌, true, false};
+ghost use Rattle.std.specs.Prelude.{◌≡◌, ◌≤◌, true, false, IfErr, OnErr, OnOk};
 ghost use Rattle.mutex_core.specs.Seats.{counted_listed_of, counted_unlisted_of};
 
 use crate::rule::Content;
@@ -9,27 +9,44 @@ use crate::view::View;
 use atomic_table::Seat as TableSeat;
 use std::sync::Wait;
 
-// Counts a seat as starved that has an entry and has looked. False comes where as many are starved as may be.
+/// A look found as many starved as may be. It is made of such a look alone.
+#[derive(Clone, Copy, PartialEq, Eq)]
+pub struct Full {
+    starved: u64,
+}
+
+impl Full {
+    /// Returns how many the look found.
+    pub fn starved(self) -> u64
+        ensures { result ≡ self.starved }
+    {
+        self.starved
+    }
+}
+
+// Counts a seat as starved that has an entry and has looked.
 pub(crate) fn tally_listed<T, S: Content, R: Wait>(
     shared: &Ruled<T, S>,
     rt: &R,
     inner: &mut TableSeat<S, View>,
     limit: u64,
-) -> bool
+) -> Result<(), Full>
     requires table { (inner.old.table_id ≡ shared.now.table_id) × (shared.now.table_id.words ≡ 2) }
     requires limit { limit ≤ 1073741823 }
     requires waits { (inner.old.me.0.starved ≡ false) × (inner.old.me.0.listed ≡ true) × (inner.old.me.0.fresh ≡ false) }
     ensures table { inner.new.table_id ≡ inner.old.table_id }
-    ensures counted { result ≡ true → inner.new.me ≡ (counted_listed_of inner.old.me.0, inner.old.me.1) }
-    ensures not { result ≡ false → inner.new.me ≡ inner.old.me }
+    ensures counted { OnOk result (inner.new.me ≡ (counted_listed_of inner.old.me.0, inner.old.me.1)) }
+    ensures not { OnErr result (inner.new.me ≡ inner.old.me) }
+    ensures limit { IfErr result (λ full. limit ≤ full.starved) }
 {
     for _ in rt.forever() {
         let found = read(shared, inner);
-        if found / COUNT >= limit {
-            return false;
+        let starved = found / COUNT;
+        if starved >= limit {
+            return Err(Full { starved });
         }
         if count_listed(shared, inner, found) == found {
-            return true;
+            return Ok(());
         }
     }
     unreachable!()
@@ -41,21 +58,23 @@ pub(crate) fn tally<T, S: Content, R: Wait>(
     rt: &R,
     inner: &mut TableSeat<S, View>,
     limit: u64,
-) -> bool
+) -> Result<(), Full>
     requires table { (inner.old.table_id ≡ shared.now.table_id) × (shared.now.table_id.words ≡ 2) }
     requires limit { limit ≤ 1073741823 }
     requires waits { inner.old.me.0.starved ≡ false }
     ensures table { inner.new.table_id ≡ inner.old.table_id }
-    ensures counted { result ≡ true → inner.new.me ≡ (counted_unlisted_of inner.old.me.0, inner.old.me.1) }
-    ensures not { result ≡ false → inner.new.me ≡ inner.old.me }
+    ensures counted { OnOk result (inner.new.me ≡ (counted_unlisted_of inner.old.me.0, inner.old.me.1)) }
+    ensures not { OnErr result (inner.new.me ≡ inner.old.me) }
+    ensures limit { IfErr result (λ full. limit ≤ full.starved) }
 {
     for _ in rt.forever() {
         let found = read(shared, inner);
-        if limit <= found / COUNT {
-            return false;
+        let starved = found / COUNT;
+        if limit <= starved {
+            return Err(Full { starved });
         }
         if count_unlisted(shared, inner, found) == found {
-            return true;
+            return Ok(());
         }
     }
     unreachable!()

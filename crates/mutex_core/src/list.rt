@@ -1,26 +1,48 @@
 //! What is done to the list's entries while the list is out.
 
-ghost use Rattle.std.specs.Prelude.{◌≡◌, false, OnErr, IfOk, OnOk};
-ghost use Rattle.lock_event.specs.Lists.{is_listed, is_marked_at, joined, marked_count};
-ghost use Rattle.lock_event.specs.Slots.{has_id, slot_of};
-ghost use Rattle.mutex_core.specs.Asking.{ByAsk};
+ghost use Rattle.std.specs.Prelude.{◌≡◌, true, false, OnErr, IfOk, OnOk, None};
+ghost use Rattle.futures.specs.Task.{Keeps};
+ghost use Rattle.lock_event.specs.Lists.{is_waiting_at};
+ghost use Rattle.lock_event.specs.Slots.{has_id};
+ghost use Rattle.mutex_core.specs.Asking.{ByHeard};
 ghost use Rattle.mutex_core.specs.Entries.{HasJoined, HasLeft, HasShrunk, IsSameSize, IsTold};
+ghost use Rattle.mutex_core.specs.Receipts.{KeepsAt, IsReceipt};
 
-use crate::due::Task;
+use crate::heard::Heard;
+use crate::whose::Whose;
+use futures::task::{Context, Poll, Source, Waker};
 use lock_event::{Asked, EntryId, Event, Memory};
 
-// An entry joins at the back, with this waker.
-pub(crate) fn join<W: Drop>(event: &mut Event<W>, waker: Option<W>) -> Result<EntryId, Memory>
+// An entry joins at the back, with no waker.
+pub(crate) fn join(event: &mut Event<Waker>) -> Result<EntryId, Memory>
     ensures joined { OnOk result (HasJoined event.old.entries event.new.entries) }
     ensures refused { OnErr result (event.new.entries ≡ event.old.entries) }
 {
+    event.listen()
+}
+
+// An entry joins at the back, with a waker of the task of `cx`, which registers with `source`.
+#[inline(always)]
+pub(crate) fn join_waking(
+    event: &mut Event<Waker>,
+    source: &Source,
+    cx: &mut Context<'_>,
+) -> Result<(EntryId, Whose), Memory>
+    ensures joined { OnOk result (HasJoined event.old.entries event.new.entries) }
+    ensures refused { OnErr result (event.new.entries ≡ event.old.entries) }
+    ensures keeps { IfOk result (λ joined. KeepsAt joined.0 joined.1 event.new.entries × IsReceipt source.now.id cx.new joined.1) }
+    ensures kept { Keeps cx.old cx.new }
+{
     let id = event.listen()?;
-    drop(event.ask(id, waker));
-    Ok(id)
+    let Some(slot) = event.waker_mut(id) else {
+        unreachable!()
+    };
+    let _: Poll<()> = cx.register(source, slot);
+    Ok((id, Whose::of(slot)))
 }
 
 // Notifies the first who waits, unless one is notified: the waker that is due.
-pub(crate) fn notify<W: Drop>(event: &mut Event<W>) -> Option<W>
+pub(crate) fn notify(event: &mut Event<Waker>) -> Option<Waker>
     ensures { IsTold event.old.entries event.new.entries }
 {
     event.notify(1);
@@ -28,33 +50,53 @@ pub(crate) fn notify<W: Drop>(event: &mut Event<W>) -> Option<W>
 }
 
 // An entry leaves: what it kept, and the waker that is due.
-pub(crate) fn leave<W: Drop>(event: &mut Event<W>, id: EntryId) -> (Option<W>, Option<W>)
+pub(crate) fn leave(event: &mut Event<Waker>, id: EntryId) -> (Option<Waker>, Option<Waker>)
     ensures { HasLeft event.old.entries event.new.entries }
 {
     let kept = event.withdraw(id);
     (kept, event.next_waker())
 }
 
-// An entry asks for its notification. One that waits keeps a waker of this task.
-pub(crate) fn ask<W: Drop, K: Task<W>>(event: &mut Event<W>, id: EntryId, task: &mut K) -> Asked<W>
-    ensures { ByAsk result (HasShrunk event.old.entries event.new.entries) (IsSameSize event.old.entries event.new.entries) }
+// An entry asks for its notification. One that waits keeps a waker of the task of `cx`, which registers with `source`.
+#[inline(always)]
+pub(crate) fn ask(
+    event: &mut Event<Waker>,
+    id: EntryId,
+    source: &Source,
+    cx: &mut Context<'_>,
+) -> Heard<Whose>
+    ensures answer { ByHeard result (is_waiting_at (has_id id) event.old.entries ≡ false) (λ _. is_waiting_at (has_id id) event.old.entries ≡ true) }
+    ensures asked { ByHeard result (HasShrunk event.old.entries event.new.entries) (λ _. IsSameSize event.old.entries event.new.entries) }
+    ensures waits { ByHeard result (cx.new ≡ cx.old) (λ whose. KeepsAt id whose event.new.entries × IsReceipt source.now.id cx.new whose) }
+    ensures kept { Keeps cx.old cx.new }
 {
-    match event.ask(id, None) {
-        Asked::Waiting { kept } => {
-            let mut waker = kept;
-            task.register(&mut waker);
-            event.ask(id, waker)
-        }
-        told => told,
+    if let Some(slot) = event.waker_mut(id) {
+        let _: Poll<()> = cx.register(source, slot);
+        return Heard::Waits(Whose::of(slot));
     }
+    Heard::Told(told(event, id))
 }
 
-// The same, of an entry that keeps what it has.
-pub(crate) fn ask_again<W: Drop>(event: &mut Event<W>, id: EntryId) -> Asked<W>
-    ensures { ByAsk result (HasShrunk event.old.entries event.new.entries) (IsSameSize event.old.entries event.new.entries) }
+// The same, of an entry that keeps the waker that it has.
+pub(crate) fn ask_again(event: &mut Event<Waker>, id: EntryId) -> Heard<()>
+    ensures answer { ByHeard result (is_waiting_at (has_id id) event.old.entries ≡ false) (λ _. is_waiting_at (has_id id) event.old.entries ≡ true) }
+    ensures asked { ByHeard result (HasShrunk event.old.entries event.new.entries) (λ _. IsSameSize event.old.entries event.new.entries) }
 {
     if event.is_waiting(id) {
-        return Asked::Waiting { kept: None };
+        return Heard::Waits(());
     }
-    event.ask(id, None)
+    Heard::Told(told(event, id))
+}
+
+// An entry that doesn't wait leaves the list, if it is there: what it kept.
+#[inline(never)]
+fn told(event: &mut Event<Waker>, id: EntryId) -> Option<Waker>
+    requires { is_waiting_at (has_id id) event.old.entries ≡ false }
+    ensures { HasShrunk event.old.entries event.new.entries }
+{
+    match event.ask(id, None) {
+        Asked::Notified { kept, .. } => kept,
+        Asked::Unlisted { .. } => None,
+        Asked::Waiting { .. } => unreachable!(),
+    }
 }

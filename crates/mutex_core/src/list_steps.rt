@@ -1,29 +1,35 @@
 //! The list, taken out of its place and given back.
 
-ghost use Rattle.std.specs.Prelude.{◌≡◌, true, false, MatchResult};
+ghost use Rattle.std.specs.Prelude.{◌≡◌, true, false, ⊤, IfNone, IfOk, IfSome, MatchResult};
+ghost use Rattle.futures.specs.Task.{Keeps};
 ghost use Rattle.atomic_table.specs.Table.{rest};
 ghost use Rattle.mutex_core.specs.Cells.{cell_len, cell_marked};
 ghost use Rattle.mutex_core.specs.Steps.{IsHeld, IsSame, CanJoin, CanHear, CanPay, CanLeave, CanStay};
-ghost use Rattle.mutex_core.specs.Asking.{ByAsk};
+ghost use Rattle.mutex_core.specs.Asking.{ByHeard};
+ghost use Rattle.mutex_core.specs.Receipts.{IsReceipt};
 ghost use Rattle.mutex_core.specs.Seats.{told_of, back};
+ghost use Rattle.mutex_core.specs.declared.heard.Heard.TheVariants as heard_as;
 
 use crate::cell::Cell;
-use crate::due::{Due, Task, Wakes};
+use crate::due::Due;
+use crate::heard::Heard;
 use crate::rule::Content;
 use crate::steps::{
     ASLEEP, ENTRIES, LIST, LIST_SLOT, OUT, Ruled, give_same, give_told, grab, grab_asleep,
 };
 use crate::view::View;
+use crate::whose::Whose;
 use atomic_table::Seat as TableSeat;
-use lock_event::{Asked, EntryId, Memory};
+use futures::task::{Context, Source, Waker};
+use lock_event::{EntryId, Memory};
 use std::alloc::Global;
 use std::sync::Wait;
 
-/// The tables of mutexes over a `T`, whose waiters are woken by a `W`.
-pub(crate) type Listing<T, W> = Ruled<T, Cell<T, W>>;
+/// The tables of mutexes over a `T`.
+pub(crate) type Listing<T> = Ruled<T, Cell<T>>;
 
 /// The seats of those tables.
-pub(crate) type Lister<T, W> = TableSeat<Cell<T, W>, View>;
+pub(crate) type Lister<T> = TableSeat<Cell<T>, View>;
 
 // Takes the list out, and waits while another has it. What is returned is the word that was found.
 #[inline]
@@ -86,11 +92,10 @@ pub(crate) fn wake_next<T, S: Content>(shared: &Ruled<T, S>, found: u64)
 
 // What is done to the list while it is out, in whose word `found` stood: what is to stand there comes last.
 
-pub(crate) fn join_in<T, W: Wakes>(
-    shared: &Listing<T, W>,
-    inner: &mut Lister<T, W>,
+pub(crate) fn join_in<T>(
+    shared: &Listing<T>,
+    inner: &mut Lister<T>,
     alloc: Global,
-    waker: Option<W>,
     found: u64,
 ) -> (Result<EntryId, Memory>, u64)
     requires table { inner.old.table_id ≡ shared.now.table_id }
@@ -101,16 +106,35 @@ pub(crate) fn join_in<T, W: Wakes>(
     ensures ready { MatchResult result.0 (λ _. CanJoin cell_len cell_marked inner.new.me result.1) (λ _. CanStay cell_len cell_marked inner.new.me result.1) }
 {
     let list = inner.slot_mut(shared, LIST_SLOT);
-    let joined = list.join(alloc, waker);
+    let joined = list.join(alloc);
     let says = list.says(found, false);
     (joined, says)
 }
 
-pub(crate) fn notify_in<T, W: Wakes>(
-    shared: &Listing<T, W>,
-    inner: &mut Lister<T, W>,
+pub(crate) fn join_waking_in<T>(
+    shared: &Listing<T>,
+    inner: &mut Lister<T>,
+    alloc: Global,
+    source: &Source,
+    cx: &mut Context<'_>,
     found: u64,
-) -> (Due<W>, u64)
+) -> (Result<(EntryId, Whose), Memory>, u64)
+    requires table { inner.old.table_id ≡ shared.now.table_id }
+    requires held { IsHeld cell_len cell_marked inner.old.me }
+    ensures table { inner.new.table_id ≡ inner.old.table_id }
+    ensures view { inner.new.me.0 ≡ inner.old.me.0 }
+    ensures others { rest inner.new.me.1 ≡ rest inner.old.me.1 }
+    ensures ready { MatchResult result.0 (λ _. CanJoin cell_len cell_marked inner.new.me result.1) (λ _. CanStay cell_len cell_marked inner.new.me result.1) }
+    ensures keeps { IfOk result.0 (λ joined. IsReceipt source.now.id cx.new joined.1) }
+    ensures kept { Keeps cx.old cx.new }
+{
+    let list = inner.slot_mut(shared, LIST_SLOT);
+    let joined = list.join_waking(alloc, source, cx);
+    let says = list.says(found, false);
+    (joined, says)
+}
+
+pub(crate) fn notify_in<T>(shared: &Listing<T>, inner: &mut Lister<T>, found: u64) -> (Due, u64)
     requires table { inner.old.table_id ≡ shared.now.table_id }
     requires held { IsHeld cell_len cell_marked inner.old.me }
     ensures table { inner.new.table_id ≡ inner.old.table_id }
@@ -124,12 +148,12 @@ pub(crate) fn notify_in<T, W: Wakes>(
     (due, says)
 }
 
-pub(crate) fn leave_in<T, W: Wakes>(
-    shared: &Listing<T, W>,
-    inner: &mut Lister<T, W>,
+pub(crate) fn leave_in<T>(
+    shared: &Listing<T>,
+    inner: &mut Lister<T>,
     id: EntryId,
     found: u64,
-) -> (Option<W>, Due<W>, u64)
+) -> (Option<Waker>, Due, u64)
     requires table { inner.old.table_id ≡ shared.now.table_id }
     requires held { IsHeld cell_len cell_marked inner.old.me }
     ensures table { inner.new.table_id ≡ inner.old.table_id }
@@ -144,77 +168,73 @@ pub(crate) fn leave_in<T, W: Wakes>(
     (kept, due, says)
 }
 
-pub(crate) fn ask_in<T, W: Wakes, K: Task<W>>(
-    shared: &Listing<T, W>,
-    inner: &mut Lister<T, W>,
+pub(crate) fn ask_in<T>(
+    shared: &Listing<T>,
+    inner: &mut Lister<T>,
     id: EntryId,
-    task: &mut K,
+    source: &Source,
+    cx: &mut Context<'_>,
     found: u64,
-) -> (Asked<W>, u64)
+) -> (Heard<Whose>, u64)
     requires table { inner.old.table_id ≡ shared.now.table_id }
     requires held { IsHeld cell_len cell_marked inner.old.me }
     ensures table { inner.new.table_id ≡ inner.old.table_id }
     ensures view { inner.new.me.0 ≡ inner.old.me.0 }
     ensures others { rest inner.new.me.1 ≡ rest inner.old.me.1 }
-    ensures ready { ByAsk result.0 (CanHear cell_len cell_marked inner.new.me result.1) (CanStay cell_len cell_marked inner.new.me result.1) }
+    ensures ready { ByHeard result.0 (CanHear cell_len cell_marked inner.new.me result.1) (λ _. CanStay cell_len cell_marked inner.new.me result.1) }
+    ensures waits { ByHeard result.0 (cx.new ≡ cx.old) (IsReceipt source.now.id cx.new) }
+    ensures kept { Keeps cx.old cx.new }
 {
     let list = inner.slot_mut(shared, LIST_SLOT);
-    let asked = list.ask(id, task);
+    let heard = list.ask(id, source, cx);
     let says = list.says(found, false);
-    (asked, says)
+    (heard, says)
 }
 
-pub(crate) fn ask_again_in<T, W: Wakes>(
-    shared: &Listing<T, W>,
-    inner: &mut Lister<T, W>,
+pub(crate) fn ask_again_in<T>(
+    shared: &Listing<T>,
+    inner: &mut Lister<T>,
     id: EntryId,
     found: u64,
-) -> (Asked<W>, u64)
+) -> (Heard<()>, u64)
     requires table { inner.old.table_id ≡ shared.now.table_id }
     requires held { IsHeld cell_len cell_marked inner.old.me }
     ensures table { inner.new.table_id ≡ inner.old.table_id }
     ensures view { inner.new.me.0 ≡ inner.old.me.0 }
     ensures others { rest inner.new.me.1 ≡ rest inner.old.me.1 }
-    ensures ready { ByAsk result.0 (CanHear cell_len cell_marked inner.new.me result.1) (CanStay cell_len cell_marked inner.new.me result.1) }
+    ensures ready { ByHeard result.0 (CanHear cell_len cell_marked inner.new.me result.1) (λ _. CanStay cell_len cell_marked inner.new.me result.1) }
 {
     let list = inner.slot_mut(shared, LIST_SLOT);
-    let asked = list.ask_again(id);
+    let heard = list.ask_again(id);
     let says = list.says(found, false);
-    (asked, says)
+    (heard, says)
 }
 
-// Gives the list back that an entry has asked, with this word: whether it was notified. What it kept is dropped then.
-pub(crate) fn give_asked<T, W: Wakes>(
-    shared: &Listing<T, W>,
-    inner: &mut Lister<T, W>,
-    asked: Asked<W>,
+// Gives the list back that an entry has asked, with this word: what the entry keeps, if it waits. What one kept that was told is dropped then.
+pub(crate) fn give_asked<T, K>(
+    shared: &Listing<T>,
+    inner: &mut Lister<T>,
+    heard: Heard<K>,
     word: u64,
-) -> bool
+) -> Option<K>
     requires table { (inner.old.table_id ≡ shared.now.table_id) × (shared.now.table_id.words ≡ 2) × (shared.now.table_id.slots ≡ 2) }
-    requires list { ByAsk asked (CanHear cell_len cell_marked inner.old.me word) (CanStay cell_len cell_marked inner.old.me word) }
+    requires list { ByHeard heard (CanHear cell_len cell_marked inner.old.me word) (λ _. CanStay cell_len cell_marked inner.old.me word) }
     requires stands { (inner.old.me.0.listed ≡ true) × (inner.old.me.0.fresh ≡ false) }
     ensures table { inner.new.table_id ≡ inner.old.table_id }
-    ensures told { result ≡ true → inner.new.me ≡ (told_of inner.old.me.0, rest inner.old.me.1) }
-    ensures waits { result ≡ false → inner.new.me ≡ (back inner.old.me.0, rest inner.old.me.1) }
+    ensures told { IfNone result ((inner.new.me ≡ (told_of inner.old.me.0, rest inner.old.me.1)) × ByHeard heard ⊤ (λ _. ⊥)) }
+    ensures waits { IfSome result (λ kept. (inner.new.me ≡ (back inner.old.me.0, rest inner.old.me.1)) × (heard ≡ heard_as.Waits kept)) }
 {
-    match asked {
-        Asked::Waiting { kept: _kept } => {
+    match heard {
+        Heard::Waits(kept) => {
             let found = give_same(shared, inner, word);
             wake_next(shared, found);
-            false
+            Some(kept)
         }
-        Asked::Notified {
-            kept: _kept,
-            unused: _unused,
-        } => {
+        Heard::Told(waker) => {
             let found = give_told(shared, inner, word);
             wake_next(shared, found);
-            true
-        }
-        Asked::Unlisted { unused: _unused } => {
-            let found = give_told(shared, inner, word);
-            wake_next(shared, found);
-            true
+            drop(waker);
+            None
         }
     }
 }

@@ -12,11 +12,11 @@ use std::marker::Model;
 /// Contracts see: the lock, whether the seat holds it, whether it is counted as starved, whether it owes a notification or a look, whether it
 /// has an entry in the list, and whether it has not looked since it joined. It has no `Drop`: only [`Seat::rise`] ends it, once it has given
 /// back what it has, and owes nothing.
-pub struct Seat<T, W> {
-    pub(crate) inner: TableSeat<Cell<T, W>, View>,
+pub struct Seat<T> {
+    pub(crate) inner: TableSeat<Cell<T>, View>,
 }
 
-impl<T, W> Model for Seat<T, W> {
+impl<T> Model for Seat<T> {
     ghost use Rattle.mutex_core.specs.Locks.{Seated, seated_coded};
 
     ghost Value = { Seated };
@@ -31,7 +31,7 @@ impl<T, W> Model for Seat<T, W> {
     ghost invariant = { λ s. HasSlots s.inner.me.0.holds s.inner.me.1 × (s.inner.me.0.has_list ≡ false) × (s.inner.me.0.len ≡ 0) × (s.inner.me.0.marked ≡ 0) };
 }
 
-impl<T, W> Seat<T, W> {
+impl<T> Seat<T> {
     /// Ends a seat that has nothing to give back, no entry in the list, and owes nothing.
     pub fn rise(self)
         requires has { (self.holds ≡ false) × (self.starved ≡ false) × (self.listed ≡ false) × (self.fresh ≡ false) }

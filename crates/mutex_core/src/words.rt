@@ -1,17 +1,16 @@
 //! The words of a mutex, its list and the right to its value, and the tries on the words.
 
-ghost use Rattle.std.specs.Prelude.{◌≡◌, ℕ, ◌≤◌, ◌⊎◌, true, false, [], ◌∷◌, IfOk, IsSome};
+ghost use Rattle.std.specs.Prelude.{◌≡◌, ℕ, ◌≤◌, ◌⊎◌, true, false, [], ◌∷◌, IfErr, IfOk, IsSome, OnOk, OnErr};
 ghost use Rattle.atomic_table.specs.Table.{rest};
 ghost use Rattle.lock_place.specs.Rested.{IsRight};
-ghost use Rattle.mutex_core.specs.Cells.{HasRightOf};
 ghost use Rattle.mutex_core.specs.Locks.{HasSlots, IsOf, entering, with_got, with_held, with_look, with_cleared, with_paid, with_count, with_count_owing, with_uncounted};
+ghost use Rattle.mutex_core.specs.Outcomes.{IsRightOf};
 ghost use Rattle.mutex_core.specs.Seats.{cleared_of};
-ghost use Rattle.mutex_core.specs.Steps.{HasRight};
 ghost use Rattle.words_base.specs.Tries.{OnTaking, OnAlone, OnSetting};
 
 use crate::cell::Cell;
-use crate::counts::{tally, tally_listed};
-use crate::due::Wakes;
+use crate::counts::{Full, tally, tally_listed};
+use crate::left::WasHeld;
 use crate::list_steps::{Lister, Listing};
 use crate::plays::Keep;
 use crate::rule::MutexRule;
@@ -22,6 +21,7 @@ use crate::steps::{
 };
 use crate::view::View;
 use atomic_table::Table;
+use futures::task::Source;
 use lock_place::{Hold, Place, Rested, Room, Spare, Ticket};
 use std::alloc::{AllocError, Global};
 use std::marker::Model;
@@ -33,60 +33,75 @@ pub const STARVED_LIMIT: u64 = 1_073_741_823;
 
 /// A mutex: its words, its waiting list, the right to its value, and the value.
 ///
-/// Contracts see: its table, the right to its value, and how many waiters may be starved.
-pub struct Words<T, W> {
-    pub(crate) table: Table<Cell<T, W>, View, Spare<T>, MutexRule, Global>,
-    place: Place<T, Global>,
-    spare: Spare<T>,
+/// Contracts see: its table, the right to its value as the lock was made, where the value lies now (`room`), the source with which its
+/// waiters register, how many of them may be starved, and whether a forgotten seat left it held, and its value was lent past that
+/// seat (`is_left`).
+pub struct Words<T> {
+    pub(crate) table: Table<Cell<T>, View, Spare<T>, MutexRule, Global>,
+    pub(crate) place: Place<T, Global>,
+    pub(crate) spare: Spare<T>,
+    // A forgotten seat left the lock held, and the value has been lent past it. The lock stays held then, and the right that the seat
+    // had is worth nothing.
+    pub(crate) left: Option<WasHeld>,
     // How many may be starved. Only a count reads it.
     limit: u64,
+    // What tasks register with that wait.
+    pub(crate) source: Source,
     // Where the list is made when somebody first joins.
     pub(crate) alloc: Global,
 }
 
 // By hand, so that a drop is one call to prove.
-impl<T: Drop, W: Drop> Drop for Words<T, W> {
+impl<T: Drop> Drop for Words<T> {
+    // In line, as in `with_limit`.
+    #[inline(always)]
     fn drop(self) {
         let Words {
             table: _,
             place: _,
             spare: _,
+            left: _,
             limit: _,
+            source: _,
             alloc: _,
         } = self;
     }
 }
 
-impl<T, W> Model for Words<T, W> {
+impl<T> Model for Words<T> {
     ghost use Rattle.mutex_core.specs.Locks.{Lock, lock_coded};
 
     ghost Value = { Lock };
 
     ghost coded = { lock_coded };
 
-    ghost use Rattle.std.specs.Prelude.{◌≡◌, ◌≤◌, IsSome};
+    ghost use Rattle.std.specs.Prelude.{◌≡◌, ◌≤◌, false, IsSome, is_some};
 
-    ghost view = { λ w. record { table = w.table.shared.table_id; right = record { room = w.table.shared.key.room_id; deed = w.table.shared.key.deed }; limit = w.limit } };
+    ghost view = { λ w. record { table = w.table.shared.table_id; right = record { room = w.table.shared.key.room_id; deed = w.table.shared.key.deed }; room = w.place.room.room_id; source = w.source.id; limit = w.limit; is_left = is_some w.left } };
 
-    ghost invariant = { λ w. (w.limit ≤ 1073741823) × (w.table.shared.table_id.words ≡ 2) × (w.table.shared.table_id.slots ≡ 2) × (w.spare.room_id ≡ w.place.room.room_id) × (w.table.shared.key.room_id ≡ w.spare.room_id) × (w.table.shared.key.deed ≡ w.spare.deed) × IsSome w.spare.value };
+    ghost invariant = { λ w. (w.limit ≤ 1073741823) × (w.table.shared.table_id.words ≡ 2) × (w.table.shared.table_id.slots ≡ 2) × (w.spare.room_id ≡ w.place.room.room_id) × (is_some w.left ≡ false → (w.table.shared.key.room_id ≡ w.place.room.room_id) × (w.table.shared.key.deed ≡ w.spare.deed) × IsSome w.spare.value) };
 }
 
-impl<T, W: Wakes> Words<T, W> {
+impl<T> Words<T> {
     /// Creates a free lock over a value, with an empty list. If memory is refused, the value is dropped.
-    pub fn new(alloc: Global, value: T) -> Result<Words<T, W>, AllocError>
+    pub fn new(alloc: Global, value: T) -> Result<Words<T>, AllocError>
     where
         T: Drop,
-        ensures { IfOk result (λ words. words.limit ≡ 1073741823) }
+        ensures is_left { IfOk result (λ words. words.is_left ≡ false) }
+        ensures limit { IfOk result (λ words. words.limit ≡ 1073741823) }
     {
         Words::with_limit(alloc, value, STARVED_LIMIT)
     }
 
     /// Creates a free lock as [`Words::new`] does, where fewer may be starved. It is for tests.
-    pub fn with_limit(alloc: Global, value: T, limit: u64) -> Result<Words<T, W>, AllocError>
+    // In line, as all that makes a lock: so it isn't copied from one place to the next.
+    #[inline(always)]
+    pub fn with_limit(alloc: Global, value: T, limit: u64) -> Result<Words<T>, AllocError>
     where
         T: Drop,
         requires { limit ≤ 1073741823 }
-        ensures { IfOk result (λ words. words.limit ≡ limit) }
+        ensures is_left { IfOk result (λ words. words.is_left ≡ false) }
+        ensures limit { IfOk result (λ words. words.limit ≡ limit) }
     {
         let Ok((place, hold)) = Place::new(alloc, value) else {
             return Err(AllocError);
@@ -98,7 +113,9 @@ impl<T, W: Wakes> Words<T, W> {
                 table,
                 place,
                 spare,
+                left: None,
                 limit,
+                source: Source::new(),
                 alloc,
             }),
             Err(error) => Err(error),
@@ -111,9 +128,12 @@ impl<T, W: Wakes> Words<T, W> {
             table,
             place,
             spare,
+            left: _,
             limit: _,
+            source,
             alloc: _,
         } = self;
+        drop(source);
         drop(table);
         drop(spare);
         place.into_inner()
@@ -121,7 +141,7 @@ impl<T, W: Wakes> Words<T, W> {
 
     /// Returns where the value lies. [`Hold::get`] and [`Hold::get_mut`] lend it to whoever has its right.
     pub fn room(&self) -> &Room<T>
-        ensures { result.now.room_id ≡ self.now.right.room }
+        ensures { result.now.room_id ≡ self.now.room }
     {
         &self.place.room
     }
@@ -132,7 +152,8 @@ impl<T, W: Wakes> Words<T, W> {
     }
 
     /// Returns a new seat, with nothing: one load.
-    pub fn sit(&self) -> Seat<T, W>
+    #[inline]
+    pub fn sit(&self) -> Seat<T>
         ensures { result ≡ entering self.now }
     {
         Seat {
@@ -143,11 +164,12 @@ impl<T, W: Wakes> Words<T, W> {
     /// Takes the lock if it is free and nobody is starved: a look, and one exchange where it found so. A seat that finds the lock held
     /// owes nothing any more. Whatever it finds, it has looked.
     #[inline]
-    pub fn take(&self, seat: &mut Seat<T, W>) -> Taking<Hold<T>>
+    pub fn take(&self, seat: &mut Seat<T>) -> Taking<Hold<T>>
         requires of { IsOf self.now seat.old }
+        requires left { self.now.is_left ≡ false }
         requires idle { seat.old.holds ≡ false }
         requires stands { seat.old.starved ≡ true → seat.old.listed ≡ true }
-        ensures { OnTaking result (λ hold. (seat.new ≡ with_got seat.old) × (hold.room_id ≡ self.now.right.room)) (seat.new ≡ with_held seat.old) ((seat.new ≡ with_look seat.old) ⊎ (seat.new ≡ with_held seat.old)) }
+        ensures { OnTaking result (λ hold. (seat.new ≡ with_got seat.old) × IsRightOf self.now hold) (seat.new ≡ with_held seat.old) ((seat.new ≡ with_look seat.old) ⊎ (seat.new ≡ with_held seat.old)) }
     {
         let shared = &self.table.shared;
         let seen = look(shared, &mut seat.inner);
@@ -168,11 +190,12 @@ impl<T, W: Wakes> Words<T, W> {
 
     /// Takes the lock if it is free and no other seat is starved: one exchange, by a starved seat with an entry. A seat that finds the lock
     /// held owes nothing any more. Whatever it finds, it has looked.
-    pub fn take_alone(&self, seat: &mut Seat<T, W>) -> TakingAlone<Hold<T>>
+    pub fn take_alone(&self, seat: &mut Seat<T>) -> TakingAlone<Hold<T>>
         requires of { IsOf self.now seat.old }
         requires idle { seat.old.holds ≡ false }
+        requires left { self.now.is_left ≡ false }
         requires stands { (seat.old.starved ≡ true) × (seat.old.listed ≡ true) }
-        ensures { OnAlone result (λ hold. (seat.new ≡ with_got seat.old) × (hold.room_id ≡ self.now.right.room)) (seat.new ≡ with_held seat.old) (seat.new ≡ with_look seat.old) }
+        ensures { OnAlone result (λ hold. (seat.new ≡ with_got seat.old) × IsRightOf self.now hold) (seat.new ≡ with_held seat.old) (seat.new ≡ with_look seat.old) }
     {
         let shared = &self.table.shared;
         let found = exchange_alone(shared, &mut seat.inner);
@@ -187,11 +210,14 @@ impl<T, W: Wakes> Words<T, W> {
     }
 
     /// Makes the lock held, and takes it if it was free, whoever is starved: one step.
-    pub fn set(&self, seat: &mut Seat<T, W>) -> Setting<Hold<T>>
+    pub fn set(&self, seat: &mut Seat<T>) -> Setting<Hold<T>>
         requires of { IsOf self.now seat.old }
         requires idle { seat.old.holds ≡ false }
-        ensures { OnSetting result (λ hold. (seat.new ≡ with_got seat.old) × (hold.room_id ≡ self.now.right.room)) (seat.new ≡ seat.old) }
+        ensures { OnSetting result (λ hold. (seat.new ≡ with_got seat.old) × IsRightOf self.now hold) (seat.new ≡ seat.old) }
     {
+        if self.left.is_some() {
+            return Setting::WasSet;
+        }
         let shared = &self.table.shared;
         if lift(shared, &mut seat.inner) % COUNT == HELD {
             return Setting::WasSet;
@@ -199,29 +225,31 @@ impl<T, W: Wakes> Words<T, W> {
         Setting::Got(take_right(shared, &self.spare, &mut seat.inner))
     }
 
-    /// Counts a seat as starved that has an entry and has looked. It tries again where others came between. False comes where as many are starved as may
-    /// be, and nothing has changed then.
-    pub fn count_listed<R: Wait>(&self, rt: &R, seat: &mut Seat<T, W>) -> bool
+    /// Counts a seat as starved that has an entry and has looked. It tries again where others came between. [`Full`] comes where as many
+    /// are starved as may be (`limit`), and nothing has changed then.
+    pub fn count_listed<R: Wait>(&self, rt: &R, seat: &mut Seat<T>) -> Result<(), Full>
         requires of { IsOf self.now seat.old }
         requires waits { (seat.old.starved ≡ false) × (seat.old.listed ≡ true) × (seat.old.fresh ≡ false) }
-        ensures counted { result ≡ true → seat.new ≡ with_count seat.old }
-        ensures not { result ≡ false → seat.new ≡ seat.old }
+        ensures counted { OnOk result (seat.new ≡ with_count seat.old) }
+        ensures not { OnErr result (seat.new ≡ seat.old) }
+        ensures limit { IfErr result (λ full. self.now.limit ≤ full.starved) }
     {
         tally_listed(&self.table.shared, rt, &mut seat.inner, self.limit)
     }
 
     /// Counts a seat as starved, as [`Words::count_listed`]. The seat may have no entry, and owes a look then.
-    pub fn count<R: Wait>(&self, rt: &R, seat: &mut Seat<T, W>) -> bool
+    pub fn count<R: Wait>(&self, rt: &R, seat: &mut Seat<T>) -> Result<(), Full>
         requires of { IsOf self.now seat.old }
         requires one { seat.old.starved ≡ false }
-        ensures counted { result ≡ true → seat.new ≡ with_count_owing seat.old }
-        ensures not { result ≡ false → seat.new ≡ seat.old }
+        ensures counted { OnOk result (seat.new ≡ with_count_owing seat.old) }
+        ensures not { OnErr result (seat.new ≡ seat.old) }
+        ensures limit { IfErr result (λ full. self.now.limit ≤ full.starved) }
     {
         tally(&self.table.shared, rt, &mut seat.inner, self.limit)
     }
 
     /// Takes a seat's count off: one step.
-    pub fn uncount(&self, seat: &mut Seat<T, W>)
+    pub fn uncount(&self, seat: &mut Seat<T>)
         requires of { IsOf self.now seat.old }
         requires starved { seat.old.starved ≡ true }
         ensures { seat.new ≡ with_uncounted seat.old }
@@ -230,17 +258,19 @@ impl<T, W: Wakes> Words<T, W> {
     }
 
     /// Gives the lock back, and the right with it: one step. The seat owes a notification then.
-    pub fn clear(&self, seat: &mut Seat<T, W>, hold: Hold<T>)
+    #[inline]
+    pub fn clear(&self, seat: &mut Seat<T>, hold: Hold<T>)
         requires of { IsOf self.now seat.old }
         requires holds { seat.old.holds ≡ true }
-        requires right { hold.room_id ≡ self.now.right.room }
+        requires right { IsRightOf self.now hold }
         ensures { seat.new ≡ with_cleared seat.old }
     {
         give_back(&self.table.shared, &mut seat.inner, hold.park().rest());
     }
 
     /// Returns whether the list may have entries: one load. If not, the seat owes nothing any more.
-    pub fn may_have_entries(&self, seat: &mut Seat<T, W>) -> bool
+    #[inline]
+    pub fn may_have_entries(&self, seat: &mut Seat<T>) -> bool
         requires of { IsOf self.now seat.old }
         requires calm { seat.old.starved ≡ false }
         ensures some { result ≡ true → seat.new ≡ seat.old }
@@ -250,12 +280,13 @@ impl<T, W: Wakes> Words<T, W> {
     }
 }
 
-// The table of a free lock: nobody has joined its list, and a ticket of its spare lies in the right's slot.
-fn free_table<T, W: Wakes>(
+// The table of a free lock: nobody has joined its list, and a ticket of its spare lies in the right's slot. In line, as `Words::with_limit`.
+#[inline(always)]
+fn free_table<T>(
     alloc: Global,
     spare: &Spare<T>,
     ticket: Ticket,
-) -> Result<Table<Cell<T, W>, View, Spare<T>, MutexRule, Global>, AllocError>
+) -> Result<Table<Cell<T>, View, Spare<T>, MutexRule, Global>, AllocError>
     requires { ticket.deed ≡ spare.now.deed }
     ensures sizes { IfOk result (λ table. (table.shared.table_id.words ≡ 2) × (table.shared.table_id.slots ≡ 2)) }
     ensures key { IfOk result (λ table. table.shared.key ≡ spare.now) }
@@ -271,13 +302,9 @@ fn free_table<T, W: Wakes>(
 
 // Takes the right out of its slot, which has come to the seat with the lock.
 #[inline]
-fn take_right<T, W: Wakes>(
-    shared: &Listing<T, W>,
-    spare: &Spare<T>,
-    inner: &mut Lister<T, W>,
-) -> Hold<T>
+pub(crate) fn take_right<T>(shared: &Listing<T>, spare: &Spare<T>, inner: &mut Lister<T>) -> Hold<T>
     requires table { inner.old.table_id ≡ shared.now.table_id }
-    requires right { (right : Cell T W) × (inner.old.me.1 ≡ (1, right) ∷ []) × IsRight spare.now.room_id spare.now.deed right.right }
+    requires right { (right : Cell T) × (inner.old.me.1 ≡ (1, right) ∷ []) × IsRight spare.now.room_id spare.now.deed right.right }
     requires spare { IsSome spare.now.value }
     ensures hold { result.room_id ≡ spare.now.room_id }
     ensures seat { (inner.new.table_id ≡ inner.old.table_id) × (inner.new.me.0 ≡ inner.old.me.0) × HasSlots true inner.new.me.1 }
@@ -289,7 +316,7 @@ fn take_right<T, W: Wakes>(
 
 // Lays the right into its slot, and gives the lock back with it.
 #[inline]
-fn give_back<T, W: Wakes>(shared: &Listing<T, W>, inner: &mut Lister<T, W>, right: Rested<T>)
+fn give_back<T>(shared: &Listing<T>, inner: &mut Lister<T>, right: Rested<T>)
     requires table { (inner.old.table_id ≡ shared.now.table_id) × (shared.now.table_id.words ≡ 2) × (shared.now.table_id.slots ≡ 2) }
     requires right { IsRight inner.old.me.0.room inner.old.me.0.deed right }
     requires holds { (inner.old.me.0.holds ≡ true) × HasSlots true inner.old.me.1 }

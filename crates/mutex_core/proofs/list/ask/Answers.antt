@@ -1,8 +1,20 @@
-use Rattle.mutex_core.proofs.Counting.{has-asked, has-asked-twice}
+-- The entry that waits keeps the waker that was registered into.
+use Rattle.std.proofs.Common.{subst, sym, ap, ◌∙◌}
+use Rattle.futures.specs.Task.{Hears}
+use Rattle.async_driver.specs.Tasks.{woken_by}
+use Rattle.async_driver.proofs.Keeping.{waker_at-waiting}
+use Rattle.mutex_core.proofs.Counting.{same-keyed}
+use Rattle.mutex_core.proofs.Receiving.{is_kept}
 use Rattle.mutex_core.proofs.list.ask.Goals as goal
 
-pub returns-in-Waiting : goal.returns-in-Waiting
-returns-in-Waiting g c = has-asked-twice c.args.id _ _ c.args.event.now.entries c.ask.new.self.entries c.ask-in-Waiting.new.self.entries c.in-Waiting.kept c.ask-in-Waiting.result c.in-Waiting.ensures.asked c.ask-in-Waiting.ensures.asked
+pub returns-in-Some-clause-asked : goal.returns-in-Some-clause-asked
+returns-in-Some-clause-asked c = same-keyed c.args.id c.register.new.slot _
 
-pub returns-in_default : goal.returns-in_default
-returns-in_default g c = has-asked c.args.id _ c.args.event.now.entries c.ask.new.self.entries c.ask.result c.ask.ensures.asked
+pub returns-in-Some-clause-waits : goal.returns-in-Some-clause-waits
+returns-in-Some-clause-waits c = (
+  c.of.ensures ∙ ap woken_by (sym (waker_at-waiting c.args.id c.register.new.slot _ (sym c.in-Some.ensures.waits))),
+  (
+    is_kept _ _ c.register.new.slot c.of.result c.register.ensures.kept c.of.ensures c.register.ensures.left,
+    (c.register.ensures.armed, λ s is. subst (λ x. Hears c.register.new.self x) (sym is) c.register.ensures.heard),
+  ),
+)

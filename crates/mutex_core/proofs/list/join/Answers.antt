@@ -1,5 +1,5 @@
-use Rattle.mutex_core.proofs.Counting.{has-joined}
+use Rattle.mutex_core.proofs.Counting.{joined-ok}
 use Rattle.mutex_core.proofs.list.join.Goals as goal
 
 pub returns-clause-joined : goal.returns-clause-joined
-returns-clause-joined g c = has-joined c.in_ok-id.id c.args.waker c.args.event.now.entries c.listen.new.self.entries c.ask.new.self.entries c.ask.result c.in_ok-id.ensures.fresh c.in_ok-id.ensures.joined c.ask.ensures.asked
+returns-clause-joined c = joined-ok c.args.event.now.entries c.listen.new.self.entries c.listen.result c.listen.ensures.joined

@@ -5,6 +5,6 @@ use Rattle.mutex_core.proofs.Counting.{has-left, left-without_waker}
 use Rattle.mutex_core.proofs.list.leave.Goals as goal
 
 pub returns : goal.returns
-returns g c = let old = c.args.event.now.entries in
+returns c = let old = c.args.event.now.entries in
     subst (λ l. HasLeft old l) (sym c.next_waker.ensures.entries) (left-without_waker old c.withdraw-kept.new.self.entries
     (subst (λ l. HasLeft old l) (sym c.withdraw-kept.ensures.entries) (has-left (has_id c.args.id) old)))

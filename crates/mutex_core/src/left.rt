@@ -1,0 +1,171 @@
+//! A lock that a forgotten seat left held: what it lends, and what a party finds there.
+
+ghost use Rattle.std.specs.Prelude.{◌≡◌, ◌%◌, ◌∷◌, ◌⊎◌, [], true, false, IfOk, IsSome};
+ghost use Rattle.atomic_table.specs.Table.{rest};
+ghost use Rattle.mutex_core.specs.Cells.{cell_len, cell_marked, HasRightOf};
+ghost use Rattle.mutex_core.specs.Locks.{IsOf, with_got, with_held, with_look};
+ghost use Rattle.mutex_core.specs.Outcomes.{IsRightOf};
+ghost use Rattle.mutex_core.specs.Seats.{saw_held_of};
+ghost use Rattle.mutex_core.specs.Steps.{IsHeld};
+ghost use Rattle.words_base.specs.Tries.{OnAlone, OnTaking};
+
+use crate::cell::Cell;
+use crate::list_steps::{Lister, Listing, notify_in, wake_next};
+use crate::plays::Keep;
+use crate::seat::Seat;
+use crate::steps::{COUNT, HELD, RIGHT_SLOT, WORD, clear, give_paid, grab, lift, look};
+use crate::words::{Words, take_right};
+use lock_place::{Hold, Place, Spare};
+use std::alloc::Global;
+use std::sync::Wait;
+use words_base::{Taking, TakingAlone};
+
+/// A lock is held for good: a step found it held where nobody is left who could give it back.
+#[derive(Drop)]
+pub struct WasHeld {
+    seal: (),
+}
+
+impl WasHeld {
+    // A step found it held.
+    fn found(word: u64) -> WasHeld
+        requires { word % 2 ≡ 1 }
+    {
+        let _ = word;
+        WasHeld { seal: () }
+    }
+
+    // This seat holds it, and is forgotten.
+    fn by<T>(inner: Lister<T>) -> WasHeld
+        requires { inner.me.0.holds ≡ true }
+    {
+        drop(inner);
+        WasHeld { seal: () }
+    }
+}
+
+impl<T> Words<T> {
+    /// Returns the value, whatever became of the seats and the rights. It waits for nobody and takes no memory.
+    ///
+    /// A free lock is free afterwards. A lock that a forgotten seat left held stays held for good, as in the
+    /// Rust crate, and only this call and [`Words::into_inner`] reach its value.
+    pub fn get_mut(&mut self) -> &mut T {
+        let hold = if self.left.is_some() {
+            renew(&mut self.spare, &mut self.place)
+        } else {
+            let table = &self.table;
+            match regain(&table.shared, &mut self.spare, &mut self.place) {
+                Ok(hold) => hold,
+                Err(held) => {
+                    self.left = Some(held);
+                    renew(&mut self.spare, &mut self.place)
+                }
+            }
+        };
+        let place = &self.place;
+        self.spare.lend(hold, place)
+    }
+
+    // Looks at the lock inside a poll, and takes it if it is free and nobody is starved, as [`Words::take`]. A lock that was left held is found held.
+    #[inline]
+    pub(crate) fn look<R: Wait>(&self, rt: &R, seat: &mut Seat<T>) -> Taking<Hold<T>>
+        requires of { IsOf self.now seat.old }
+        requires idle { seat.old.holds ≡ false }
+        requires stands { seat.old.starved ≡ true → seat.old.listed ≡ true }
+        ensures { OnTaking result (λ hold. (seat.new ≡ with_got seat.old) × IsRightOf self.now hold) (seat.new ≡ with_held seat.old) ((seat.new ≡ with_look seat.old) ⊎ (seat.new ≡ with_held seat.old)) }
+    {
+        if self.left.is_some() {
+            find_held(&self.table.shared, rt, &mut seat.inner);
+            return Taking::Held;
+        }
+        self.take(seat)
+    }
+
+    // The same, by the only one who is starved, as [`Words::take_alone`].
+    pub(crate) fn look_alone<R: Wait>(&self, rt: &R, seat: &mut Seat<T>) -> TakingAlone<Hold<T>>
+        requires of { IsOf self.now seat.old }
+        requires idle { seat.old.holds ≡ false }
+        requires stands { (seat.old.starved ≡ true) × (seat.old.listed ≡ true) }
+        ensures { OnAlone result (λ hold. (seat.new ≡ with_got seat.old) × IsRightOf self.now hold) (seat.new ≡ with_held seat.old) (seat.new ≡ with_look seat.old) }
+    {
+        if self.left.is_some() {
+            find_held(&self.table.shared, rt, &mut seat.inner);
+            return TakingAlone::Held;
+        }
+        self.take_alone(seat)
+    }
+}
+
+// Looks at a lock that was left held, until it is found so: mostly once.
+#[cold]
+#[inline(never)]
+fn find_held<T, R: Wait>(shared: &Listing<T>, rt: &R, inner: &mut Lister<T>)
+    requires table { (inner.old.table_id ≡ shared.now.table_id) × (shared.now.table_id.words ≡ 2) }
+    requires seen { inner.old.me.0.starved ≡ true → inner.old.me.0.listed ≡ true }
+    ensures table { inner.new.table_id ≡ inner.old.table_id }
+    ensures step { inner.new.me ≡ (saw_held_of inner.old.me.0, inner.old.me.1) }
+{
+    for _ in rt.forever() {
+        if look(shared, inner) % COUNT == HELD {
+            return;
+        }
+    }
+    unreachable!()
+}
+
+// A new right, past a forgotten seat's, and a new spare for it.
+fn renew<T>(spare: &mut Spare<T>, place: &mut Place<T, Global>) -> Hold<T>
+    ensures hold { result.room_id ≡ place.new.room.room_id }
+    ensures spare { spare.new.room_id ≡ place.new.room.room_id }
+{
+    let hold = place.renew();
+    *spare = Spare::new(&place.room).0;
+    hold
+}
+
+// Takes the right of a free lock, whoever is starved, and leaves a ticket of the spare in its stead. A lock whose list somebody was
+// forgotten with stays held.
+fn regain<T>(
+    shared: &Listing<T>,
+    spare: &mut Spare<T>,
+    place: &mut Place<T, Global>,
+) -> Result<Hold<T>, WasHeld>
+    requires size { (shared.now.table_id.words ≡ 2) × (shared.now.table_id.slots ≡ 2) }
+    requires key { (shared.now.key.room_id ≡ place.old.room.room_id) × (shared.now.key.deed ≡ spare.old.deed) × (spare.old.room_id ≡ place.old.room.room_id) × IsSome spare.old.value }
+    ensures same { (place.new.room.room_id ≡ place.old.room.room_id) × (spare.new.room_id ≡ spare.old.room_id) × (spare.new.deed ≡ spare.old.deed) }
+    ensures hold { IfOk result (λ hold. hold.room_id ≡ place.old.room.room_id) }
+{
+    let mut inner = shared.load_new_seat::<Keep>(WORD).1;
+    let word = lift(shared, &mut inner);
+    if word % COUNT == HELD {
+        Seat { inner }.rise();
+        return Err(WasHeld::found(word));
+    }
+    let hold = take_right(shared, spare, &mut inner);
+    let (hold, ticket) = spare.reissue(hold, place);
+    drop(shared.exchange(&mut inner, RIGHT_SLOT, Cell::of(ticket.rest())));
+    let found = grab(shared, &mut inner);
+    if found % 2 != 0 {
+        drop(hold.park());
+        return Err(WasHeld::by(inner));
+    }
+    give_all_back(shared, inner, found);
+    Ok(hold)
+}
+
+// Gives the lock back with the list in hand, and pays for it.
+fn give_all_back<T>(shared: &Listing<T>, inner: Lister<T>, found: u64)
+    requires table { (inner.table_id ≡ shared.now.table_id) × (shared.now.table_id.words ≡ 2) × (shared.now.table_id.slots ≡ 2) }
+    requires holds { (inner.me.0.holds ≡ true) × (inner.me.0.starved ≡ false) × (inner.me.0.listed ≡ false) × (inner.me.0.fresh ≡ false) }
+    requires list { IsHeld cell_len cell_marked inner.me }
+    requires right { (right : Cell T) × (rest inner.me.1 ≡ (1, right) ∷ []) × HasRightOf inner.me.0.room inner.me.0.deed right }
+{
+    let mut inner = inner;
+    inner.turn();
+    clear(shared, &mut inner);
+    let (due, word) = notify_in(shared, &mut inner, found);
+    let found = give_paid(shared, &mut inner, word);
+    wake_next(shared, found);
+    drop(due.pay());
+    Seat { inner }.rise();
+}
