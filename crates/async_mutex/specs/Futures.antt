@@ -1,25 +1,31 @@
 -- What contracts see of a mutex's future, and what a poll answers.
-use Rattle.std.specs.Prelude.{◌≡◌, ℕ, Bool, true, false, ⊤, Option, None}
-use Rattle.async_mutex.specs.declared.stage.Stage.{Stage}
-use Rattle.async_mutex.specs.Stages.{HasShare}
-use Rattle.async_mutex.specs.declared.stage.Look.{Look}
-use Rattle.async_mutex.specs.declared.stage.Look.TheVariants as looks
-use Rattle.async_mutex.specs.declared.stage.Stage.TheVariants as stages
+use Rattle.std.specs.Prelude.{◌≡◌, ℕ, Bool, true, false, ⊤, Option, Some, None, IsSomeAnd}
+use Rattle.futures.specs.Task.{Covers}
+use Rattle.futures.specs.declared.task.context.Context.{Context}
 use Rattle.async_driver.specs.declared.turn.Turn.{Turn}
 use Rattle.async_driver.specs.declared.turn.Turn.TheVariants.{Pending, Ready, Refused}
-use Rattle.async_driver.specs.declared.waiting_list.Listed.{Listed}
+use Rattle.async_mutex.specs.Stages.{HasShare}
 use Rattle.async_mutex.specs.declared.mutex.Mutex.{Mutex}
-use Rattle.async_mutex.specs.declared.outcome.Outcome.{Outcome}
-use Rattle.async_mutex.specs.declared.outcome.Outcome.TheVariants as outcome
-use Rattle.async_mutex.specs.Outcomes.{Kept}
-use Rattle.async_mutex.specs.Outcomes as outcomes
-use Rattle.futures.specs.declared.task.context.Context.{Context}
-use Rattle.lock_driver.specs.Parties.{IsGivenUp, IsReceipt}
-use Rattle.lock_place.specs.declared.room.Hold.{Hold}
+use Rattle.async_mutex.specs.declared.stage.Look.{Look}
+use Rattle.async_mutex.specs.declared.stage.Look.TheVariants as looks
+use Rattle.async_mutex.specs.declared.stage.Stage.{Stage}
+use Rattle.async_mutex.specs.declared.stage.Stage.TheVariants as stages
 use Rattle.lock_program.specs.declared.refusal.Refusal.{Refusal}
 use Rattle.lock_program.specs.declared.refusal.Refusal.TheVariants.{Finished}
-use Rattle.lock_words.specs.Lock.{Seated}
-use Rattle.lock_words.specs.Tries.{Holds}
+use Rattle.mutex_core.specs.Locks.{IsOf, Seated}
+use Rattle.mutex_core.specs.Outcomes.{IsGivenUp, IsHeldOf}
+use Rattle.mutex_core.specs.Receipts.{IsKept}
+use Rattle.mutex_core.specs.declared.turn.Held.{Held}
+use Rattle.mutex_core.specs.declared.turn.Outcome.{Outcome}
+use Rattle.mutex_core.specs.declared.turn.Outcome.TheVariants as outcome
+use Rattle.mutex_core.specs.declared.turn.Vain.{Vain}
+use Rattle.mutex_core.specs.declared.turn.Waiting.{Waiting}
+use Rattle.mutex_core.specs.declared.whose.Whose.{Whose}
+
+-- an entry in a mutex's list: the seat whose it is, and whose waker it keeps
+pub record Listed : Type 0 where
+  pub seat : Seated
+  pub keeps : Whose
 
 -- how far it is, and its entry in the mutex's list
 pub record Future (O : Type 0) : Type 0 where
@@ -29,51 +35,60 @@ pub record Future (O : Type 0) : Type 0 where
 abbrev pub future : {O : Type 0} → Stage O → Option Listed → Future O
 future stage entry = record { stage = stage; entry = entry }
 
+-- the entry of what waits
+abbrev pub entry_of : {T : Type 0} → Option (Waiting T) → Option Listed
+entry_of None = None
+entry_of (Some q) = Some (record { seat = q.seat; keeps = q.whose })
+
+abbrev pub OnWaits : {T : Type 0} → Outcome T → (Waiting T → Type 0) → Type 0
+OnWaits (outcome.Waits q) fact = fact q
+OnWaits _ fact = ⊤
+
 module _ {O T R : Type 0} (lock_of : O → Mutex T R) where
   -- the sources at which it waits: its mutex's own
   abbrev pub WaitsAt : Stage O → ℕ → Type 0
-  WaitsAt (stages.Waits owner) s = s ≡ (lock_of owner).raw.words.source
+  WaitsAt (stages.Waits owner) s = s ≡ (lock_of owner).words.source
   WaitsAt _ s = ⊥
 
-  -- its entry is a receipt of its mutex's list
+  -- Its entry is one of its mutex's list, and keeps a waker of the task that the context polls; and the task has registered with the
+  -- mutex's source.
   abbrev pub HasReceipt : Stage O → Context → Option Listed → Type 0
-  HasReceipt (stages.Waits owner) cx entry = IsReceipt (lock_of owner).raw.words.list (lock_of owner).raw.words.source cx entry
+  HasReceipt (stages.Waits owner) cx entry = IsSomeAnd entry (λ e. IsOf (lock_of owner).words e.seat × (e.seat.listed ≡ true) × IsKept cx e.keeps) × Covers cx (λ s. s ≡ (lock_of owner).words.source)
   HasReceipt _ cx entry = ⊥
 
   -- its party waits at its mutex between two polls
-  abbrev pub WaitsAs : Stage O → Kept T → Type 0
-  WaitsAs (stages.Waits owner) q = outcomes.Waits (lock_of owner).raw q
+  abbrev pub WaitsAs : Stage O → Waiting T → Type 0
+  WaitsAs (stages.Waits owner) q = IsOf (lock_of owner).words q.seat
   WaitsAs _ q = ⊥
 
-  -- a seat got the lock that it waits for, with the right to its value and without a count as starved
-  abbrev pub GotAt : Stage O → Seated → Hold T → Type 0
-  GotAt (stages.Waits owner) seat hold = Holds (lock_of owner).raw.words seat hold × (seat.starved ≡ false)
-  GotAt _ seat hold = ⊥
+  -- it got the lock that it waits for, with the right to its value
+  abbrev pub GotAt : Stage O → Held T → Type 0
+  GotAt (stages.Waits owner) held = IsHeldOf (lock_of owner).words held
+  GotAt _ held = ⊥
+
+  -- it looked in vain at the lock that it waits for
+  abbrev pub LooksInVain : Stage O → Vain T → Type 0
+  LooksInVain (stages.Waits owner) vain = IsOf (lock_of owner).words vain.seat
+  LooksInVain _ vain = ⊥
 
   -- a first look got the lock, or was in vain; nobody looks where who has the mutex isn't there
   abbrev pub Looks : Stage O → Look T → Type 0
-  Looks stage (looks.Got seat hold) = GotAt stage seat hold
-  Looks stage (looks.Vain vain) = HasShare stage
+  Looks stage (looks.Got held) = GotAt stage held
+  Looks stage (looks.Vain vain) = LooksInVain stage vain
   Looks stage looks.NoShare = HasShare stage → ⊥
 
   -- how its poll went
-  abbrev pub OnOutcome : Stage O → Outcome T → Type 0
-  OnOutcome stage (outcome.Got seat hold) = GotAt stage seat hold
-  OnOutcome stage outcome.Waits = ⊤
-  OnOutcome stage (outcome.Refused refusal) = IsGivenUp refusal
+  abbrev pub OnPolled : Stage O → Outcome T → Type 0
+  OnPolled stage (outcome.Got held) = GotAt stage held
+  OnPolled stage (outcome.Waits q) = WaitsAs stage q
+  OnPolled stage (outcome.Refused refusal) = IsGivenUp refusal
 
-  -- and what is left of its party
-  abbrev pub OnPolled : Stage O → Outcome T → Option (Kept T) → Type 0
-  OnPolled stage (outcome.Got seat hold) left = GotAt stage seat hold × (left ≡ None)
-  OnPolled stage outcome.Waits left = ⊤
-  OnPolled stage (outcome.Refused refusal) left = IsGivenUp refusal
-
--- a poll that went so answers that
-abbrev pub IsAnswer : {T G : Type 0} → Outcome T → Turn G → Type 0
-IsAnswer (outcome.Got seat hold) (Ready got) = ⊤
-IsAnswer outcome.Waits Pending = ⊤
-IsAnswer (outcome.Refused r) (Refused refusal) = refusal ≡ r
-IsAnswer _ _ = ⊥
+-- a poll that went so answers that, and leaves this of its party
+abbrev pub IsAnswer : {T G : Type 0} → Outcome T → Turn G → Option (Waiting T) → Type 0
+IsAnswer (outcome.Got held) (Ready got) left = left ≡ None
+IsAnswer (outcome.Waits q) Pending left = left ≡ Some q
+IsAnswer (outcome.Refused r) (Refused refusal) left = (refusal ≡ r) × (left ≡ None)
+IsAnswer _ _ left = ⊥
 
 -- Ready, what was got is this and the future is over. One that is over is refused as finished and stays so; no other is, and none for
 -- another reason than memory or too many starved waiters.

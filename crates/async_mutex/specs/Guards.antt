@@ -2,6 +2,6 @@
 use Rattle.async_mutex.specs.declared.mutex.Mutex.{Mutex}
 
 -- the mutex that it holds, and the value
-pub record Held (T R : Type 0) : Type 0 where
+pub record Guarded (T R : Type 0) : Type 0 where
   pub mutex : Mutex T R
   pub value : T

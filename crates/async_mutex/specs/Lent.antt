@@ -1,5 +1,5 @@
 -- A guard, after a write through what it lent.
-use Rattle.async_mutex.specs.Guards.{Held}
+use Rattle.async_mutex.specs.Guards.{Guarded}
 
-abbrev pub held_with : {T R : Type 0} → Held T R → T → Held T R
+abbrev pub held_with : {T R : Type 0} → Guarded T R → T → Guarded T R
 held_with guard w = record guard { value = w }

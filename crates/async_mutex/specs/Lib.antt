@@ -1,5 +1,4 @@
 pub mod Futures
 pub mod Guards
 pub mod Lent
-pub mod Outcomes
 pub mod Stages

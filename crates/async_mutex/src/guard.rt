@@ -1,12 +1,12 @@
 //! The guard of a mutex.
 
-ghost use Rattle.std.specs.Prelude.{◌≡◌, false};
+ghost use Rattle.std.specs.Prelude.{◌≡◌};
 ghost use Rattle.std.specs.Arc.{arc_value};
-ghost use Rattle.lock_words.specs.Tries.{Holds};
+ghost use Rattle.mutex_core.specs.Outcomes.{IsHeldOf};
 
 use crate::mutex::Mutex;
 use crate::owns::Owns;
-use lock_words::{Hold, Seat};
+use mutex_core::{Held, Hold, Seat};
 use std::fmt;
 use std::marker::{Model, PhantomData};
 use std::ops::Deref;
@@ -23,23 +23,23 @@ pub struct Guard<T, R: Wait, O: Owns<Value = T, Runtime = R>> {
 }
 
 impl<T, R: Wait, O: Owns<Value = T, Runtime = R>> Model for Guard<T, R, O> {
-    ghost use Rattle.std.specs.Prelude.{◌≡◌, false};
-    ghost use Rattle.lock_words.specs.Tries.{Holds};
-    ghost use Rattle.async_mutex.specs.Guards.{Held};
+    ghost use Rattle.mutex_core.specs.Outcomes.{Holds};
+    ghost use Rattle.async_mutex.specs.Guards.{Guarded};
 
-    ghost Value = { Held T R };
+    ghost Value = { Guarded T R };
 
     ghost view = { λ g. record { mutex = O.lock_of g.owner; value = g.hold.value } };
 
-    ghost invariant = { λ g. Holds (O.lock_of g.owner).raw.words g.seat g.hold × (g.seat.starved ≡ false) };
+    ghost invariant = { λ g. Holds (O.lock_of g.owner).words g.seat g.hold };
 }
 
 impl<T, R: Wait, O: Owns<Value = T, Runtime = R>> Guard<T, R, O> {
     #[inline]
-    pub(crate) fn new(owner: O, seat: Seat<T>, hold: Hold<T>) -> Guard<T, R, O>
-        requires { Holds (O.lock_of owner).raw.words seat hold × (seat.starved ≡ false) }
+    pub(crate) fn new(owner: O, held: Held<T>) -> Guard<T, R, O>
+        requires { IsHeldOf (O.lock_of owner).words held }
         ensures { result.mutex ≡ O.lock_of owner }
     {
+        let (seat, hold) = held.into_parts();
         Guard {
             owner,
             seat,
@@ -73,7 +73,7 @@ impl<T, R: Wait, O: Owns<Value = T, Runtime = R>> Deref for Guard<T, R, O> {
     ghost deref_gives = { λ guard value. value ≡ guard.value };
 
     fn deref(&self) -> &T {
-        self.hold.get(self.owner.lock().raw.words.room())
+        self.hold.get(self.owner.lock().words.room())
     }
 }
 
@@ -86,10 +86,7 @@ impl<T, R: Wait, O: Owns<Value = T, Runtime = R>> Drop for Guard<T, R, O> {
             hold,
             runtime: _,
         } = self;
-        let mutex = owner.lock();
-        if let Some(owed) = mutex.raw.give_back(seat, hold) {
-            mutex.raw.words.list().notify_one(&mutex.rt, owed);
-        }
+        owner.lock().release(Held::of(seat, hold));
         drop(owner);
     }
 }

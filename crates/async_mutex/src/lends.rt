@@ -21,6 +21,6 @@ impl<T, R: Wait, O: Owns<Value = T, Runtime = R>> DerefMut for Guard<T, R, O> {
         ensures shows { result.now ≡ self.old.value }
     {
         let mutex = self.owner.lock();
-        self.hold.get_mut(mutex.raw.words.room())
+        self.hold.get_mut(mutex.words.room())
     }
 }

@@ -13,7 +13,6 @@ mod guard;
 mod lends;
 mod lock;
 mod mutex;
-mod outcome;
 mod owns;
 mod stage;
 

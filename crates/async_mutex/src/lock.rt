@@ -14,8 +14,8 @@ use crate::stage::{
 };
 use async_driver::{Polled, Turn};
 use futures::task::Context;
-use lock_driver::{RawMutex, Waiting};
 use lock_program::Refusal;
+use mutex_core::Waiting;
 use std::marker::{Model, PhantomData};
 use std::sync::Wait;
 use std::time::Clock;
@@ -28,14 +28,13 @@ use std::{fmt, mem};
 pub struct LockFuture<T, R: Wait, O: Owns<Value = T, Runtime = R>> {
     stage: Stage<O>,
     // `None` before the first poll that didn't get the lock, and once it was ready.
-    waiting: Option<Waiting<RawMutex<T>>>,
+    waiting: Option<Waiting<T>>,
     runtime: PhantomData<R>,
 }
 
 impl<T, R: Wait, O: Owns<Value = T, Runtime = R>> Model for LockFuture<T, R, O> {
     ghost use Rattle.std.specs.Prelude.{IfSome};
-    ghost use Rattle.async_mutex.specs.Futures.{Future, WaitsAs, future};
-    ghost use Rattle.lock_driver.specs.Waits.{entry_of};
+    ghost use Rattle.async_mutex.specs.Futures.{Future, WaitsAs, entry_of, future};
 
     ghost Value = { Future O };
 
@@ -76,21 +75,18 @@ impl<T, R: Wait + Clock, O: Owns<Value = T, Runtime = R>> LockFuture<T, R, O> {
         ensures registered { OnPending result (Covers cx.new (WaitsAt O.lock_of self.old.stage)) }
         ensures kept { Keeps cx.old cx.new }
     {
-        if self.waiting.is_none() {
-            return match first_look::<T, R, O>(&self.stage) {
-                Look::Got(seat, hold) => {
+        let outcome = match self.waiting.take() {
+            Some(waiting) => later_poll::<T, R, O>(&self.stage, cx, waiting),
+            None => match first_look::<T, R, O>(&self.stage) {
+                Look::Got(held) => {
                     let stage = mem::replace(&mut self.stage, Stage::Finished);
-                    Turn::Ready(into_guard(stage, seat, hold))
+                    return Turn::Ready(into_guard(stage, held));
                 }
-                Look::Vain(vain) => {
-                    let outcome = first_poll::<T, R, O>(&self.stage, cx, vain, &mut self.waiting);
-                    into_turn::<T, R, O>(&mut self.stage, outcome)
-                }
-                Look::NoShare => Turn::Refused(no_share(&self.stage)),
-            };
-        }
-        let outcome = later_poll::<T, R, O>(&self.stage, cx, &mut self.waiting);
-        into_turn::<T, R, O>(&mut self.stage, outcome)
+                Look::Vain(vain) => first_poll::<T, R, O>(&self.stage, cx, vain),
+                Look::NoShare => return Turn::Refused(no_share(&self.stage)),
+            },
+        };
+        into_turn::<T, R, O>(&mut self.stage, &mut self.waiting, outcome)
     }
 }
 

@@ -3,8 +3,7 @@
 ghost use Rattle.std.specs.Prelude.{◌≡◌, IfSome, IfOk, IfErr, None, ◌≤◌, false};
 ghost use Rattle.std.specs.Arc.{arc_value};
 ghost use Rattle.async_mutex.specs.Stages.{IsFor, is_finished};
-ghost use Rattle.lock_driver.specs.Parties.{IsGivenUp};
-ghost use Rattle.lock_words.specs.Tries.{Holds};
+ghost use Rattle.mutex_core.specs.Outcomes.{IsGivenUp, IsHeldOf};
 ghost use Rattle.lock_program.specs.declared.refusal.Refusal.{Refusal};
 
 use crate::guard::Guard;
@@ -14,9 +13,8 @@ use crate::stage::{Stage, first};
 use crate::{MutexGuard, MutexGuardArc};
 use async_driver::Settled;
 use futures::executor::block_on;
-use lock_driver::RawMutex;
 use lock_program::Refusal;
-use lock_words::{Hold, STARVED_LIMIT, Seat, Words};
+use mutex_core::{Held, STARVED_LIMIT, Words};
 use std::alloc::AllocGlobal;
 use std::fmt;
 use std::random::RandomSource;
@@ -27,14 +25,14 @@ use std::time::Clock;
 ///
 /// `R` is the runtime that the mutex was made with and keeps.
 pub struct Mutex<T, R> {
-    pub(crate) raw: RawMutex<T>,
+    pub(crate) words: Words<T>,
     pub(crate) rt: R,
 }
 
 // By hand, so that a drop is one call to prove, and not all of its parts again.
 impl<T: Drop, R: Drop> Drop for Mutex<T, R> {
     fn drop(self) {
-        let Mutex { raw: _, rt: _ } = self;
+        let Mutex { words: _, rt: _ } = self;
     }
 }
 
@@ -46,8 +44,8 @@ impl<T: Drop, R: AllocGlobal + Drop> Mutex<T, R> {
     #[inline(always)]
     pub fn new(rt: R, value: T) -> Result<Mutex<T, R>, Refusal>
         ensures memory { IfErr result (λ refusal. refusal ≡ Refusal.Memory) }
-        ensures is_left { IfOk result (λ mutex. mutex.raw.words.is_left ≡ false) }
-        ensures limit { IfOk result (λ mutex. mutex.raw.words.limit ≡ 1073741823) }
+        ensures is_left { IfOk result (λ mutex. mutex.words.is_left ≡ false) }
+        ensures limit { IfOk result (λ mutex. mutex.words.limit ≡ 1073741823) }
     {
         Mutex::with_limit(rt, value, STARVED_LIMIT)
     }
@@ -57,17 +55,14 @@ impl<T: Drop, R: AllocGlobal + Drop> Mutex<T, R> {
     pub fn with_limit(rt: R, value: T, limit: u64) -> Result<Mutex<T, R>, Refusal>
         requires { limit ≤ 1073741823 }
         ensures memory { IfErr result (λ refusal. refusal ≡ Refusal.Memory) }
-        ensures is_left { IfOk result (λ mutex. mutex.raw.words.is_left ≡ false) }
-        ensures limit { IfOk result (λ mutex. mutex.raw.words.limit ≡ limit) }
+        ensures is_left { IfOk result (λ mutex. mutex.words.is_left ≡ false) }
+        ensures limit { IfOk result (λ mutex. mutex.words.limit ≡ limit) }
     {
         let alloc = rt.alloc();
         let Ok(words) = Words::with_limit(alloc, value, limit) else {
             return Err(Refusal::Memory);
         };
-        Ok(Mutex {
-            raw: RawMutex { words },
-            rt,
-        })
+        Ok(Mutex { words, rt })
     }
 }
 
@@ -77,15 +72,15 @@ impl<T, R> Mutex<T, R> {
     where
         R: Drop,
     {
-        let Mutex { raw, rt } = self;
+        let Mutex { words, rt } = self;
         drop(rt);
-        raw.into_inner()
+        words.into_inner()
     }
 
     /// Returns the value, also of a mutex that a forgotten guard left held, which stays held. It waits for nobody and takes
     /// no memory.
     pub fn get_mut(&mut self) -> &mut T {
-        self.raw.words.get_mut()
+        self.words.get_mut()
     }
 }
 
@@ -96,8 +91,8 @@ impl<T, R: Wait> Mutex<T, R> {
     pub fn try_lock(&self) -> Option<MutexGuard<'_, T, R>>
         ensures { IfSome result (λ guard. guard.mutex ≡ self.now) }
     {
-        let (seat, hold) = self.raw.take().ok()?;
-        Some(Guard::new(self, seat, hold))
+        let held = self.words.try_lock()?;
+        Some(Guard::new(self, held))
     }
 
     /// Returns a future of the lock, which does nothing until it is polled.
@@ -109,12 +104,12 @@ impl<T, R: Wait> Mutex<T, R> {
         LockFuture::new(Stage::Waits(self))
     }
 
-    // Gives the lock back, where it was taken and no guard is made of it.
+    // Gives the lock back.
     #[inline]
-    pub(crate) fn release(&self, seat: Seat<T>, hold: Hold<T>)
-        requires { Holds self.now.raw.words seat hold × (seat.starved ≡ false) }
+    pub(crate) fn release(&self, held: Held<T>)
+        requires { IsHeldOf self.now.words held }
     {
-        self.raw.release(&self.rt, seat, hold);
+        self.words.release(&self.rt, held);
     }
 }
 
@@ -124,11 +119,11 @@ impl<T: Drop, R: Wait + Drop> Mutex<T, R> {
     pub fn try_lock_arc(this: &Arc<Mutex<T, R>>) -> Option<MutexGuardArc<T, R>>
         ensures { IfSome result (λ guard. guard.mutex ≡ arc_value this.now) }
     {
-        let (seat, hold) = this.raw.take().ok()?;
+        let held = this.words.try_lock()?;
         match Arc::try_clone(this) {
-            Ok(mutex) => Some(Guard::new(mutex, seat, hold)),
+            Ok(mutex) => Some(Guard::new(mutex, held)),
             Err(_) => {
-                this.release(seat, hold);
+                this.release(held);
                 None
             }
         }
@@ -193,11 +188,11 @@ impl<T: Drop, R: Wait + Clock + RandomSource + AllocGlobal + Drop> Mutex<T, R> {
 
 impl<T: fmt::Debug, R: Wait> fmt::Debug for Mutex<T, R> {
     fn fmt<W: fmt::Write>(&self, f: &mut fmt::Formatter<W>) -> fmt::Result {
-        let Ok((seat, hold)) = self.raw.take() else {
+        let Some(held) = self.words.try_lock() else {
             return debug_as(f, &Locked);
         };
-        let shown = debug_as(f, hold.get(self.raw.words.room()));
-        self.release(seat, hold);
+        let shown = debug_as(f, held.hold.get(self.words.room()));
+        self.release(held);
         shown
     }
 }

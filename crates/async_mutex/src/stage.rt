@@ -1,23 +1,19 @@
 //! How far a future is, one poll of it by who has the mutex, and what a dropped one gives back.
 
-ghost use Rattle.std.specs.Prelude.{◌≡◌, false, IfSome, IsSomeAnd, MatchBool, None};
+ghost use Rattle.std.specs.Prelude.{◌≡◌, false, IfSome, MatchBool, None, Some};
 ghost use Rattle.futures.specs.Task.{Keeps};
-ghost use Rattle.async_mutex.specs.Stages.{HasShare, IsFor, IsOf, is_finished};
+ghost use Rattle.async_mutex.specs.Stages.{IsFor, IsOf, is_finished};
 ghost use Rattle.lock_program.specs.declared.refusal.Refusal.TheVariants as refusals;
-ghost use Rattle.async_mutex.specs.Futures.{GotAt, HasReceipt, IsAnswer, IsTurn, Looks, OnOutcome, OnPolled, WaitsAs};
-ghost use Rattle.lock_driver.specs.Waits.{entry_of};
-ghost use Rattle.async_mutex.specs.Outcomes.{OnWaits};
+ghost use Rattle.async_mutex.specs.Futures.{GotAt, HasReceipt, IsAnswer, IsTurn, Looks, LooksInVain, OnPolled, OnWaits, WaitsAs, entry_of};
 ghost use Rattle.async_mutex.specs.declared.mutex.Mutex.{Mutex};
 
 use crate::guard::Guard;
 use crate::mutex::Mutex;
-use crate::outcome::{Outcome, came_to};
 use crate::owns::Owns;
-use async_driver::{Turn, nothing};
+use async_driver::{Turn, nothing, put};
 use futures::task::Context;
-use lock_driver::{RawMutex, Vain, Waiting, cancel, poll_first, poll_later};
 use lock_program::Refusal;
-use lock_words::{Hold, Seat};
+use mutex_core::{Held, Outcome, Vain, Waiting};
 use std::mem;
 use std::sync::Wait;
 use std::time::Clock;
@@ -47,10 +43,10 @@ pub(crate) fn first<T, R, O: Owns<Value = T, Runtime = R>>(share: Option<O>) -> 
 
 /// What a first look by who has the mutex came to.
 pub(crate) enum Look<T> {
-    /// The lock, by this seat.
-    Got(Seat<T>, Hold<T>),
-    /// This, which doesn't get the lock.
-    Vain(Vain),
+    /// The lock.
+    Got(Held<T>),
+    /// This, which didn't get the lock.
+    Vain(Vain<T>),
     /// Nobody looked: who has the mutex isn't there.
     NoShare,
 }
@@ -61,8 +57,8 @@ pub(crate) fn first_look<T, R, O: Owns<Value = T, Runtime = R>>(stage: &Stage<O>
     ensures { Looks O.lock_of stage.now result }
 {
     match stage {
-        Stage::Waits(owner) => match owner.lock().raw.take() {
-            Ok((seat, hold)) => Look::Got(seat, hold),
+        Stage::Waits(owner) => match owner.lock().words.first_look() {
+            Ok(held) => Look::Got(held),
             Err(vain) => Look::Vain(vain),
         },
         Stage::Unowned | Stage::Finished => Look::NoShare,
@@ -84,36 +80,41 @@ pub(crate) fn no_share<O>(stage: &Stage<O>) -> Refusal
 #[inline]
 pub(crate) fn into_guard<T, R: Wait, O: Owns<Value = T, Runtime = R>>(
     stage: Stage<O>,
-    seat: Seat<T>,
-    hold: Hold<T>,
+    held: Held<T>,
 ) -> Guard<T, R, O>
-    requires { GotAt O.lock_of stage seat hold }
+    requires { GotAt O.lock_of stage held }
     ensures { IsOf O.lock_of stage result.mutex }
 {
     match stage {
-        Stage::Waits(owner) => Guard::new(owner, seat, hold),
+        Stage::Waits(owner) => Guard::new(owner, held),
         Stage::Unowned | Stage::Finished => unreachable!(),
     }
 }
 
-/// The answer of a poll that went so. Who has the mutex goes to the guard.
+/// The answer of a poll that went so. Who has the mutex goes to the guard, and who waits to the future.
 #[inline(always)]
 pub(crate) fn into_turn<T, R: Wait, O: Owns<Value = T, Runtime = R>>(
     stage: &mut Stage<O>,
+    waiting: &mut Option<Waiting<T>>,
     outcome: Outcome<T>,
 ) -> Turn<Guard<T, R, O>>
-    requires outcome { OnOutcome O.lock_of stage.old outcome }
+    requires none { waiting.old ≡ None }
+    requires outcome { OnPolled O.lock_of stage.old outcome }
     requires open { is_finished stage.old ≡ false }
+    ensures waiting { IfSome waiting.new (WaitsAs O.lock_of stage.new) }
     ensures turn { IsTurn (λ guard. IsOf O.lock_of stage.old guard.mutex) false result (is_finished stage.new) }
     ensures share { is_finished stage.new ≡ false → stage.new ≡ stage.old }
-    ensures answer { IsAnswer outcome result }
+    ensures answer { IsAnswer outcome result waiting.new }
 {
     match outcome {
-        Outcome::Got(seat, hold) => {
+        Outcome::Got(held) => {
             let stage = mem::replace(stage, Stage::Finished);
-            Turn::Ready(into_guard(stage, seat, hold))
+            Turn::Ready(into_guard(stage, held))
         }
-        Outcome::Waits => Turn::Pending,
+        Outcome::Waits(waits) => {
+            put(waiting, waits);
+            Turn::Pending
+        }
         Outcome::Refused(refusal) => Turn::Refused(refusal),
     }
 }
@@ -123,21 +124,17 @@ pub(crate) fn into_turn<T, R: Wait, O: Owns<Value = T, Runtime = R>>(
 pub(crate) fn first_poll<T, R: Wait + Clock, O: Owns<Value = T, Runtime = R>>(
     stage: &Stage<O>,
     cx: &mut Context<'_>,
-    vain: Vain,
-    waiting: &mut Option<Waiting<RawMutex<T>>>,
+    vain: Vain<T>,
 ) -> Outcome<T>
-    requires none { waiting.old ≡ None }
-    requires share { HasShare stage.now }
-    ensures waiting { IfSome waiting.new (WaitsAs O.lock_of stage.now) }
-    ensures outcome { OnPolled O.lock_of stage.now result waiting.new }
-    ensures receipt { OnWaits result (HasReceipt O.lock_of stage.now cx.new (entry_of waiting.new)) }
+    requires { LooksInVain O.lock_of stage.now vain }
+    ensures outcome { OnPolled O.lock_of stage.now result }
+    ensures receipt { OnWaits result (λ waiting. HasReceipt O.lock_of stage.now cx.new (entry_of (Some waiting))) }
     ensures kept { Keeps cx.old cx.new }
 {
     match stage {
         Stage::Waits(owner) => {
             let mutex = owner.lock();
-            let seat = mutex.raw.words.sit();
-            came_to(poll_first(&mutex.raw, &mutex.rt, cx, seat, vain, waiting))
+            mutex.words.poll_first(&mutex.rt, cx, vain)
         }
         Stage::Unowned | Stage::Finished => unreachable!(),
     }
@@ -148,18 +145,17 @@ pub(crate) fn first_poll<T, R: Wait + Clock, O: Owns<Value = T, Runtime = R>>(
 pub(crate) fn later_poll<T, R: Wait + Clock, O: Owns<Value = T, Runtime = R>>(
     stage: &Stage<O>,
     cx: &mut Context<'_>,
-    waiting: &mut Option<Waiting<RawMutex<T>>>,
+    waiting: Waiting<T>,
 ) -> Outcome<T>
-    requires { IsSomeAnd waiting.old (WaitsAs O.lock_of stage.now) }
-    ensures waiting { IfSome waiting.new (WaitsAs O.lock_of stage.now) }
-    ensures outcome { OnPolled O.lock_of stage.now result waiting.new }
-    ensures receipt { OnWaits result (HasReceipt O.lock_of stage.now cx.new (entry_of waiting.new)) }
+    requires { WaitsAs O.lock_of stage.now waiting }
+    ensures outcome { OnPolled O.lock_of stage.now result }
+    ensures receipt { OnWaits result (λ waiting. HasReceipt O.lock_of stage.now cx.new (entry_of (Some waiting))) }
     ensures kept { Keeps cx.old cx.new }
 {
     match stage {
         Stage::Waits(owner) => {
             let mutex = owner.lock();
-            came_to(poll_later(&mutex.raw, &mutex.rt, cx, waiting))
+            mutex.words.poll_later(&mutex.rt, cx, waiting)
         }
         Stage::Unowned | Stage::Finished => unreachable!(),
     }
@@ -169,7 +165,7 @@ pub(crate) fn later_poll<T, R: Wait + Clock, O: Owns<Value = T, Runtime = R>>(
 #[inline]
 pub(crate) fn drop_stage<T, R: Wait, O: Owns<Value = T, Runtime = R>>(
     stage: Stage<O>,
-    waiting: Option<Waiting<RawMutex<T>>>,
+    waiting: Option<Waiting<T>>,
 )
     requires { IfSome waiting (WaitsAs O.lock_of stage) }
 {
@@ -177,7 +173,7 @@ pub(crate) fn drop_stage<T, R: Wait, O: Owns<Value = T, Runtime = R>>(
         Stage::Waits(owner) => {
             if let Some(waiting) = waiting {
                 let mutex = owner.lock();
-                cancel(&mutex.raw, &mutex.rt, waiting).rise();
+                mutex.words.cancel(&mutex.rt, waiting);
             }
             drop(owner);
         }

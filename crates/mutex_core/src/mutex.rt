@@ -54,10 +54,18 @@ impl<T> Words<T> {
     pub fn try_lock(&self) -> Option<Held<T>>
         ensures { IfSome result (IsHeldOf self.now) }
     {
-        match self.first_look() {
-            Ok(held) => Some(held),
-            Err(vain) => {
-                vain.end();
+        if self.left.is_some() {
+            return None;
+        }
+        let mut seat = self.sit();
+        match self.take(&mut seat) {
+            Taking::Got(hold) => Some(Held { seat, hold }),
+            Taking::Held => {
+                seat.rise();
+                None
+            }
+            Taking::Starved => {
+                seat.rise();
                 None
             }
         }
@@ -238,7 +246,7 @@ impl<T> Words<T> {
                     Refusal::Memory,
                 )),
             };
-            // Look
+            // Look, as after every join
             match self.look(rt, &mut seat) {
                 Taking::Got(hold) => return Outcome::Got(self.leave_with(rt, seat, hold, id)),
                 Taking::Held => {}
