@@ -209,15 +209,15 @@ module _ (S : Type 0) (len_of marked_of : S → ℕ) (is_right : RoomId → ℕ 
         (λ ne. subst (λ (v : View). R (stepped s 0 x id me.1 v keeps)) (sym (looking-starved x me.0 even ne)) (sees_starved even ne)))
         (λ odd. subst (λ (v : View). R (stepped s 0 x id me.1 v keeps)) (sym (looking-held x me.0 odd)) (sees_held odd has))
 
-    abbrev pub got : View
-    got = got_of me.0
+    abbrev pub got : ℕ → View
+    got n = got_of n me.0
 
     -- the right of a free lock
     pub lent : x % 2 ≡ 0 → Lies s.homes
     lent even = r.right (word.nobody is_holder is_starved most 0 s.words s.views id me.0 me.0 r.word at even)
 
-    pub gets : (even : x % 2 ≡ 0) → R (stepped s 0 (x + 1) id me.1 got (takes 1 (lent even).0))
-    gets even = let w : View = got in
+    pub gets : (n : ℕ) (even : x % 2 ≡ 0) → R (stepped s 0 (x + 1) id me.1 (got n) (takes 1 (lent even).0))
+    gets n even = let w : View = got n in
         let gone = word.gets is_holder is_starved most 0 s.words s.views id me.0 w r.word at even refl refl in
         let held = gone.1 in moved (x + 1) w (takes 1 (lent even).0) gone.0 (refl, refl, refl, refl, (refl, refl)) (set_else s.homes 1 0 none (λ z. omega (arith, z)))
         (λ absent. absurd (omega arith)) ((λ f. never f), (λ _ _ h. never (sym h))) (inl (omega arith))
@@ -229,8 +229,8 @@ module _ (S : Type 0) (len_of marked_of : S → ℕ) (is_right : RoomId → ℕ 
     of_lock right good = subst (λ (d : ℕ). is_right room d right) mine_keyed.1 (subst (λ (z : RoomId). is_right z me.0.deed right) mine_keyed.0 good)
 
     -- the seat has got the lock, with the right
-    pub gets-right : (even : x % 2 ≡ 0) → Got is_right me (got, (1, (lent even).0) ∷ me.1)
-    gets-right even = (refl, ((lent even).0, refl, of_seat (lent even).0 (lent even).2))
+    pub gets-right : (n : ℕ) (even : x % 2 ≡ 0) → Got is_right n me (got n, (1, (lent even).0) ∷ me.1)
+    gets-right n even = (refl, ((lent even).0, refl, of_seat (lent even).0 (lent even).2))
 
     abbrev pub cleared : View
     cleared = cleared_of me.0
@@ -422,16 +422,16 @@ module _ (S : Type 0) (len_of marked_of : S → ℕ) (is_right : RoomId → ℕ 
 
   module _ (slots id : ℕ) (me : M) where
     -- the only one who is starved gets the lock; else it has looked, and found its own count
-    pub taken_alone : me.0.starved ≡ true → me.0.listed ≡ true → Allows R slots id me 0 (λ n. either (eqb n 2) 3 n) (λ n m'. (n ≡ 2 → Got is_right me m') × (n ≢ 2 → Looked me n m') × (n ≢ 0))
+    pub taken_alone : me.0.starved ≡ true → me.0.listed ≡ true → Allows R slots id me 0 (λ n. either (eqb n 2) 3 n) (λ n m'. (n ≡ 2 → Got is_right 1 me m') × (n ≢ 2 → Looked me n m') × (n ≢ 0))
     taken_alone starved listed s r _ at _ = let n : ℕ = get_or s.words 0 0 in
         let mine = number-at is_starved s.views id me.0 at in let one : weight (is_starved me.0) ≡ 1 = ap weight starved in let is = r.word.3 in
         let some : 2 ≤ n = omega arith in dite (ℕ_discrete n 2)
         (λ hit. let even : n % 2 ≡ 0 = ap (λ j. j % 2) hit in let right = (lent s id me r at even).0 in (
-          got_of me.0,
+          got_of 1 me.0,
           takes 1 right,
           (lent s id me r at even).1,
-          subst (λ b. R (stepped s 0 (either b 3 n) id me.1 (got_of me.0) (takes 1 right))) (sym (eq-eqb n 2 hit)) (subst (λ j. R (stepped s 0 (j + 1) id me.1 (got_of me.0) (takes 1 right))) hit (gets s id me r at even)),
-          ((λ _. gets-right s id me r at even), (λ miss. absurd (miss hit)), λ z. omega (arith, z, some)),
+          subst (λ b. R (stepped s 0 (either b 3 n) id me.1 (got_of 1 me.0) (takes 1 right))) (sym (eq-eqb n 2 hit)) (subst (λ j. R (stepped s 0 (j + 1) id me.1 (got_of 1 me.0) (takes 1 right))) hit (gets s id me r at 1 even)),
+          ((λ _. gets-right s id me r at 1 even), (λ miss. absurd (miss hit)), λ z. omega (arith, z, some)),
         ))
         (λ miss. (
           looking n me.0,
@@ -442,10 +442,10 @@ module _ (S : Type 0) (len_of marked_of : S → ℕ) (is_right : RoomId → ℕ 
         ))
 
     -- the seat sets the lowest bit: it has the lock, if that was free
-    pub lifted : Allows R slots id me 0 (λ n. bit_or n 1) (λ n m'. (n % 2 ≡ 0 → Got is_right me m') × (n % 2 ≢ 0 → m' ≡ me))
+    pub lifted : Allows R slots id me 0 (λ n. bit_or n 1) (λ n m'. (n % 2 ≡ 0 → Got is_right (n / 2) me m') × (n % 2 ≢ 0 → m' ≡ me))
     lifted s r _ at _ = let n : ℕ = get_or s.words 0 0 in let low = or_one n in dite (ℕ_discrete (n % 2) 0)
         (λ even. let up : n + 1 ≡ bit_or n 1 = omega arith in let right = (lent s id me r at even).0 in
-        (got_of me.0, takes 1 right, (lent s id me r at even).1, subst (λ k. R (stepped s 0 k id me.1 (got_of me.0) (takes 1 right))) up (gets s id me r at even), ((λ _. gets-right s id me r at even), λ not. absurd (not even))))
+        (got_of (n / 2) me.0, takes 1 right, (lent s id me r at even).1, subst (λ k. R (stepped s 0 k id me.1 (got_of (n / 2) me.0) (takes 1 right))) up (gets s id me r at (n / 2) even), ((λ _. gets-right s id me r at (n / 2) even), λ not. absurd (not even))))
         (λ odd. let same : n ≡ bit_or n 1 = omega arith in (me.0, keeps, tt, subst (λ k. R (stepped s 0 k id me.1 me.0 keeps)) same (still s id me r at), ((λ even. absurd (odd even)), λ _. refl)))
 
     -- a look that changes nothing for the seat
@@ -456,14 +456,14 @@ module _ (S : Type 0) (len_of marked_of : S → ℕ) (is_right : RoomId → ℕ 
     looked has s r _ at _ = (looking (get_or s.words 0 0) me.0, keeps, tt, looks s id me r at has, looked-is (get_or s.words 0 0) me)
 
     -- from the word k, which is even, the seat gets the lock; else it has looked
-    pub taken_from : (k : ℕ) → k % 2 ≡ 0 → (me.0.starved ≡ true → me.0.listed ≡ true) → Allows R slots id me 0 (λ n. either (eqb n k) (k + 1) n) (λ n m'. (n ≡ k → Got is_right me m') × (n ≢ k → Looked me n m'))
+    pub taken_from : (k : ℕ) → k % 2 ≡ 0 → (me.0.starved ≡ true → me.0.listed ≡ true) → Allows R slots id me 0 (λ n. either (eqb n k) (k + 1) n) (λ n m'. (n ≡ k → Got is_right (k / 2) me m') × (n ≢ k → Looked me n m'))
     taken_from k even has s r _ at _ = let n : ℕ = get_or s.words 0 0 in dite (ℕ_discrete n k)
         (λ hit. let even' : n % 2 ≡ 0 = ap (λ j. j % 2) hit ∙ even in let right = (lent s id me r at even').0 in (
-          got_of me.0,
+          got_of (k / 2) me.0,
           takes 1 right,
           (lent s id me r at even').1,
-          subst (λ b. R (stepped s 0 (either b (k + 1) n) id me.1 (got_of me.0) (takes 1 right))) (sym (eq-eqb n k hit)) (subst (λ j. R (stepped s 0 (j + 1) id me.1 (got_of me.0) (takes 1 right))) hit (gets s id me r at even')),
-          ((λ _. gets-right s id me r at even'), λ miss. absurd (miss hit)),
+          subst (λ b. R (stepped s 0 (either b (k + 1) n) id me.1 (got_of (k / 2) me.0) (takes 1 right))) (sym (eq-eqb n k hit)) (subst (λ j. R (stepped s 0 (j + 1) id me.1 (got_of (k / 2) me.0) (takes 1 right))) hit (gets s id me r at (k / 2) even')),
+          ((λ _. gets-right s id me r at (k / 2) even'), λ miss. absurd (miss hit)),
         ))
         (λ miss. (
           looking n me.0,

@@ -75,6 +75,7 @@ held_of {S} len_of marked_of m m' list e = (
     ap (λ (n : Me S View). n.0.fresh) e,
     ap (λ (n : Me S View). n.0.room) e,
     ap (λ (n : Me S View). n.0.deed) e,
+    ap (λ (n : Me S View). n.0.passed) e,
   ),
   ap (λ (n : Me S View). rest n.1) e,
 )

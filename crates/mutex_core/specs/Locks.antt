@@ -26,7 +26,8 @@ pub record Lock : Type 0 where
 abbrev pub lock_coded : Coded Lock
 lock_coded = code_by (TableId × (RightId × (RoomId × (ℕ × (ℕ × Bool))))) (coded× table_id_coded (coded× right_id_coded (coded× room_id_coded (coded× coded_ℕ (coded× coded_ℕ coded_bool))))) (λ l. (l.table, (l.right, (l.room, (l.source, (l.limit, l.is_left)))))) (λ p. record { table = p.0; right = p.1.0; room = p.1.1.0; source = p.1.1.1.0; limit = p.1.1.1.1.0; is_left = p.1.1.1.1.1 }) (λ _. refl)
 
--- A seat: of which table and right it is, whether it holds the lock, is counted as starved, owes, has an entry, and has not looked since it joined.
+-- A seat: of which table and right it is, whether it holds the lock, is counted as starved, owes, has an entry, and has not looked since it joined; and how
+-- many were starved when it last got the lock.
 pub record Seated : Type 0 where
   pub table : TableId
   pub right : RightId
@@ -35,12 +36,13 @@ pub record Seated : Type 0 where
   pub owes : Bool
   pub listed : Bool
   pub fresh : Bool
+  pub passed : ℕ
 
 abbrev pub seated_coded : Coded Seated
-seated_coded = code_by (TableId × (RightId × (Bool × (Bool × (Bool × (Bool × Bool)))))) (coded× table_id_coded (coded× right_id_coded (coded× coded_bool (coded× coded_bool (coded× coded_bool (coded× coded_bool coded_bool)))))) (λ s. (s.table, (s.right, (s.holds, (s.starved, (s.owes, (s.listed, s.fresh))))))) (λ p. record { table = p.0; right = p.1.0; holds = p.1.1.0; starved = p.1.1.1.0; owes = p.1.1.1.1.0; listed = p.1.1.1.1.1.0; fresh = p.1.1.1.1.1.1 }) (λ _. refl)
+seated_coded = code_by (TableId × (RightId × (Bool × (Bool × (Bool × (Bool × (Bool × ℕ))))))) (coded× table_id_coded (coded× right_id_coded (coded× coded_bool (coded× coded_bool (coded× coded_bool (coded× coded_bool (coded× coded_bool coded_ℕ))))))) (λ s. (s.table, (s.right, (s.holds, (s.starved, (s.owes, (s.listed, (s.fresh, s.passed)))))))) (λ p. record { table = p.0; right = p.1.0; holds = p.1.1.0; starved = p.1.1.1.0; owes = p.1.1.1.1.0; listed = p.1.1.1.1.1.0; fresh = p.1.1.1.1.1.1.0; passed = p.1.1.1.1.1.1.1 }) (λ _. refl)
 
 abbrev pub seated : TableId → View → Seated
-seated table v = record { table = table; right = record { room = v.room; deed = v.deed }; holds = v.holds; starved = v.starved; owes = v.owes; listed = v.listed; fresh = v.fresh }
+seated table v = record { table = table; right = record { room = v.room; deed = v.deed }; holds = v.holds; starved = v.starved; owes = v.owes; listed = v.listed; fresh = v.fresh; passed = v.passed }
 
 -- The seat is one of the lock.
 abbrev pub IsOf : Lock → Seated → Type 0
@@ -53,10 +55,11 @@ HasSlots false slots = slots ≡ []
 
 -- a seat with nothing
 abbrev pub entering : Lock → Seated
-entering lock = record { table = lock.table; right = lock.right; holds = false; starved = false; owes = false; listed = false; fresh = false }
+entering lock = record { table = lock.table; right = lock.right; holds = false; starved = false; owes = false; listed = false; fresh = false; passed = 0 }
 
-abbrev pub with_got : Seated → Seated
-with_got s = record s { holds = true; owes = false; fresh = false }
+-- it has got the lock while n were starved
+abbrev pub with_got : Seated → ℕ → Seated
+with_got s n = record s { holds = true; owes = false; fresh = false; passed = n }
 
 abbrev pub with_held : Seated → Seated
 with_held s = record s { owes = false; fresh = false }

@@ -9,7 +9,7 @@ use Rattle.words_base.specs.MutexWord.{IsWord}
 use Rattle.mutex_core.specs.declared.view.View.{View}
 
 abbrev pub first_view : RoomId → ℕ → View
-first_view room deed = record { holds = false; starved = false; owes = false; listed = false; fresh = false; has_list = false; len = 0; marked = 0; room = room; deed = deed }
+first_view room deed = record { holds = false; starved = false; owes = false; listed = false; fresh = false; has_list = false; len = 0; marked = 0; room = room; deed = deed; passed = 0 }
 
 -- Which seats have a flag.
 abbrev pub is_holder : View → Bool

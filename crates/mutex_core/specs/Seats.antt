@@ -8,8 +8,9 @@ saw_held_of v = record v { owes = false; fresh = false }
 abbrev pub saw_starved_of : View → View
 saw_starved_of v = record v { fresh = false }
 
-abbrev pub got_of : View → View
-got_of v = record v { holds = true; owes = false; fresh = false }
+-- it has got the lock while n were starved
+abbrev pub got_of : ℕ → View → View
+got_of n v = record v { holds = true; owes = false; fresh = false; passed = n }
 
 abbrev pub cleared_of : View → View
 cleared_of v = record v { holds = false; owes = true }

@@ -14,9 +14,9 @@ Kept m m' = m' ≡ m
 abbrev pub Looked : {S : Type 0} → Me S View → ℕ → Me S View → Type 0
 Looked m r m' = (r % 2 ≡ 1 → m' ≡ (saw_held_of m.0, m.1)) × (r % 2 ≡ 0 → r ≢ 0 → m' ≡ (saw_starved_of m.0, m.1)) × (r ≡ 0 → m' ≡ m)
 
--- The seat has got the lock, and the right to the value is out with it.
-abbrev pub Got : {S : Type 0} → (RoomId → ℕ → S → Type 0) → Me S View → Me S View → Type 0
-Got {S} is_right m m' = (m'.0 ≡ got_of m.0) × ((right : S) × (m'.1 ≡ (1, right) ∷ m.1) × is_right m.0.room m.0.deed right)
+-- The seat has got the lock while n were starved, and the right to the value is out with it.
+abbrev pub Got : {S : Type 0} → (RoomId → ℕ → S → Type 0) → ℕ → Me S View → Me S View → Type 0
+Got {S} is_right n m m' = (m'.0 ≡ got_of n m.0) × ((right : S) × (m'.1 ≡ (1, right) ∷ m.1) × is_right m.0.room m.0.deed right)
 
 -- The seat has the lock, and this lies in the slot of the right that is out with it.
 abbrev pub HasRight : {S : Type 0} → (RoomId → ℕ → S → Type 0) → Me S View → Type 0
@@ -24,7 +24,7 @@ HasRight {S} is_right m = (m.0.holds ≡ true) × ((right : S) × (m.1 ≡ (1, r
 
 -- What a seat has else is as it was.
 abbrev pub IsSame : View → View → Type 0
-IsSame v w = (w.holds ≡ v.holds) × (w.starved ≡ v.starved) × (w.owes ≡ v.owes) × (w.listed ≡ v.listed) × (w.fresh ≡ v.fresh) × (w.room ≡ v.room) × (w.deed ≡ v.deed)
+IsSame v w = (w.holds ≡ v.holds) × (w.starved ≡ v.starved) × (w.owes ≡ v.owes) × (w.listed ≡ v.listed) × (w.fresh ≡ v.fresh) × (w.room ≡ v.room) × (w.deed ≡ v.deed) × (w.passed ≡ v.passed)
 
 -- The list is out with the seat.
 abbrev pub Has : {S : Type 0} → Me S View → S → Type 0

@@ -72,7 +72,7 @@ impl<T> Words<T> {
         requires of { IsOf self.now seat.old }
         requires idle { seat.old.holds ≡ false }
         requires stands { seat.old.starved ≡ true → seat.old.listed ≡ true }
-        ensures { OnTaking result (λ hold. (seat.new ≡ with_got seat.old) × IsRightOf self.now hold) (seat.new ≡ with_held seat.old) ((seat.new ≡ with_look seat.old) ⊎ (seat.new ≡ with_held seat.old)) }
+        ensures { OnTaking result (λ hold. (seat.new ≡ with_got seat.old 0) × IsRightOf self.now hold) (seat.new ≡ with_held seat.old) ((seat.new ≡ with_look seat.old) ⊎ (seat.new ≡ with_held seat.old)) }
     {
         if self.left.is_some() {
             find_held(&self.table.shared, rt, &mut seat.inner);
@@ -86,7 +86,7 @@ impl<T> Words<T> {
         requires of { IsOf self.now seat.old }
         requires idle { seat.old.holds ≡ false }
         requires stands { (seat.old.starved ≡ true) × (seat.old.listed ≡ true) }
-        ensures { OnAlone result (λ hold. (seat.new ≡ with_got seat.old) × IsRightOf self.now hold) (seat.new ≡ with_held seat.old) (seat.new ≡ with_look seat.old) }
+        ensures { OnAlone result (λ hold. (seat.new ≡ with_got seat.old 1) × IsRightOf self.now hold) (seat.new ≡ with_held seat.old) (seat.new ≡ with_look seat.old) }
     {
         if self.left.is_some() {
             find_held(&self.table.shared, rt, &mut seat.inner);

@@ -74,7 +74,7 @@ pub(crate) fn exchange<T, S: Content>(shared: &Ruled<T, S>, inner: &mut TableSea
     requires table { (inner.old.table_id ≡ shared.now.table_id) × (shared.now.table_id.words ≡ 2) }
     requires seen { inner.old.me.0.starved ≡ true → inner.old.me.0.listed ≡ true }
     ensures table { inner.new.table_id ≡ inner.old.table_id }
-    ensures took { result ≡ 0 → Got S.is_right inner.old.me inner.new.me }
+    ensures took { result ≡ 0 → Got S.is_right 0 inner.old.me inner.new.me }
     ensures not { result ≢ 0 → Looked inner.old.me result inner.new.me }
 {
     shared.compare_exchange::<Takes>(inner, WORD, FREE, HELD)
@@ -89,7 +89,7 @@ pub(crate) fn exchange_alone<T, S: Content>(
     requires table { (inner.old.table_id ≡ shared.now.table_id) × (shared.now.table_id.words ≡ 2) }
     requires stands { (inner.old.me.0.starved ≡ true) × (inner.old.me.0.listed ≡ true) }
     ensures table { inner.new.table_id ≡ inner.old.table_id }
-    ensures took { result ≡ 2 → Got S.is_right inner.old.me inner.new.me }
+    ensures took { result ≡ 2 → Got S.is_right 1 inner.old.me inner.new.me }
     ensures not { result ≢ 2 → Looked inner.old.me result inner.new.me }
     ensures some { result ≢ 0 }
 {
@@ -101,7 +101,7 @@ pub(crate) fn exchange_alone<T, S: Content>(
 pub(crate) fn lift<T, S: Content>(shared: &Ruled<T, S>, inner: &mut TableSeat<S, View>) -> u64
     requires table { (inner.old.table_id ≡ shared.now.table_id) × (shared.now.table_id.words ≡ 2) }
     ensures table { inner.new.table_id ≡ inner.old.table_id }
-    ensures took { result % 2 ≡ 0 → Got S.is_right inner.old.me inner.new.me }
+    ensures took { result % 2 ≡ 0 → Got S.is_right (result / 2) inner.old.me inner.new.me }
     ensures not { result % 2 ≢ 0 → inner.new.me ≡ inner.old.me }
 {
     shared.fetch_or::<Lifts>(inner, WORD, HELD)

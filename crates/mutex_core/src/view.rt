@@ -27,6 +27,8 @@ pub struct View {
     pub ghost room: { RoomId } by { room_id_coded },
     /// The deed of its lock's spare.
     pub ghost deed: { ℕ },
+    /// How many were starved when it last got the lock.
+    pub ghost passed: { ℕ },
 }
 
 impl Model for View {

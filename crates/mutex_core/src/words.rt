@@ -169,7 +169,7 @@ impl<T> Words<T> {
         requires left { self.now.is_left ≡ false }
         requires idle { seat.old.holds ≡ false }
         requires stands { seat.old.starved ≡ true → seat.old.listed ≡ true }
-        ensures { OnTaking result (λ hold. (seat.new ≡ with_got seat.old) × IsRightOf self.now hold) (seat.new ≡ with_held seat.old) ((seat.new ≡ with_look seat.old) ⊎ (seat.new ≡ with_held seat.old)) }
+        ensures { OnTaking result (λ hold. (seat.new ≡ with_got seat.old 0) × IsRightOf self.now hold) (seat.new ≡ with_held seat.old) ((seat.new ≡ with_look seat.old) ⊎ (seat.new ≡ with_held seat.old)) }
     {
         let shared = &self.table.shared;
         let seen = look(shared, &mut seat.inner);
@@ -195,7 +195,7 @@ impl<T> Words<T> {
         requires idle { seat.old.holds ≡ false }
         requires left { self.now.is_left ≡ false }
         requires stands { (seat.old.starved ≡ true) × (seat.old.listed ≡ true) }
-        ensures { OnAlone result (λ hold. (seat.new ≡ with_got seat.old) × IsRightOf self.now hold) (seat.new ≡ with_held seat.old) (seat.new ≡ with_look seat.old) }
+        ensures { OnAlone result (λ hold. (seat.new ≡ with_got seat.old 1) × IsRightOf self.now hold) (seat.new ≡ with_held seat.old) (seat.new ≡ with_look seat.old) }
     {
         let shared = &self.table.shared;
         let found = exchange_alone(shared, &mut seat.inner);
@@ -213,7 +213,7 @@ impl<T> Words<T> {
     pub fn set(&self, seat: &mut Seat<T>) -> Setting<Hold<T>>
         requires of { IsOf self.now seat.old }
         requires idle { seat.old.holds ≡ false }
-        ensures { OnSetting result (λ hold. (seat.new ≡ with_got seat.old) × IsRightOf self.now hold) (seat.new ≡ seat.old) }
+        ensures { OnSetting result (λ hold. (seat.new ≡ with_got seat.old seat.new.passed) × IsRightOf self.now hold) (seat.new ≡ seat.old) }
     {
         if self.left.is_some() {
             return Setting::WasSet;
