@@ -3,9 +3,9 @@ use Rattle.std.proofs.Common.{◌≡◌, ◌≢◌, ℕ, ◌%◌, true, sym, ap,
 use native.Mathlib.Decide.{ℕ_discrete}
 use mathlib.Core.Logic.{dite}
 use Rattle.atomic_table.specs.Table.{Me}
-use Rattle.mutex_core.specs.Seats.{saw_held_of}
-use Rattle.mutex_core.specs.Steps.{Looked}
-use Rattle.mutex_core.specs.declared.view.View.{View}
+use Rattle.words_mutex.specs.Seats.{saw_held_of}
+use Rattle.words_mutex.specs.Steps.{Looked}
+use Rattle.words_mutex.specs.declared.view.View.{View}
 
 module _ {S : Type 0} where
   -- what a look that finds the lock held would leave

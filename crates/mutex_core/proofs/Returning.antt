@@ -1,12 +1,12 @@
 -- What is known of a list that is about to be given back.
 use Rattle.std.proofs.Common.{◌≡◌, ℕ, ◌<◌, ◌≤◌, ◌+◌, List, [], ◌∷◌, refl, sym, ap, ◌∙◌, subst, Result, Ok, Err, OnOk, OnErr, MatchResult}
 use Rattle.atomic_table.specs.Table.{Me, rest}
-use Rattle.mutex_core.specs.Seats.{listing_of}
-use Rattle.mutex_core.specs.Steps.{Has, Says, IsHeld, IsSame, CanJoin, CanHear, CanPay, CanLeave, CanStay}
+use Rattle.words_mutex.specs.Seats.{listing_of}
+use Rattle.words_mutex.specs.Steps.{Has, Says, IsHeld, IsSame, CanJoin, CanHear, CanPay, CanLeave, CanStay}
 use Rattle.mutex_core.specs.Asking.{ByHeard}
 use Rattle.mutex_core.specs.declared.heard.Heard.{Heard}
 use Rattle.mutex_core.specs.declared.heard.Heard.TheVariants.{Told, Waits}
-use Rattle.mutex_core.specs.declared.view.View.{View}
+use Rattle.words_mutex.specs.declared.view.View.{View}
 
 module _ {S : Type 0} (len_of marked_of : S → ℕ) (m : Me S View) (held : IsHeld len_of marked_of m) where
   -- the slot that the seat took last is the list's
@@ -62,20 +62,3 @@ module _ {S : Type 0} (len_of marked_of : S → ℕ) (m : Me S View) (held : IsH
       → ByHeard h (CanHear len_of marked_of (After left) n) (λ _. CanStay len_of marked_of (After left) n)
   asks now left n (Told kept) e says f = hears now left n e says f
   asks now left n (Waits k) e says f = stays now left n e says f
-
--- the list is out now
-pub held_of : {S : Type 0} (len_of marked_of : S → ℕ) (m m' : Me S View) (list : S) → m' ≡ (listing_of (len_of list) (marked_of list) m.0, (0, list) ∷ m.1) → IsHeld len_of marked_of m' × IsSame m.0 m'.0 × (rest m'.1 ≡ m.1)
-held_of {S} len_of marked_of m m' list e = (
-  (list, ap (λ (n : Me S View). n.0.has_list) e, ap (λ (n : Me S View). n.0.len) e, ap (λ (n : Me S View). n.0.marked) e, ap (λ (n : Me S View). n.1) e ∙ ap (λ (n : Me S View). (0, list) ∷ rest n.1) (sym e)),
-  (
-    ap (λ (n : Me S View). n.0.holds) e,
-    ap (λ (n : Me S View). n.0.starved) e,
-    ap (λ (n : Me S View). n.0.owes) e,
-    ap (λ (n : Me S View). n.0.listed) e,
-    ap (λ (n : Me S View). n.0.fresh) e,
-    ap (λ (n : Me S View). n.0.room) e,
-    ap (λ (n : Me S View). n.0.deed) e,
-    ap (λ (n : Me S View). n.0.passed) e,
-  ),
-  ap (λ (n : Me S View). rest n.1) e,
-)

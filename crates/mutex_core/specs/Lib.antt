@@ -1,8 +1,4 @@
-pub mod Rule
-pub mod Laws
-pub mod Seats
 pub mod Locks
-pub mod Steps
 pub mod Asking
 pub mod Entries
 pub mod Cells

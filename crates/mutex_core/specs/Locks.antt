@@ -3,7 +3,7 @@ use Rattle.std.specs.Prelude.{◌≡◌, ℕ, Bool, true, false, List, [], ◌�
 use Rattle.std.specs.Coded.{Coded, code_by, coded×, coded_ℕ, coded_bool}
 use Rattle.atomic_table.specs.Seated.{TableId, table_id_coded}
 use Rattle.lock_place.specs.Held.{RoomId, room_id_coded}
-use Rattle.mutex_core.specs.declared.view.View.{View}
+use Rattle.words_mutex.specs.declared.view.View.{View}
 
 -- Which right to a value it is: where the value lay when the lock was made, and the spare that the right may wait in.
 pub record RightId : Type 0 where

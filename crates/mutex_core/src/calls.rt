@@ -7,16 +7,16 @@ ghost use Rattle.mutex_core.specs.Receipts.{IsReceipt};
 
 use crate::cell::MOST;
 use crate::list_steps::{
-    ask_again_in, ask_in, give_asked, join_in, join_waking_in, leave_in, notify_in, take_out,
-    wake_next,
+    ask_again_in, ask_in, give_asked, join_in, join_waking_in, leave_in, notify_in,
 };
 use crate::seat::Seat;
-use crate::steps::{LIST, NOTIFICATION, give_gone, give_joined, give_paid, give_same};
 use crate::whose::Whose;
 use crate::words::Words;
 use futures::task::Context;
 use lock_event::{EntryId, Memory};
 use std::sync::Wait;
+use words_mutex::steps::{LIST, NOTIFICATION, give_gone, give_joined, give_paid, give_same};
+use words_mutex::{take_out, wake_next};
 
 /// An entry that has joined with a waker of its task, and the word that its list had then.
 #[derive(Drop)]

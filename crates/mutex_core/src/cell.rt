@@ -8,18 +8,18 @@ ghost use Rattle.mutex_core.specs.Asking.{ByHeard};
 ghost use Rattle.mutex_core.specs.Cells.{entries_of};
 ghost use Rattle.mutex_core.specs.Entries.{HasJoined, HasLeft, HasShrunk, IsSameSize, IsTold};
 ghost use Rattle.mutex_core.specs.Receipts.{KeepsAt, IsReceipt};
-ghost use Rattle.mutex_core.specs.Rule.{SaysEmpty};
+ghost use Rattle.words_mutex.specs.Rule.{SaysEmpty};
 
 use crate::due::Due;
 use crate::heard::Heard;
 use crate::list;
-use crate::rule::Content;
-use crate::steps::{ENTRIES, NOTIFICATION};
 use crate::whose::Whose;
 use futures::task::{Context, Source, Waker};
 use lock_event::{EntryId, Event, Memory};
 use lock_place::{Rested, Spare};
 use std::alloc::Global;
+use words_mutex::Content;
+use words_mutex::steps::{ENTRIES, NOTIFICATION};
 
 // How many notifications a list's word counts at most.
 pub(crate) const MOST: u64 = 2_305_843_009_213_693_951;

@@ -5,20 +5,20 @@ ghost use Rattle.atomic_table.specs.Table.{rest};
 ghost use Rattle.mutex_core.specs.Cells.{cell_len, cell_marked, HasRightOf};
 ghost use Rattle.mutex_core.specs.Locks.{IsOf, with_got, with_held, with_look};
 ghost use Rattle.mutex_core.specs.Outcomes.{IsRightOf};
-ghost use Rattle.mutex_core.specs.Seats.{saw_held_of};
-ghost use Rattle.mutex_core.specs.Steps.{IsHeld};
+ghost use Rattle.words_mutex.specs.Seats.{saw_held_of};
+ghost use Rattle.words_mutex.specs.Steps.{IsHeld};
 ghost use Rattle.words_base.specs.Tries.{OnAlone, OnTaking};
 
 use crate::cell::Cell;
-use crate::list_steps::{Lister, Listing, notify_in, wake_next};
-use crate::plays::Keep;
+use crate::list_steps::{Lister, Listing, notify_in};
 use crate::seat::Seat;
-use crate::steps::{COUNT, HELD, RIGHT_SLOT, WORD, clear, give_paid, grab, lift, look};
 use crate::words::{Words, take_right};
 use lock_place::{Hold, Place, Spare};
 use std::alloc::Global;
 use std::sync::Wait;
 use words_base::{Taking, TakingAlone};
+use words_mutex::steps::{COUNT, HELD, RIGHT_SLOT, WORD, clear, give_paid, grab, lift, look};
+use words_mutex::{Keep, wake_next};
 
 /// A lock is held for good: a step found it held where nobody is left who could give it back.
 #[derive(Drop)]

@@ -7,32 +7,23 @@
 
 mod calls;
 mod cell;
-mod counts;
 mod due;
 mod heard;
-mod laws;
 mod left;
 mod list;
 mod list_steps;
 mod mutex;
-mod plays;
-mod rule;
 mod seat;
-mod steps;
 mod turn;
-mod view;
 mod whose;
 mod words;
 
 pub use cell::Cell;
-pub use counts::Full;
 pub use due::{Called, Due};
-pub use laws::no_lost_wakeup;
 pub use left::WasHeld;
 pub use lock_place::{Hold, Room};
-pub use rule::{Content, MutexRule};
 pub use seat::Seat;
 pub use turn::{Held, Outcome, Vain, Waiting};
-pub use view::View;
 pub use whose::Whose;
 pub use words::{STARVED_LIMIT, Words};
+pub use words_mutex::{Content, Full, MutexRule, View, no_lost_wakeup};

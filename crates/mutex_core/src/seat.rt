@@ -3,9 +3,9 @@
 ghost use Rattle.std.specs.Prelude.{◌≡◌, false};
 
 use crate::cell::Cell;
-use crate::view::View;
 use atomic_table::Seat as TableSeat;
 use std::marker::Model;
+use words_mutex::View;
 
 /// A party's place at a lock, with which it steps on the lock's words. It has no bytes, and borrows nothing.
 ///

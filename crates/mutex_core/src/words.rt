@@ -5,21 +5,13 @@ ghost use Rattle.atomic_table.specs.Table.{rest};
 ghost use Rattle.lock_place.specs.Rested.{IsRight};
 ghost use Rattle.mutex_core.specs.Locks.{HasSlots, IsOf, entering, with_got, with_held, with_look, with_cleared, with_paid, with_count, with_count_owing, with_uncounted};
 ghost use Rattle.mutex_core.specs.Outcomes.{IsRightOf};
-ghost use Rattle.mutex_core.specs.Seats.{cleared_of};
+ghost use Rattle.words_mutex.specs.Seats.{cleared_of};
 ghost use Rattle.words_base.specs.Tries.{OnTaking, OnAlone, OnSetting};
 
 use crate::cell::Cell;
-use crate::counts::{Full, tally, tally_listed};
 use crate::left::WasHeld;
 use crate::list_steps::{Lister, Listing};
-use crate::plays::Keep;
-use crate::rule::MutexRule;
 use crate::seat::Seat;
-use crate::steps::{
-    ALONE, COUNT, ENTRIES, FREE, HELD, RIGHT_SLOT, WORD, clear, exchange, exchange_alone, lift,
-    look, peek, uncount,
-};
-use crate::view::View;
 use atomic_table::Table;
 use futures::task::Source;
 use lock_place::{Hold, Place, Rested, Room, Spare, Ticket};
@@ -27,6 +19,11 @@ use std::alloc::{AllocError, Global};
 use std::marker::Model;
 use std::sync::Wait;
 use words_base::{Setting, Taking, TakingAlone};
+use words_mutex::steps::{
+    ALONE, COUNT, ENTRIES, FREE, HELD, RIGHT_SLOT, WORD, clear, exchange, exchange_alone, lift,
+    look, peek, uncount,
+};
+use words_mutex::{Full, Keep, MutexRule, View, tally, tally_listed};
 
 /// The greatest number of seats that are counted as starved at once.
 pub const STARVED_LIMIT: u64 = 1_073_741_823;

@@ -1,5 +1,5 @@
 use Rattle.std.proofs.Common.{rules}
-use Rattle.mutex_core.proofs.Keeps.{sits}
+use Rattle.words_mutex.proofs.Keeps.{sits}
 use Rattle.mutex_core.proofs.left.regain.Goals as goal
 
 pub load_new_seat-requires : goal.load_new_seat-requires

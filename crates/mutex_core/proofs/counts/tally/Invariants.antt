@@ -1,5 +1,0 @@
-use Rattle.std.proofs.Common.{◌≡◌}
-use Rattle.mutex_core.proofs.counts.tally.Given as goal
-
-abbrev pub invariant-loop : goal.invariant-loop
-invariant-loop g l = (l.inner.table_id ≡ l.initial.inner.table_id) × (l.inner.me ≡ l.initial.inner.me)

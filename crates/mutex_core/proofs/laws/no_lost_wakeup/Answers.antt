@@ -1,8 +1,0 @@
-use Rattle.mutex_core.proofs.Wakeups.{running, at_rest}
-use Rattle.mutex_core.proofs.laws.no_lost_wakeup.Goals as goal
-
-pub returns-clause-running : goal.returns-clause-running
-returns-clause-running g c room deed s r = running _ _ _ _ _ s r
-
-pub returns-clause-at_rest : goal.returns-clause-at_rest
-returns-clause-at_rest g c room deed s r = at_rest _ _ _ _ _ s r

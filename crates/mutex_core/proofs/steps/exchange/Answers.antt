@@ -1,6 +1,0 @@
-use Rattle.std.proofs.Common.{rules, refl}
-use Rattle.mutex_core.proofs.Keeps.{taken_from}
-use Rattle.mutex_core.proofs.steps.exchange.Goals as goal
-
-pub compare_exchange-requires : goal.compare_exchange-requires
-compare_exchange-requires g c = (search rules, search rules, taken_from _ _ _ _ _ _ _ _ _ 0 refl c.requires.seen)

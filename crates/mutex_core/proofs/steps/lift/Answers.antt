@@ -1,6 +1,0 @@
-use Rattle.std.proofs.Common.{rules}
-use Rattle.mutex_core.proofs.Keeps.{lifted}
-use Rattle.mutex_core.proofs.steps.lift.Goals as goal
-
-pub fetch_or-requires : goal.fetch_or-requires
-fetch_or-requires g c = (search rules, search rules, lifted _ _ _ _ _ _ _ _ _)

@@ -1,6 +1,0 @@
-use Rattle.std.proofs.Common.{rules}
-use Rattle.mutex_core.proofs.Keeps.{peeks}
-use Rattle.mutex_core.proofs.steps.peek.Goals as goal
-
-pub load-requires : goal.load-requires
-load-requires g c = (search rules, search rules, peeks _ _ _ _ _ _ _ _ _ c.requires.calm)

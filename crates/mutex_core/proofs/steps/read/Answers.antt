@@ -1,6 +1,0 @@
-use Rattle.std.proofs.Common.{rules}
-use Rattle.mutex_core.proofs.Keeps.{reads}
-use Rattle.mutex_core.proofs.steps.read.Goals as goal
-
-pub load-requires : goal.load-requires
-load-requires g c = (search rules, search rules, reads _ _ _ _ _ _ _ _ _)

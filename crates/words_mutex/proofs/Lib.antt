@@ -1,0 +1,4 @@
+pub mod Flags
+pub mod Keeps
+pub mod Wakeups
+pub mod Holding

@@ -1,0 +1,52 @@
+-- What each step makes of a seat's view.
+use Rattle.std.specs.Prelude.{ℕ, ◌%◌, ◌==◌, ◌&&◌, leb, true, false}
+use Rattle.words_mutex.specs.declared.view.View.{View}
+
+abbrev pub saw_held_of : View → View
+saw_held_of v = record v { owes = false; fresh = false }
+
+abbrev pub saw_starved_of : View → View
+saw_starved_of v = record v { fresh = false }
+
+-- it has got the lock while n were starved
+abbrev pub got_of : ℕ → View → View
+got_of n v = record v { holds = true; owes = false; fresh = false; passed = n }
+
+abbrev pub cleared_of : View → View
+cleared_of v = record v { holds = false; owes = true }
+
+abbrev pub counted_listed_of : View → View
+counted_listed_of v = record v { starved = true }
+
+abbrev pub counted_unlisted_of : View → View
+counted_unlisted_of v = record v { starved = true; owes = true }
+
+abbrev pub uncounted_of : View → View
+uncounted_of v = record v { starved = false }
+
+abbrev pub listing_of : ℕ → ℕ → View → View
+listing_of len marked v = record v { has_list = true; len = len; marked = marked }
+
+-- It has given the list back.
+abbrev pub back : View → View
+back v = record v { has_list = false; len = 0; marked = 0 }
+
+abbrev pub joined_of : View → View
+joined_of v = record v { listed = true; fresh = true; has_list = false; len = 0; marked = 0 }
+
+abbrev pub told_of : View → View
+told_of v = record v { listed = false; owes = true; has_list = false; len = 0; marked = 0 }
+
+abbrev pub paid_of : View → View
+paid_of v = record v { owes = false; has_list = false; len = 0; marked = 0 }
+
+abbrev pub gone_of : View → View
+gone_of v = record v { listed = false; has_list = false; len = 0; marked = 0 }
+
+-- A look that found n: held, it owes nothing any more; free and others starved, it has looked.
+abbrev pub looking : ℕ → View → View
+looking n v = record v { owes = v.owes && (n % 2 == 0); fresh = v.fresh && (n == 0) }
+
+-- Who finds the list empty owes nothing any more.
+abbrev pub peeking : ℕ → View → View
+peeking n v = record v { owes = v.owes && leb 4 (n % 8) }
