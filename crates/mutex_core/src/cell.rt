@@ -18,6 +18,7 @@ use futures::task::{Context, Source, Waker};
 use lock_event::{EntryId, Event, Memory};
 use lock_place::{Rested, Spare};
 use std::alloc::Global;
+use std::mem;
 use words_mutex::Content;
 use words_mutex::steps::{ENTRIES, NOTIFICATION};
 
@@ -74,12 +75,13 @@ impl<T> Cell<T> {
         }
     }
 
-    // The right that rests there.
-    pub(crate) fn into_right(self) -> Rested<T>
-        ensures { result ≡ self.right }
+    // Another right comes to rest there: the one before. A right has no bytes, so no memory is read or written.
+    #[inline]
+    pub(crate) fn put_right(&mut self, right: Rested<T>) -> Rested<T>
+        ensures before { result ≡ self.old.right }
+        ensures now { self.new.right ≡ right }
     {
-        let Cell { right, entries: _ } = self;
-        right
+        mem::replace(&mut self.right, right)
     }
 
     // Makes the list, if nobody has joined before.

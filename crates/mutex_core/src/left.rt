@@ -5,11 +5,11 @@ ghost use Rattle.atomic_table.specs.Table.{rest};
 ghost use Rattle.mutex_core.specs.Cells.{cell_len, cell_marked, HasRightOf};
 ghost use Rattle.mutex_core.specs.Locks.{IsOf, with_got, with_held, with_look};
 ghost use Rattle.mutex_core.specs.Outcomes.{IsRightOf};
+ghost use Rattle.mutex_core.specs.declared.cell.Cell.{Cell};
 ghost use Rattle.words_mutex.specs.Seats.{saw_held_of};
 ghost use Rattle.words_mutex.specs.Steps.{IsHeld};
 ghost use Rattle.words_base.specs.Tries.{OnAlone, OnTaking};
 
-use crate::cell::Cell;
 use crate::list_steps::{Lister, Listing, notify_in};
 use crate::seat::Seat;
 use crate::words::{Words, take_right};
@@ -143,7 +143,8 @@ fn regain<T>(
     }
     let hold = take_right(shared, spare, &mut inner);
     let (hold, ticket) = spare.reissue(hold, place);
-    drop(shared.exchange(&mut inner, RIGHT_SLOT, Cell::of(ticket.rest())));
+    let place = inner.slot_mut(shared, RIGHT_SLOT);
+    drop(place.put_right(ticket.rest()));
     let found = grab(shared, &mut inner);
     if found % 2 != 0 {
         drop(hold.park());

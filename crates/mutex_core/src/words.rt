@@ -306,9 +306,8 @@ pub(crate) fn take_right<T>(shared: &Listing<T>, spare: &Spare<T>, inner: &mut L
     ensures hold { result.room_id ≡ spare.now.room_id }
     ensures seat { (inner.new.table_id ≡ inner.old.table_id) × (inner.new.me.0 ≡ inner.old.me.0) × HasSlots true inner.new.me.1 }
 {
-    let nothing = Cell::of(Rested::nothing(spare));
-    let lay = shared.exchange(inner, RIGHT_SLOT, nothing);
-    lay.into_right().into_hold(spare)
+    let place = inner.slot_mut(shared, RIGHT_SLOT);
+    place.put_right(Rested::nothing(spare)).into_hold(spare)
 }
 
 // Lays the right into its slot, and gives the lock back with it.
@@ -319,6 +318,7 @@ fn give_back<T>(shared: &Listing<T>, inner: &mut Lister<T>, right: Rested<T>)
     requires holds { (inner.old.me.0.holds ≡ true) × HasSlots true inner.old.me.1 }
     ensures { (inner.new.table_id ≡ inner.old.table_id) × (inner.new.me ≡ (cleared_of inner.old.me.0, [])) }
 {
-    drop(shared.exchange(inner, RIGHT_SLOT, Cell::of(right)));
+    let place = inner.slot_mut(shared, RIGHT_SLOT);
+    drop(place.put_right(right));
     clear(shared, inner);
 }
