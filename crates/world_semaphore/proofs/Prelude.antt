@@ -51,14 +51,15 @@ pub use Rattle.world_base.proofs.of_table.Views.{outside_so, rest_seen, outside_
 pub use Rattle.world_semaphore.specs.AtOnce.{AnswersAtOnce, AddsAtOnce, GivesInTurn, TellsInTurn, is_try, is_poll, is_first_poll}
 pub use Rattle.world_semaphore.specs.Bound.{HandsOver, PassesOver, IsBounded, IsSolo, Takes, Promises}
 pub use Rattle.world_semaphore.specs.Laws.{IsSound, IsAwake, IsFreeAndWanted, is_at_rest, is_long_call}
-pub use Rattle.world_semaphore.specs.Legal.{size_after, HasItsOwn, call_of, DecidesOn, state_after, gives_something_back, added_in, wanted, wanted_in, IsAllowed, ChangesOneThing, KnowsSizes, KnowsDebts, Carries, Waits, IsCause, IsRefusedForCause, LeavesClear, EndsProperly, Legal, is_forget, is_poll_call, gives_up}
+pub use Rattle.world_semaphore.specs.Legal.{size_after, HasItsOwn, call_of, DecidesOn, state_after, added_in, wanted, wanted_in, IsAllowed, ChangesOneThing, KnowsSizes, KnowsDebts, Carries, Waits, IsCause, IsRefusedForCause, LeavesClear, EndsProperly, Legal, is_forget, is_poll_call}
 pub use Rattle.world_semaphore.specs.Runs.{known_of, Known, Tells, HoldsWell, learn, accounts_of, sizes_after, added_by, forgotten_by, Runs}
 pub use Rattle.world_semaphore.specs.State.{World, available, has_permits, size_of, standing_of, debt_of, share_at, State, new_world, held, under_way}
 pub use Rattle.world_semaphore.specs.Steps.{IsSemaphoreTable, Steps, TableSteps, Stands}
 pub use Rattle.world_semaphore.specs.View.{view_of}
 pub use Rattle.world_semaphore.specs.declared.machine.words.Words.{Words}
-pub use Rattle.world_semaphore.specs.machine.Deeds.{Finds, deed_of, words_after, entries_after, weights_after, FindsSo, words, told_by, CanDo, Deed, ListFunction, nothing, changes, does, joins, asks, removes, fits, list_after, takes, gives_back, forgets, raises, gives, share_after, FindsPermits, FindsRoom, Change}
+pub use Rattle.world_semaphore.specs.machine.Deeds.{Finds, deed_of, words_after, entries_after, weights_after, FindsSo, words, told_by, CanDo, Deed, ListFunction, nothing, changes, does, joins, asks, removes, fits, list_after, takes, gives_back, forgets, raises, gives, share_after, FindsPermits, FindsRoom, Change, gives_something_back, gives_up}
 pub use Rattle.world_semaphore.specs.machine.Machine.{Semaphore, IsSemaphore, IsAtRest, goes_with, runs, is_begun, position_at, sizes_of, knows, answer_by, IsKept, is_polling, Acts, is_adding, Moves, new_semaphore}
 pub use Rattle.world_semaphore.specs.machine.Program.{action_of, position_after, next_of, place_for, Next}
 pub use Rattle.world_semaphore.specs.machine.Seats.{Share, bit, pays, listed, waits, owes, size_at, debt_at, is_short, verdict, is_resting, Seat, seat_of, seated, permits_of, permits_at, under_way_at, waits_for, fit_if, is_short_at, guard_of, share_of, Debt, a_fit, verdict_of, a_look, nothing_owed, nothing_had}
 pub use Rattle.world_semaphore.specs.machine.Tally.{tally_of, Tally, Counts, counts_of}
+pub use Rattle.world_semaphore.specs.machine.Owing.{Owes}

@@ -1,9 +1,7 @@
 -- What one move may do to a semaphore, and how it may be answered.
-use Rattle.std.specs.Prelude.{◌≡◌, ◌≢◌, ℕ, ◌+◌, ◌<◌, ◌≤◌, ◌||◌, ◌⊎◌, Bool, true, false, length, Option, Some, None, slice_set}
+use Rattle.std.specs.Prelude.{◌≡◌, ◌≢◌, ℕ, ◌+◌, ◌<◌, ◌≤◌, ◌||◌, Bool, true, false, length, Option, Some, None, slice_set}
 use Rattle.lock_event.specs.declared.event.Mark.TheVariants.{Waiting}
-use Rattle.lock_event.specs.Lists.{is_marked_at}
-use Rattle.lock_event.specs.Weights.{fitted}
-use Rattle.world_base.specs.queue.Parties.{is_party, entries_of}
+use Rattle.world_base.specs.queue.Parties.{entries_of}
 use Rattle.world_base.specs.declared.moves.Answer.{Answer}
 use Rattle.world_base.specs.declared.moves.Answer.TheVariants as answer
 use Rattle.world_base.specs.declared.moves.Call.TheVariants as call
@@ -21,9 +19,10 @@ use Rattle.world_base.specs.declared.standing.Within.{Within}
 use Rattle.world_base.specs.Standings.{Standing, outside, inside, inputs_of, is_possible, is_decided, is_outside, may_end}
 use Rattle.world_base.specs.Frame as frame
 use Rattle.world_base.specs.Frame.{is_drop, is_giving_back, is_refusal}
-use Rattle.world_semaphore.specs.machine.Seats.{nothing_had, guard_of, nothing_owed, a_look, a_fit}
-use Rattle.world_semaphore.specs.machine.Deeds.{Deed, ListFunction, nothing, changes, does, joins, asks, removes, fits, takes, gives_back, forgets, raises, gives, limit_after, share_after, entries_after}
+use Rattle.world_semaphore.specs.machine.Seats.{nothing_had, guard_of, under_way_of, nothing_owed, a_fit}
+use Rattle.world_semaphore.specs.machine.Deeds.{Deed, changes, does, joins, fits, takes, gives_back, forgets, raises, gives, limit_after, share_after, entries_after, gives_something_back, gives_up}
 use Rattle.world_semaphore.specs.machine.Machine.{knows}
+use Rattle.world_semaphore.specs.machine.Owing.{Owes}
 use Rattle.world_semaphore.specs.State.{State, World, share_at, available, standing_of, size_of, debt_of, mark_of}
 
 -- The call that a move belongs to, where its party may make it.
@@ -44,27 +43,6 @@ IsPossible = frame.IsPossible standing_of (λ w p. knows)
 abbrev pub state_after : ℕ → Deed → State → State
 state_after p (changes c) s = record { limit = limit_after c s.limit; shares = slice_set s.shares p (share_after c (share_at s p)) }
 state_after p _ s = s
-
--- A party whose call is decided may leave the list or tell others, and neither join nor ask.
-abbrev pub is_parting : ListFunction → Bool
-is_parting joins = false
-is_parting asks = false
-is_parting _ = true
-
--- Once its call is decided, a party only gives back: its permits, those that are under way, its entry, a notification.
-abbrev pub gives_something_back : Deed → Bool
-gives_something_back nothing = true
-gives_something_back (changes (takes k)) = false
-gives_something_back (changes (raises n)) = false
-gives_something_back (changes _) = true
-gives_something_back (does f) = is_parting f
-
--- What gives something up: permits, or a place in the list without asking there.
-abbrev pub gives_up : Deed → Bool
-gives_up (changes (gives_back k)) = true
-gives_up (changes (forgets k)) = true
-gives_up (does removes) = true
-gives_up _ = false
 
 -- How many permits a move begins to add; whether it begins to forget some.
 abbrev pub added_in : What → Option ℕ
@@ -95,7 +73,7 @@ IsAllowed w m (changes (takes k)) = (wanted w m ≡ k) × (k ≤ available w.sta
 IsAllowed w m (changes (gives_back k)) = (share_at w.state m.party ≡ guard_of k) × (is_drop m.what ≡ true)
 IsAllowed w m (changes (forgets k)) = (share_at w.state m.party ≡ guard_of k) × (is_forget m.what ≡ true)
 IsAllowed w m (changes (raises n)) = (added_in m.what ≡ Some n) × (w.state.limit + n ≤ w.most) × (share_at w.state m.party ≡ nothing_had)
-IsAllowed w m (changes (gives n)) = share_at w.state m.party ≡ record { held = None; under_way = n }
+IsAllowed w m (changes (gives n)) = share_at w.state m.party ≡ under_way_of n
 IsAllowed w m (does (fits a)) = (debt_of w m.party ≡ a_fit a) × (is_decided (standing_of w m.party) ≡ true)
 IsAllowed w m _ = Unit {0}
 
@@ -127,18 +105,9 @@ pub record KnowsSizes (old : World) (m : Move) (a : Answer) (new : World) : Type
   pub own : size_of new m.party ≡ size_after m.what a (size_of old m.party)
   pub others : (q : ℕ) → q ≢ m.party → size_of new q ≡ size_of old q
 
--- What a possible move does to what its party owes.
+-- What a possible move does to what parties owe.
 pub record KnowsDebts (old : World) (m : Move) (new : World) : Type 0 where
-  -- Who has taken its notified entry out of the list owes a look;
-  pub told : is_marked_at (is_party m.party) old.entries ≡ true → is_marked_at (is_party m.party) new.entries ≡ false → debt_of new m.party ≡ a_look
-  -- and nobody else comes to owe one, but who owed to tell of some and has joined again.
-  pub looks : debt_of new m.party ≡ a_look → (is_marked_at (is_party m.party) old.entries ≡ true) ⊎ ((n : ℕ) × (debt_of old m.party ≡ a_fit n))
-  -- Who owes to tell of so many has found them available in this move; or it owed that before, and its entry wasn't notified meanwhile.
-  pub finds : (n : ℕ) → debt_of new m.party ≡ a_fit n → (n ≡ available new.state) ⊎ ((debt_of old m.party ≡ a_fit n) × (is_marked_at (is_party m.party) old.entries ≡ false))
-  -- A look is owed no more once it has found what is available, and nothing once there is none.
-  pub looked : debt_of old m.party ≡ a_look → debt_of new m.party ≡ nothing_owed → available new.state ≡ 0
-  -- What is to be told is owed no more once it was told.
-  pub fitted : (n : ℕ) → debt_of old m.party ≡ a_fit n → debt_of new m.party ≡ nothing_owed → new.entries ≡ fitted (size_of old) n old.entries
+  pub own : Owes m.party (debt_of old m.party) (debt_of new m.party) old.entries new.entries (available new.state) (size_of old)
   pub others : (q : ℕ) → q ≢ m.party → debt_of new q ≡ debt_of old q
 
 -- ---- What an answer says, where its call is decided

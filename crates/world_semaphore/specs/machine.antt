@@ -1,7 +1,14 @@
 pub mod Program
 pub mod Seats
+pub mod Owing
 pub mod Deeds
 pub mod Carried
 pub mod Tally
 pub mod Machine
 pub mod Ranks
+pub mod Course
+pub mod Permits
+pub mod Conduct
+pub mod Seen
+pub mod Done
+pub mod Calls

@@ -4,7 +4,7 @@ use Rattle.world_base.specs.Bounds.{PassedOver}
 use Rattle.world_semaphore.proofs.whole.Promises.{keeps_promises}
 
 -- where some entry is marked, and no party has two, it is some party's
-some_marked : (l : List (Entry ℕ)) → ((p : ℕ) → entries_of p l ≤ 1) → 0 < marked_count l → (q : ℕ) × (is_marked_at (is_party q) l ≡ true)
+pub some_marked : (l : List (Entry ℕ)) → ((p : ℕ) → entries_of p l ≤ 1) → 0 < marked_count l → (q : ℕ) × (is_marked_at (is_party q) l ≡ true)
 some_marked [] once some = absurd (omega arith)
 some_marked (e ∷ es) once some = by_mark (is_marked e.mark) refl (some_marked es) where
   own : is_party e.key e.key ≡ true

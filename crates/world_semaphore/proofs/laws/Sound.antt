@@ -74,7 +74,7 @@ short_so (Outside Rest.Finished) (At CancelRemove) g l = absurd (cc g)
 short_so Forgotten (At CancelRemove) g l = absurd (cc g)
 short_so s (At _) g l = absurd (omega arith)
 
-pays_so : (b : Bool) → 0 < bit b → b ≡ true
+pub pays_so : (b : Bool) → 0 < bit b → b ≡ true
 pays_so true h = refl
 pays_so false h = absurd (omega arith)
 

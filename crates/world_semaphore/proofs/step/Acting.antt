@@ -1,5 +1,5 @@
 -- An action of a party is a legal step, as callers see it.
-use Rattle.world_semaphore.proofs.Prelude.{◌≡◌, ◌≢◌, ℕ, ◌<◌, ◌||◌, ◌⊎◌, inl, inr, Bool, true, false, List, map, length, Option, Some, None, is_some, refl, arith, ap, sym, ◌∙◌, subst, get_or-set_same, get_or-set_other, set, map-set, Entry, mark_at, is_marked_at, is_party, entries_of, Answer, Call, Plain, Move, What, Begin, Refusal, Kind, Rest, Stage, Outside, Inside, Forgotten, Within, inputs_of, call_in, is_possible, is_stepped, is_decided, may_end, decision, refused, IsUndecided, is_giving_back, is_poll_after_ready, is_refusal, some_eq, none_some, finished_number, stage_at, stands_as, call_at, polls_again, stage_after, Table, set_same, call_seen, again_seen, stands_seen, decided_after, decision_seen, later_ends, Action, Found, Available, Done, Left, PastLimit, Yes, No, Next, Place, Take, Retake, Join, Ask, Remove, Load, HandOn, PassOn, RefuseFit, Try, Lower, GiveBack, Raise, GiveAdded, FitAdded, CancelRemove, CancelLoad, FitGivenBack, Abandon, Position, Out, Words, place_for, action_of, next_of, position_after, Seat, Share, guard_of, a_fit, seat_of, share_of, size_at, debt_at, listed, verdict, verdict_of, Deed, nothing, changes, does, joins, asks, removes, fits, takes, gives_back, forgets, raises, gives, share_after, deed_of, Finds, words_after, entries_after, Semaphore, IsSemaphore, Acts, knows, runs, position_at, sizes_of, answer_by, is_polling, State, World, share_at, available, standing_of, size_of, debt_of, view_of, call_of, DecidesOn, state_after, gives_something_back, added_in, wanted, wanted_in, IsAllowed, ChangesOneThing, KnowsSizes, KnowsDebts, Carries, Waits, IsCause, IsRefusedForCause, size_after, LeavesClear, EndsProperly, Legal, IsSemaphoreTable}
+use Rattle.world_semaphore.proofs.Prelude.{◌≡◌, ◌≢◌, ℕ, ◌<◌, ◌||◌, ◌⊎◌, inl, inr, Bool, true, false, List, map, length, Option, Some, None, is_some, refl, arith, ap, sym, ◌∙◌, subst, get_or-set_same, get_or-set_other, set, map-set, Entry, mark_at, is_party, entries_of, Answer, Call, Plain, Move, What, Begin, Refusal, Kind, Rest, Stage, Outside, Inside, Forgotten, Within, inputs_of, call_in, is_possible, is_stepped, is_decided, may_end, decision, refused, IsUndecided, is_giving_back, is_poll_after_ready, is_refusal, some_eq, none_some, finished_number, stage_at, stands_as, call_at, polls_again, stage_after, Table, set_same, call_seen, again_seen, stands_seen, decided_after, decision_seen, later_ends, Action, Found, Available, Done, Left, PastLimit, Yes, No, Next, Place, Take, Retake, Join, Ask, Remove, Load, HandOn, PassOn, RefuseFit, Try, Lower, GiveBack, Raise, GiveAdded, FitAdded, CancelRemove, CancelLoad, FitGivenBack, Abandon, Position, Out, Words, place_for, action_of, next_of, position_after, Seat, Share, guard_of, seat_of, share_of, size_at, debt_at, listed, verdict, verdict_of, Deed, nothing, changes, does, joins, asks, removes, fits, takes, gives_back, forgets, raises, gives, share_after, deed_of, Finds, words_after, entries_after, Semaphore, IsSemaphore, Acts, knows, runs, position_at, sizes_of, answer_by, is_polling, State, World, share_at, available, standing_of, size_of, debt_of, view_of, call_of, DecidesOn, state_after, gives_something_back, added_in, wanted, wanted_in, IsAllowed, ChangesOneThing, KnowsSizes, KnowsDebts, Carries, Waits, IsCause, IsRefusedForCause, size_after, LeavesClear, EndsProperly, Legal, IsSemaphoreTable}
 use Rattle.std.proofs.Math.Seq.{map-set_same}
 use Rattle.lock_event.specs.declared.event.Mark.TheVariants.{Waiting}
 use Rattle.world_base.proofs.of_queue.Told.{waits_at}
@@ -10,7 +10,7 @@ use Rattle.lock_program.specs.declared.end.End.{End}
 use Rattle.world_semaphore.proofs.of_machine.laws.Kept.{after}
 use Rattle.world_semaphore.proofs.table.Seen as seen
 use Rattle.world_semaphore.proofs.step.Rows.{said, SharesSo, AllowedAt, is_join, is_ask, Refuses, Reason, Judged, Room, Row, row}
-use Rattle.world_semaphore.proofs.step.Debts.{OwedBy, owed}
+use Rattle.world_semaphore.proofs.step.Debts.{OwedBy, owed, owes_so}
 use Rattle.world_semaphore.proofs.step.Sizes.{Sized, sized}
 use Rattle.world_semaphore.proofs.of_machine.stages.Taking.{taken}
 use Rattle.world_semaphore.proofs.of_machine.laws.Entries.{fitted-agree}
@@ -129,11 +129,11 @@ never_over : (x : Place) → verdict_of x ≡ Some (refused Refusal.Finished) �
 never_over (RefuseFit k a) e = let six : Path ℕ 1 6 = finished_number 1 (some_eq e) in absurd (omega (arith, six))
 never_over _ e = cc
 
-join_unlisted : (x : Place) → is_join x ≡ true → (seat_of x).listed ≡ 0
+pub join_unlisted : (x : Place) → is_join x ≡ true → (seat_of x).listed ≡ 0
 join_unlisted (Join k told) h = refl
 join_unlisted _ h = absurd (cc)
 
-room_found : (memory : Bool) (d : Deed) → Room memory d → d ≡ does joins → memory ≡ true
+pub room_found : (memory : Bool) (d : Deed) → Room memory d → d ≡ does joins → memory ≡ true
 room_found memory d h e = let P : Deed → Type 0 = Room memory in subst P e h
 
 -- who is answered Pending stands in the list
@@ -174,7 +174,7 @@ add_stage Forgotten (Begin (Call.AddPermits k) i) w n a e = absurd (none_some e)
 add_stage s _ w n a e = absurd (cc a)
 
 -- only a fit has an entry notified
-fits_action : (b : Action) (f : Found) (c : ℕ) → deed_of b f ≡ does (fits c) → b ≡ Action.Fit c
+pub fits_action : (b : Action) (f : Found) (c : ℕ) → deed_of b f ≡ does (fits c) → b ≡ Action.Fit c
 fits_action (Action.Fit n) Done c e = cc e
 fits_action (Action.Fit n) _ c e = absurd (cc e)
 fits_action (Action.Take n) (Left d) c e = absurd (cc e)
@@ -380,11 +380,7 @@ module _ (t u : Table Semaphore) (m : Move) (a : Answer) (w : Within) where
 
     knows_debts : KnowsDebts old m new
     knows_debts = record {
-      told = λ was isnt. debt_new ∙ owes.told was (sym (ap (is_marked_at (is_party p)) entries_seen) ∙ isnt);
-      looks = λ e. elim (owes.looks (sym debt_new ∙ e)) as (λ _. (is_marked_at (is_party p) t.machine.entries ≡ true) ⊎ ((n : ℕ) × (debt_of old p ≡ a_fit n))) [ inl y ↦ inl y | inr y ↦ inr (y.0, debt_old ∙ y.1) ];
-      finds = λ n e. elim (owes.finds n (sym debt_new ∙ e)) as (λ _. (n ≡ available new.state) ⊎ ((debt_of old p ≡ a_fit n) × (is_marked_at (is_party p) t.machine.entries ≡ false))) [ inl y ↦ inl (y ∙ sym available_new) | inr y ↦ inr (debt_old ∙ y.0, y.1) ];
-      looked = λ was none. available_new ∙ owes.looked (sym debt_old ∙ was) (sym debt_new ∙ none);
-      fitted = λ n was none. entries_seen ∙ owes.fitted n (sym debt_old ∙ was) (sym debt_new ∙ none);
+      own = owes_so p (seat_of from).debt (debt_at to) t.machine.entries (entries_after (size_of old) p deed t.machine.entries) (words_after deed t.machine.words).available (size_of old) (sym debt_old) (sym debt_new) (sym entries_seen) (sym available_new) owes;
       others = λ q apart. seen.debt_seen u q ∙ (ap debt_at (stays q apart) ∙ sym (seen.debt_seen t q));
     }
 

@@ -1,5 +1,5 @@
 -- What an action does to what its party owes.
-use Rattle.world_semaphore.proofs.Prelude.{◌≡◌, ℕ, ◌<◌, ◌⊎◌, inl, inr, Bool, true, false, List, [], ◌∷◌, Option, Some, None, refl, arith, ap, nat_tests, Entry, is_marked_at, marked_count, fitted, is_party, entries_of, unlisted_unmarked, Found, Done, Left, Short, Available, PastLimit, NoMemory, Yes, No, Place, Take, Retake, Join, Ask, Remove, Load, HandOn, PassOn, RefuseFit, Try, Lower, GiveBack, Raise, GiveAdded, FitAdded, CancelRemove, CancelLoad, FitGivenBack, Abandon, Position, told_more, Words, action_of, position_after, seat_of, debt_at, nothing_owed, a_look, a_fit, fit_if, deed_of, Finds, words_after, entries_after}
+use Rattle.world_semaphore.proofs.Prelude.{◌≡◌, ℕ, ◌<◌, inl, inr, Bool, true, false, List, [], ◌∷◌, Option, Some, None, refl, arith, ap, nat_tests, Entry, is_marked_at, marked_count, fitted, is_party, entries_of, unlisted_unmarked, Found, Done, Left, Short, Available, PastLimit, NoMemory, Yes, No, Place, Take, Retake, Join, Ask, Remove, Load, HandOn, PassOn, RefuseFit, Try, Lower, GiveBack, Raise, GiveAdded, FitAdded, CancelRemove, CancelLoad, FitGivenBack, Abandon, Position, told_more, Words, action_of, position_after, seat_of, debt_at, nothing_owed, a_look, a_fit, fit_if, deed_of, Finds, words_after, entries_after, Owes, Debt, subst}
 use Rattle.world_semaphore.proofs.of_machine.laws.Kept.{after, more_is, no_more}
 use Rattle.world_semaphore.proofs.of_machine.stages.Taking.{taken}
 
@@ -32,12 +32,17 @@ none_left : (a : ℕ) → fit_if (told_more true a) ≡ nothing_owed → a ≡ 0
 none_left a h = no_more a (none_so (told_more true a) h)
 
 -- what the party of a place owes where it stands then, by the words and the list before
-pub record OwedBy (p : ℕ) (w : Words) (l : List (Entry ℕ)) (size : ℕ → ℕ) (x : Place) (f : Found) (y : Position) : Type 0 where
-  pub told : is_marked_at (is_party p) l ≡ true → is_marked_at (is_party p) (entries_after size p (deed_of (action_of x) f) l) ≡ false → debt_at y ≡ a_look
-  pub looks : debt_at y ≡ a_look → (is_marked_at (is_party p) l ≡ true) ⊎ ((n : ℕ) × ((seat_of x).debt ≡ a_fit n))
-  pub finds : (n : ℕ) → debt_at y ≡ a_fit n → (n ≡ (words_after (deed_of (action_of x) f) w).available) ⊎ (((seat_of x).debt ≡ a_fit n) × (is_marked_at (is_party p) l ≡ false))
-  pub looked : (seat_of x).debt ≡ a_look → debt_at y ≡ nothing_owed → (words_after (deed_of (action_of x) f) w).available ≡ 0
-  pub fitted : (n : ℕ) → (seat_of x).debt ≡ a_fit n → debt_at y ≡ nothing_owed → entries_after size p (deed_of (action_of x) f) l ≡ fitted size n l
+abbrev pub OwedBy : ℕ → Words → List (Entry ℕ) → (ℕ → ℕ) → Place → Found → Position → Type 0
+OwedBy p w l size x f y = Owes p (seat_of x).debt (debt_at y) l (entries_after size p (deed_of (action_of x) f) l) (words_after (deed_of (action_of x) f) w).available size
+
+-- the same of debts, entries and permits that are the same
+pub owes_so : (p : ℕ) (d e : Debt) {c b : Debt} (l m : List (Entry ℕ)) {n : List (Entry ℕ)} (a : ℕ) {k : ℕ} (size : ℕ → ℕ) → d ≡ c → e ≡ b → m ≡ n → a ≡ k → Owes p d e l m a size → Owes p c b l n k size
+owes_so p d e {c} {b} l m {n} a {k} size dc eb mn ak o =
+    let A : Debt → Type 0 = λ z. Owes p z e l m a size in
+    let B : Debt → Type 0 = λ z. Owes p c z l m a size in
+    let C : List (Entry ℕ) → Type 0 = λ z. Owes p c b l z a size in
+    let D : ℕ → Type 0 = λ z. Owes p c b l n z size in
+    subst D ak (subst C mn (subst B eb (subst A dc o)))
 
 pub owed : (memory : Bool) (p : ℕ) (w : Words) (l : List (Entry ℕ)) (size : ℕ → ℕ) (x : Place) (f : Found) → Finds memory p (action_of x) f w l → entries_of p l ≡ (seat_of x).listed → OwedBy p w l size x f (after x f)
 owed memory p w l size (Take k true true) (Left a) e own = record { told = λ m u. absurd (cc (m, u)); looks = λ h. absurd (never_looks (told_more true a) h); finds = λ n h. inl (let so = more_so true a n h in omega (arith, e, so)); looked = λ h g. (let none = none_left a g in omega (arith, e, none)); fitted = λ n h g. absurd (cc h) }

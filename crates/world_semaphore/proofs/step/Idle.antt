@@ -65,11 +65,13 @@ module _ (w : World) (m : Move) (well : StandsWell w) where
   unmoved out =
       let none : debt_of w m.party ≡ nothing_owed = well.paid m.party out in
       record {
-        told = λ is isnt. absurd (cc (is, isnt));
-        looks = λ h. absurd (cc (none, h));
-        finds = λ n h. absurd (cc (none, h));
-        looked = λ h g. absurd (cc (h, g));
-        fitted = λ n h g. absurd (cc (h, g));
+        own = record {
+          told = λ is isnt. absurd (cc (is, isnt));
+          looks = λ h. absurd (cc (none, h));
+          finds = λ n h. absurd (cc (none, h));
+          looked = λ h g. absurd (cc (h, g));
+          fitted = λ n h g. absurd (cc (h, g));
+        };
         others = λ q apart. refl;
       }
 

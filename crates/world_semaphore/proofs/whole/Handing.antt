@@ -37,13 +37,13 @@ module _ (size : ℕ → ℕ) (a : ℕ) where
 
 -- ---- the places of a poll in vain, of a party that was told
 
-abbrev is_change : Deed → Bool
+abbrev pub is_change : Deed → Bool
 is_change (changes c) = true
 is_change _ = false
 
 module _ (k a size : ℕ) where
   -- where the list has so many entries, so many of them marked, and the party's own is or isn't
-  abbrev IsVain : Place → ℕ → ℕ → Bool → Type 0
+  abbrev pub IsVain : Place → ℕ → ℕ → Bool → Type 0
   IsVain (Retake n) len marked own = (n ≡ k) × (len ≡ size) × (own ≡ true) × (marked ≡ 1)
   IsVain (Ask n None) len marked own = (n ≡ k) × (len ≡ size) × (own ≡ true) × (marked ≡ 1)
   IsVain (Take n false true) len marked own = (n ≡ k) × (len + 1 ≡ size) × (marked ≡ 0)
@@ -57,7 +57,7 @@ module _ (k a size : ℕ) where
   went y z len marked own h e = let P : Place → Type 0 = λ z. IsVain z len marked own in subst P (cc e) h
 
   -- it goes on so, changes nothing of the state, and ends by telling others
-  record Vain (x : Place) (f : Found) (len marked : ℕ) (own : Bool) : Type 0 where
+  pub record Vain (x : Place) (f : Found) (len marked : ℕ) (own : Bool) : Type 0 where
     pub unchanged : is_change (deed_of (action_of x) f) ≡ false
     pub going : (z : Place) → after x f ≡ At z → IsVain z len marked own
     pub ends : is_stepped (answer_by (next_of x f)) ≡ false → (action_of x ≡ Action.Fit a) × (answer_by (next_of x f) ≡ Answer.Pending)
@@ -70,7 +70,7 @@ module _ (k a size : ℕ) where
         → IsVain y (length (then_list x f)) (marked_count (then_list x f)) (is_marked_at (is_party p) (then_list x f)) → Vain x f (length (then_list x f)) (marked_count (then_list x f)) (is_marked_at (is_party p) (then_list x f))
     on x f y e same goes h = record { unchanged = same; going = λ z g. went y z _ _ _ h (sym e ∙ g); ends = λ s. absurd (cc (goes, s)) }
 
-    vain : (x : Place) (f : Found) → Finds true p (action_of x) f w l → entries_of p l ≡ (seat_of x).listed → IsVain x (length l) (marked_count l) (is_marked_at (is_party p) l)
+    pub vain : (x : Place) (f : Found) → Finds true p (action_of x) f w l → entries_of p l ≡ (seat_of x).listed → IsVain x (length l) (marked_count l) (is_marked_at (is_party p) l)
         → Vain x f (length (then_list x f)) (marked_count (then_list x f)) (is_marked_at (is_party p) (then_list x f))
     vain (Retake n) (Left c) e own h = absurd (omega (arith, e, few, short, h.0))
     vain (Retake n) (Short c) e own h = on (Retake n) (Short c) (Ask n None) refl refl refl h

@@ -11,7 +11,7 @@ use Rattle.world_semaphore.proofs.whole.Covers.{Covered, EndsCovered, CoversBy, 
 use Rattle.world_semaphore.proofs.whole.Onwards.{along_acts}
 
 -- whoever has told others stands for as many permits as before
-tells_size : (x : Place) (f : Found) (c : ℕ) → action_of x ≡ Action.Fit c → size_at (after x f) ≡ size_of x
+pub tells_size : (x : Place) (f : Found) (c : ℕ) → action_of x ≡ Action.Fit c → size_at (after x f) ≡ size_of x
 tells_size (HandOn k a) f c e = refl
 tells_size (PassOn k a) f c e = refl
 tells_size (RefuseFit k a) f c e = refl
@@ -26,7 +26,7 @@ MarksWanted u = IsFreeAndWanted (view_of u) → 0 < marked_count u.machine.entri
 abbrev pub IsCovered : Place → Table Semaphore → Type 0
 IsCovered y t = Covered (seat_of y).debt (marked_count t.machine.entries) t.machine.words.available
 
-fit_done : (memory : Bool) (p c : ℕ) (f : Found) (w : Words) (size : ℕ → ℕ) (l es : List (Entry ℕ)) → Finds memory p (Action.Fit c) f w l → es ≡ entries_after size p (deed_of (Action.Fit c) f) l → es ≡ fitted size c l
+pub fit_done : (memory : Bool) (p c : ℕ) (f : Found) (w : Words) (size : ℕ → ℕ) (l es : List (Entry ℕ)) → Finds memory p (Action.Fit c) f w l → es ≡ entries_after size p (deed_of (Action.Fit c) f) l → es ≡ fitted size c l
 fit_done memory p c Done w size l es e is = is
 fit_done memory p c _ w size l es e is = absurd e
 
@@ -87,20 +87,20 @@ passes_on known w p c i n a v runs ended which pending some =
 -- ---- a poll that is refused
 
 -- the party stands in the list, or is to be ready, and took no notification
-abbrev is_quiet : Place → Bool
+abbrev pub is_quiet : Place → Bool
 is_quiet (Retake k) = true
 is_quiet (Ask k None) = true
 is_quiet (Remove k None) = true
 is_quiet _ = false
 
-record Quiet (y : Place) (f : Found) : Type 0 where
+pub record Quiet (y : Place) (f : Found) : Type 0 where
   pub going : (z : Place) → after y f ≡ At z → (is_quiet z ≡ true) ⊎ ((seat_of z).debt ≡ a_look)
   pub ends : is_refusal (answer_by (next_of y f)) ≡ false
 
 went : (y z : Place) → (is_quiet y ≡ true) ⊎ ((seat_of y).debt ≡ a_look) → At y ≡ At z → (is_quiet z ≡ true) ⊎ ((seat_of z).debt ≡ a_look)
 went y z h e = let P : Place → Type 0 = λ z. (is_quiet z ≡ true) ⊎ ((seat_of z).debt ≡ a_look) in subst P (cc e) h
 
-quietly : (y : Place) (f : Found) → is_quiet y ≡ true → Quiet y f
+pub quietly : (y : Place) (f : Found) → is_quiet y ≡ true → Quiet y f
 quietly (Retake k) (Left c) h = record { going = λ z e. went (Remove k None) z (inl refl) e; ends = refl }
 quietly (Retake k) _ h = record { going = λ z e. went (Ask k None) z (inl refl) e; ends = refl }
 quietly (Ask k None) Yes h = record { going = λ z e. went (Take k false true) z (inr refl) e; ends = refl }

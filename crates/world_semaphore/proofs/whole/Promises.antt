@@ -70,7 +70,7 @@ marks_seen : (v : World) → Stands v → MarksWanted v.behind → IsFreeAndWant
 marks_seen v s marks free = let P : World → Type 0 = λ z. IsFreeAndWanted z → 0 < marked_count z.entries in subst P (sym s.seen) marks free
 
 -- a list in which somebody is notified, and one entry at most is, has just one notified
-one_marked : (p : ℕ) (l : List (Entry ℕ)) → is_marked_at (is_party p) l ≡ true → marked_count l ≤ 1 → marked_count l ≡ 1
+pub one_marked : (p : ℕ) (l : List (Entry ℕ)) → is_marked_at (is_party p) l ≡ true → marked_count l ≤ 1 → marked_count l ≡ 1
 one_marked p l marked few = by_count (marked_count l) refl few where
   by_count : (n : ℕ) → marked_count l ≡ n → n ≤ 1 → n ≡ 1
   by_count n is few = elim (n_is n few) as (λ _. n ≡ 1) [ inl none ↦ absurd (cc (marked, none_marked p l (is ∙ none))) | inr one ↦ one ] where

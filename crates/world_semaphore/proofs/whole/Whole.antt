@@ -9,7 +9,7 @@ use Rattle.world_semaphore.proofs.step.Acting as acting
 use Rattle.world_semaphore.proofs.step.Stepping.{by_step}
 
 -- how many steps are left once this was found, by whether the party's own entry is marked then
-abbrev LeftBy : Next → Bool → ℕ
+abbrev pub LeftBy : Next → Bool → ℕ
 LeftBy n marked = left_by (answer_by n) (left_at (position_after n) marked)
 
 abbrev pub Left : Place → Found → Bool → ℕ
@@ -90,7 +90,7 @@ some_left (Remove k more) true = omega arith
 some_left (Remove k more) false = omega arith
 some_left _ b = omega arith
 
-some_at : (x : Position) (b : Bool) → 0 < left_at x b
+pub some_at : (x : Position) (b : Bool) → 0 < left_at x b
 some_at (At x) b = some_left x b
 some_at Out b = omega arith
 some_at (Unlisted k) b = omega arith

@@ -1,5 +1,5 @@
 -- What an action is: one change of the words and of what its party has, or one list function; and what it finds.
-use Rattle.std.specs.Prelude.{◌≡◌, ℕ, ◌+◌, ◌-◌, ◌<◌, ◌≤◌, if◌then◌else◌, Bool, true, false, List, None, slice_set}
+use Rattle.std.specs.Prelude.{◌≡◌, ℕ, ◌+◌, ◌-◌, ◌<◌, ◌≤◌, if◌then◌else◌, Bool, true, false, List, slice_set}
 use Rattle.lock_event.specs.declared.event.Entry.{Entry}
 use Rattle.lock_event.specs.Lists.{joined, without, is_marked_at}
 use Rattle.lock_event.specs.Weights.{fitted}
@@ -10,7 +10,7 @@ use Rattle.sync_program.specs.declared.permits.Action.TheVariants as act
 use Rattle.sync_program.specs.declared.permits.Found.{Found}
 use Rattle.sync_program.specs.declared.permits.Found.TheVariants.{Done, Left, Short, Available, PastLimit, NoMemory, Yes, No}
 use Rattle.world_semaphore.specs.declared.machine.words.Words.{Words}
-use Rattle.world_semaphore.specs.machine.Seats.{Share, nothing_had, guard_of}
+use Rattle.world_semaphore.specs.machine.Seats.{Share, nothing_had, guard_of, under_way_of}
 
 -- The changes of a semaphore: the party takes so many permits, gives back those of its guard or forgets them; it raises the limit by so many, which are then under way, or gives those that are.
 pub data Change : Type 0 where
@@ -38,7 +38,7 @@ abbrev pub share_after : Change → Share → Share
 share_after (takes k) s = guard_of k
 share_after (gives_back k) s = nothing_had
 share_after (forgets k) s = nothing_had
-share_after (raises n) s = record { held = None; under_way = n }
+share_after (raises n) s = under_way_of n
 share_after (gives n) s = nothing_had
 
 -- the limit after a change
@@ -52,6 +52,31 @@ available_after (takes k) a = a - k
 available_after (gives_back k) a = a + k
 available_after (gives n) a = a + n
 available_after _ a = a
+
+abbrev pub share_then : Deed → Share → Share
+share_then (changes c) s = share_after c s
+share_then _ s = s
+
+-- A party whose call is decided may leave the list or tell others, and neither join nor ask.
+abbrev pub is_parting : ListFunction → Bool
+is_parting joins = false
+is_parting asks = false
+is_parting _ = true
+
+-- Once its call is decided, a party only gives back: its permits, those that are under way, its entry, a notification.
+abbrev pub gives_something_back : Deed → Bool
+gives_something_back nothing = true
+gives_something_back (changes (takes k)) = false
+gives_something_back (changes (raises n)) = false
+gives_something_back (changes _) = true
+gives_something_back (does f) = is_parting f
+
+-- What gives something up: permits, or a place in the list without asking there.
+abbrev pub gives_up : Deed → Bool
+gives_up (changes (gives_back k)) = true
+gives_up (changes (forgets k)) = true
+gives_up (does removes) = true
+gives_up _ = false
 
 abbrev pub words : ℕ → ℕ → ℕ → Words
 words available limit most = record { available = available; limit = limit; most = most }

@@ -31,7 +31,7 @@ use Rattle.sync_program.specs.declared.permits.Position.{Position}
 use Rattle.sync_program.specs.declared.permits.Position.TheVariants.{Out, Unlisted, Waiting, Holding, At}
 use Rattle.world_semaphore.specs.declared.machine.words.Words.{Words}
 use Rattle.world_semaphore.specs.machine.Program.{place_for, action_of, next_of, position_after}
-use Rattle.world_semaphore.specs.machine.Seats.{permits_at, under_way_at, listed, waits, owes, size_at, is_short, is_resting}
+use Rattle.world_semaphore.specs.machine.Seats.{seat_of, seated, permits_at, under_way_at, listed, waits_for, waits, owes, size_of, size_at, is_short_at, is_short, is_resting}
 use Rattle.world_base.specs.queue.Debts.{IsOwed}
 use Rattle.world_semaphore.specs.machine.Deeds.{Finds, deed_of, words, words_after, entries_after}
 use Rattle.world_semaphore.specs.machine.Tally.{IsSound, tally_of, counts_of}
@@ -165,6 +165,12 @@ goes_with _ _ = false
 abbrev pub Stands : Semaphore → ℕ → Stage → Type 0
 Stands s p stage = goes_with stage (position_at s.positions p) ≡ true
 
+-- A party that stands so may act at this place: it has and owes there what it did, waits there for as many if for any, and is short there of as many.
+pub record StandsAt (from : Place) (x : Position) : Type 0 where
+  pub same : seat_of from ≡ seated x
+  pub waits : (s : ℕ) → waits_for s from ≤ waits s x
+  pub short : is_short_at from ≡ true → (is_short x ≡ true) × (size_of from ≡ size_at x)
+
 -- ---- One action
 
 -- what a call's next is answered
@@ -178,6 +184,12 @@ pub record Acts (memory : Bool) (p : ℕ) (from : Place) (found : Found) (s t : 
   pub words : t.words ≡ words_after (deed_of (action_of from) found) s.words
   pub entries : t.entries ≡ entries_after (sizes_of s.positions) p (deed_of (action_of from) found) s.entries
   pub positions : t.positions ≡ slice_set s.positions p (position_after (next_of from found))
+
+-- So it does, and this comes next.
+pub record ActsSo (memory : Bool) (p : ℕ) (from : Place) (next : Next) (s t : Semaphore) : Type 0 where
+  pub found : Found
+  pub acts : Acts memory p from found s t
+  pub next_is : next ≡ next_of from found
 
 -- A move of the party, answered so.
 pub record Moves (s : Semaphore) (p : ℕ) (w : Within) (what : What) (a : Answer) (t : Semaphore) : Type 0 where

@@ -23,6 +23,10 @@ nothing_had = record { held = None; under_way = 0 }
 abbrev pub guard_of : ℕ → Share
 guard_of k = record { held = Some k; under_way = 0 }
 
+-- So many permits under way, and no guard.
+abbrev pub under_way_of : ℕ → Share
+under_way_of n = record { held = None; under_way = n }
+
 -- How many permits a party's guard has.
 abbrev pub permits_of : Share → ℕ
 permits_of s = unwrap_or s.held 0
@@ -72,7 +76,7 @@ seat_of (Try k) = seat nothing_had 0 nothing_owed
 seat_of (Lower k) = seat (guard_of k) 0 nothing_owed
 seat_of (GiveBack k) = seat (guard_of k) 0 nothing_owed
 seat_of (Raise n) = seat nothing_had 0 nothing_owed
-seat_of (GiveAdded n) = seat (record { held = None; under_way = n }) 0 nothing_owed
+seat_of (GiveAdded n) = seat (under_way_of n) 0 nothing_owed
 seat_of (FitAdded a) = seat nothing_had 0 (a_fit a)
 seat_of CancelRemove = seat nothing_had 1 nothing_owed
 seat_of CancelLoad = seat nothing_had 0 a_look

@@ -7,7 +7,7 @@ ghost use Rattle.sync_program.specs.declared.permits.Position.TheVariants.{Out};
 ghost use Rattle.world_semaphore.specs.machine.Program.{place_for as place_for_lem, position_after};
 ghost use Rattle.world_semaphore.specs.machine.Deeds.{CanDo, told_by};
 ghost use Rattle.world_semaphore.specs.machine.Carried.{Carried};
-ghost use Rattle.world_semaphore.specs.machine.Machine.{new_semaphore, IsSemaphore, answer_by};
+ghost use Rattle.world_semaphore.specs.machine.Machine.{new_semaphore, position_at, IsSemaphore, StandsAt, ActsSo, answer_by};
 
 use crate::machine::calls::start;
 use crate::machine::words::Words;
@@ -156,7 +156,15 @@ impl Semaphore {
         })
     }
 
-    /// Where a party stands in its program; None past the last.
+    /// Where a party stands in its program.
+    pub(crate) fn position(&self, party: u32) -> Position
+        requires { party < length self.now.positions }
+        ensures { result ≡ position_at self.now.positions party }
+    {
+        self.positions[party as usize]
+    }
+
+    /// As `position`, of any number: None past the last party.
     pub fn position_of(&self, party: u32) -> Option<Position>
         ensures { result ≡ slice_get self.now.positions party }
     {
@@ -190,6 +198,25 @@ impl Semaphore {
         ensures { result ≡ slice_get self.now.entries index }
     {
         self.list.entry(index)
+    }
+
+    /// One action of a party's program, whose place is `from`. `memory` says whether a join finds memory.
+    pub(crate) fn take_step(&mut self, party: u32, from: Place, memory: bool) -> Next<Place, Position>
+        requires known { party < length self.old.positions }
+        requires stands { StandsAt from (position_at self.old.positions party) }
+        ensures { ActsSo memory party from result self.old self.new }
+    {
+        let at = party as usize;
+        let found = carry_out(
+            &mut self.words,
+            &mut self.list,
+            party,
+            action_at(from),
+            memory,
+        );
+        let next = decide(from, found);
+        self.positions[at] = after(next);
+        next
     }
 
     /// What always holds of a semaphore. It does nothing.
@@ -246,15 +273,6 @@ impl Machine for Semaphore {
         let Some(from) = place_for(what, self.positions[at]) else {
             unreachable!()
         };
-        let found = carry_out(
-            &mut self.words,
-            &mut self.list,
-            party,
-            action_at(from),
-            what.inputs().memory,
-        );
-        let next = decide(from, found);
-        self.positions[at] = after(next);
-        answer_to(next)
+        answer_to(self.take_step(party, from, what.inputs().memory))
     }
 }

@@ -159,4 +159,4 @@ pub returns-clause-ready_without_a_guard : goal.returns-clause-ready_without_a_g
 returns-clause-ready_without_a_guard c = λ r. true≢false (sym (ap (λ (s : Share). is_some s.held) (r.legal.carries.ready r.got r.ready).1) ∙ r.none)
 
 pub returns-clause-goes_on_with_the_older : goal.returns-clause-goes_on_with_the_older
-returns-clause-goes_on_with_the_older c = λ r. let look = (r.legal.knows_debts r.possible).told r.was_told r.gone in absurd (cc (look, r.older))
+returns-clause-goes_on_with_the_older c = λ r. let look = (r.legal.knows_debts r.possible).own.told r.was_told r.gone in absurd (cc (look, r.older))

@@ -1,6 +1,6 @@
 -- Where a call begins or goes on, and at which stage its party is after its action.
-use Rattle.world_semaphore.proofs.Prelude.{◌≡◌, ℕ, ◌≤◌, ◌&&◌, true, false, Some, None, refl, sym, subst, arith, false≢true, Call, Inputs, What, Begin, Go, Kind, Rest, Stage, Outside, Inside, Forgotten, Within, within, some_eq, none_some, both, call_at, polls_again, stage_after, Found, Done, Left, Yes, Place, Take, Retake, Join, Ask, Remove, Load, HandOn, PassOn, RefuseFit, Try, Lower, GiveBack, Raise, GiveAdded, FitAdded, CancelRemove, CancelLoad, FitGivenBack, Abandon, Position, Out, Unlisted, Waiting, Holding, At, told_more, is_told, Next, place_for, next_of, position_after, seat_of, seated, waits_for, waits, is_short_at, is_short, size_at, knows, runs, is_polling, is_begun, goes_with, answer_by}
-use Rattle.world_semaphore.specs.machine.Seats.{size_of}
+use Rattle.world_semaphore.proofs.Prelude.{◌≡◌, ℕ, ◌&&◌, true, false, Some, None, refl, sym, subst, arith, false≢true, Call, Inputs, What, Begin, Go, Kind, Rest, Stage, Outside, Inside, Forgotten, Within, within, some_eq, none_some, both, call_at, polls_again, stage_after, Found, Done, Left, Yes, Place, Take, Retake, Join, Ask, Remove, Load, HandOn, PassOn, RefuseFit, Try, Lower, GiveBack, Raise, GiveAdded, FitAdded, CancelRemove, CancelLoad, FitGivenBack, Abandon, Position, Out, Unlisted, Waiting, Holding, At, told_more, is_told, Next, place_for, next_of, position_after, knows, runs, is_polling, is_begun, goes_with, answer_by}
+use Rattle.world_semaphore.specs.machine.Machine.{StandsAt}
 use Rattle.world_semaphore.proofs.of_machine.stages.Taking.{taken}
 
 -- The moves of a semaphore's parties: each call from where it may begin, and going on.
@@ -70,25 +70,23 @@ module _ (P : Stage → What → Within → Position → Place → Type 0) (k : 
   turn (Inside v) (Begin c i) w x g e n = absurd (none_some e)
   turn Forgotten what w x g e n = absurd (none_some e)
 
--- A party has and owes as much where its call begins as where it stood, waits for as many if for any, and its place is one of that call's program.
+-- A party may act where its call begins, and its place is one of that call's program.
 pub record Fits (w : Within) (x : Position) (from : Place) : Type 0 where
-  pub same : seat_of from ≡ seated x
-  pub waits : (s : ℕ) → waits_for s from ≤ waits s x
-  pub short : is_short_at from ≡ true → (is_short x ≡ true) × (size_of from ≡ size_at x)
+  pub stands : StandsAt from x
   pub runs : runs w.kind w.was from ≡ true
 
 pub fits : (s : Stage) (what : What) (w : Within) (x : Position) → goes_with s x ≡ true → call_at knows s what ≡ Some w → polls_again s what ≡ false → Turn (λ s what w x from. Fits w x from) s what w x
 fits = turn (λ s what w x from. Fits w x from) (record {
-  acquire = λ k i. record { same = refl; waits = λ s. omega arith; short = λ h. absurd (cc h); runs = refl };
-  try = λ k i. record { same = refl; waits = λ s. omega arith; short = λ h. absurd (cc h); runs = refl };
-  add = λ n i. record { same = refl; waits = λ s. omega arith; short = λ h. absurd (cc h); runs = refl };
-  poll = λ k i. record { same = refl; waits = λ s. omega arith; short = λ h. absurd (cc h); runs = refl };
-  poll_listed = λ k i. record { same = refl; waits = λ s. omega arith; short = λ h. (refl, refl); runs = refl };
-  abandon = λ k i. record { same = refl; waits = λ s. omega arith; short = λ h. absurd (cc h); runs = refl };
-  cancel = λ k i. record { same = refl; waits = λ s. omega arith; short = λ h. absurd (cc h); runs = refl };
-  give_back = λ k i. record { same = refl; waits = λ s. omega arith; short = λ h. absurd (cc h); runs = refl };
-  forget = λ k i. record { same = refl; waits = λ s. omega arith; short = λ h. absurd (cc h); runs = refl };
-  go = λ w x i begun here. record { same = refl; waits = λ s. omega arith; short = λ h. (h, refl); runs = here };
+  acquire = λ k i. record { stands = record { same = refl; waits = λ s. omega arith; short = λ h. absurd (cc h) }; runs = refl };
+  try = λ k i. record { stands = record { same = refl; waits = λ s. omega arith; short = λ h. absurd (cc h) }; runs = refl };
+  add = λ n i. record { stands = record { same = refl; waits = λ s. omega arith; short = λ h. absurd (cc h) }; runs = refl };
+  poll = λ k i. record { stands = record { same = refl; waits = λ s. omega arith; short = λ h. absurd (cc h) }; runs = refl };
+  poll_listed = λ k i. record { stands = record { same = refl; waits = λ s. omega arith; short = λ h. (refl, refl) }; runs = refl };
+  abandon = λ k i. record { stands = record { same = refl; waits = λ s. omega arith; short = λ h. absurd (cc h) }; runs = refl };
+  cancel = λ k i. record { stands = record { same = refl; waits = λ s. omega arith; short = λ h. absurd (cc h) }; runs = refl };
+  give_back = λ k i. record { stands = record { same = refl; waits = λ s. omega arith; short = λ h. absurd (cc h) }; runs = refl };
+  forget = λ k i. record { stands = record { same = refl; waits = λ s. omega arith; short = λ h. absurd (cc h) }; runs = refl };
+  go = λ w x i begun here. record { stands = record { same = refl; waits = λ s. omega arith; short = λ h. (h, refl) }; runs = here };
 })
 
 -- ---- the stage after an action goes with where the party then stands
