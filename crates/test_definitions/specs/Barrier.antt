@@ -13,7 +13,7 @@ use Rattle.world_base.specs.declared.moves.Move.{Move}
 use Rattle.world_base.specs.declared.moves.What.TheVariants.{Begin}
 use Rattle.lock_program.specs.declared.refusal.Refusal.TheVariants as refusal
 use Rattle.world_base.specs.declared.standing.Rest.TheVariants.{Pending}
-use Rattle.world_base.specs.Frame.{is_refusal}
+use Rattle.world_base.specs.Frame.{is_refusal, is_drop}
 use Rattle.world_base.specs.Rosters.{how_many}
 use Rattle.world_base.specs.Standings.{outside, refused}
 use Rattle.world_barrier.specs.machine.Waits.{uncounted, counted}
@@ -411,6 +411,27 @@ pub record OvertakesStarved : Type 0 where
   pub some_starved : 0 < how_many whole.old.lock.starved
   pub ready : whole.answer ≡ answer.Ready (got.Leader true)
   pub kept : Keeps whole
+
+-- A notified party that has waited for too long finds the inner lock held, and room for one more starved party, and it isn't counted as one: newcomers may overtake it for ever.
+pub record NeverStarved : Type 0 where
+  pub whole : Whole
+  pub polls : whole.call ≡ call.Poll
+  pub solo : IsSolo whole.old whole.party whole.inputs
+  pub long : whole.inputs.starving ≡ true
+  pub room : how_many whole.old.lock.starved < whole.old.starved_limit
+  pub held : whole.old.lock.holder ≢ None
+  pub patient : is_starved whole.new.lock whole.party ≡ false
+  pub kept : Keeps whole
+
+-- The drop of a wait in the inner lock's list that isn't starved goes on, so that what it was told reaches nobody for some steps.
+pub record DropDawdles : Type 0 where
+  pub step : Step
+  pub drops : is_drop step.move.what ≡ true
+  pub pending : standing_of step.old step.move.party ≡ outside Pending
+  pub listed : 0 < entries_of step.move.party step.old.lock_list
+  pub unstarved : is_starved step.old.lock step.move.party ≡ false
+  pub goes_on : step.answer ≡ answer.Stepped
+  pub legal : IsAtOnce step
 
 -- Two parties are told of one inner lock.
 pub record TwoToldOfLock : Type 0 where

@@ -747,6 +747,56 @@ pub record TakesTurnUntold : Type 0 where
   pub takes : HasTurn whole.new.state.turn whole.party
   pub kept : Keeps whole
 
+-- A notified party that has waited for too long finds the turn taken, and room for one more starved party, and it isn't counted as one: newcomers may overtake it for ever.
+pub record NeverStarved : Type 0 where
+  pub whole : Whole
+  pub polls : whole.call ≡ call.Poll
+  pub solo : IsSoloForTurn whole.old whole.party whole.inputs
+  pub long : whole.inputs.starving ≡ true
+  pub room : how_many whole.old.state.starved < whole.old.starved_limit
+  pub taken : whole.old.state.turn ≢ nobody
+  pub patient : is_starved whole.new whole.party ≡ false
+  pub kept : Keeps whole
+
+-- A party that gives up its wait for the turn has left the list, and is counted as starved still.
+pub record LeavesCounted : Type 0 where
+  pub step : Step
+  pub party : ℕ
+  pub within : Within
+  pub gives_back : standing_of step.new party ≡ inside within (Some answer.GivenBack)
+  pub unlisted : entries_of party step.new.turn_list ≡ 0
+  pub starved : is_starved step.new party ≡ true
+  pub legal : IsLegal step
+
+-- The drop of a future goes on that waits for the turn and isn't starved, or that waits to read, so that what it was told reaches nobody for some steps.
+pub record DropDawdles : Type 0 where
+  pub step : Step
+  pub drops : is_drop step.move.what ≡ true
+  pub pending : standing_of step.old step.move.party ≡ outside Pending
+  pub listed : 0 < entries_of step.move.party step.old.turn_list
+  pub unstarved : is_starved step.old step.move.party ≡ false
+  pub goes_on : step.answer ≡ answer.Stepped
+  pub legal : IsAtOnce step
+
+pub record ReadersDropDawdles : Type 0 where
+  pub step : Step
+  pub drops : is_drop step.move.what ≡ true
+  pub pending : standing_of step.old step.move.party ≡ outside Pending
+  pub listed : 0 < entries_of step.move.party step.old.no_writer
+  pub goes_on : step.answer ≡ answer.Stepped
+  pub legal : IsAtOnce step
+
+-- A starved write that is told of the free turn doesn't take it, however many read.
+pub record WritePassesOver : Type 0 where
+  pub whole : Whole
+  pub polls : whole.call ≡ call.Poll
+  pub solo : IsSoloForTurn whole.old whole.party whole.inputs
+  pub writes : sought_by whole.old whole.party ≡ Some write
+  pub free : whole.old.state.turn ≡ nobody
+  pub starved : is_starved whole.old whole.party ≡ true
+  pub without : HasTurn whole.new.state.turn whole.party → ⊥
+  pub kept : Keeps whole
+
 -- Two parties are told at once in one list, of one turn or of one right to write.
 pub record TwoTold : Type 0 where
   pub world : World

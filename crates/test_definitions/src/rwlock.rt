@@ -5,7 +5,7 @@ ghost use Rattle.test_definitions.specs.ReadWriteTable.{beginnings, actions, fol
 ghost use Rattle.lock_program.specs.ReadWrite.{action_of, next_of};
 ghost use Rattle.world_rwlock.specs.program.Program.{start_of};
 ghost use Rattle.test_definitions.specs.Never.{Never};
-ghost use Rattle.test_definitions.specs.ReadWrite.{TriesInVain, ReadsUnready, WaitsUnlisted, PendsTooEarly, RefusedAtFirst, RefusedHavingMoved, ReadsWithTheBit, LetsGoUndecided, UnmarksUndecided, StopsReadingUndecided, DowngradesUndecided, DropsUndecided, DowngradesThroughNothing, OtherIsUpgrade, IdleHasTurn, TriesOn, WriteMeetsReaders, ReadMeetsStarved, LacksMemoryWithTurn, ReadMeetsReadersBesideWriter, MeetsReadersWithoutTurn, MeetsStarvedWithTurn, PassesTurnInVain, PassesReadingInVain, PassesWritingInVain, UpgradeWaitsForNobody, UpgradableUnready, WriteUnready, StarvesUnasked, KeepsItsTold, TriesTurnInVain, StarvedHavingTaken, StarvedTwice, StarvedAtFirst, DecidesInVain, TellsMany, TellsMore, WakesAWriter, WakesAReader, WakesForTheTurn, NotTheLast, WakesTheNext, SleepsThoughFree, SleepsThoughReadable, SleepsThoughWritable, SleepsBesideADrop, ReadsBesideADrop, WritesBesideADrop, StarvedForNothing, WakesInARing, PollsUntold, PollsUntoldToRead, TriesAndTells, RefusedSilently, RefusedToReadSilently, DropsLastSilently, EndsWithoutTurn, EndsWithoutBit, ReleasesUntold, LastReaderUntold, RefusedToReadUnneeded, RefusedToWriteUnneeded, RefusedTurnUnneeded, TriesTurnAndTells, EntersTurnAndTells, StopsLastSilently, ReadStarves, ReaderLost, StarvedUnwaited, CountsUnwaited, OvertakesStarved, TakesTurnUntold, TwoTold, OvertakenTwice};
+ghost use Rattle.test_definitions.specs.ReadWrite.{TriesInVain, ReadsUnready, WaitsUnlisted, PendsTooEarly, RefusedAtFirst, RefusedHavingMoved, ReadsWithTheBit, LetsGoUndecided, UnmarksUndecided, StopsReadingUndecided, DowngradesUndecided, DropsUndecided, DowngradesThroughNothing, OtherIsUpgrade, IdleHasTurn, TriesOn, WriteMeetsReaders, ReadMeetsStarved, LacksMemoryWithTurn, ReadMeetsReadersBesideWriter, MeetsReadersWithoutTurn, MeetsStarvedWithTurn, PassesTurnInVain, PassesReadingInVain, PassesWritingInVain, UpgradeWaitsForNobody, UpgradableUnready, WriteUnready, StarvesUnasked, KeepsItsTold, TriesTurnInVain, StarvedHavingTaken, StarvedTwice, StarvedAtFirst, DecidesInVain, TellsMany, TellsMore, WakesAWriter, WakesAReader, WakesForTheTurn, NotTheLast, WakesTheNext, SleepsThoughFree, SleepsThoughReadable, SleepsThoughWritable, SleepsBesideADrop, ReadsBesideADrop, WritesBesideADrop, StarvedForNothing, WakesInARing, PollsUntold, PollsUntoldToRead, TriesAndTells, RefusedSilently, RefusedToReadSilently, DropsLastSilently, EndsWithoutTurn, EndsWithoutBit, ReleasesUntold, LastReaderUntold, RefusedToReadUnneeded, RefusedToWriteUnneeded, RefusedTurnUnneeded, TriesTurnAndTells, EntersTurnAndTells, StopsLastSilently, ReadStarves, ReaderLost, StarvedUnwaited, CountsUnwaited, OvertakesStarved, TakesTurnUntold, NeverStarved, LeavesCounted, DropDawdles, ReadersDropDawdles, WritePassesOver, TwoTold, OvertakenTwice};
 
 /// Each clause says of one wrong run that it isn't legal.
 fn wrong_runs()
@@ -81,6 +81,11 @@ fn wrong_runs()
     ensures counts_unwaited { Never (CountsUnwaited) }
     ensures overtakes_starved { Never (OvertakesStarved) }
     ensures takes_turn_untold { Never (TakesTurnUntold) }
+    ensures never_starved { Never (NeverStarved) }
+    ensures leaves_counted { Never (LeavesCounted) }
+    ensures drop_dawdles { Never (DropDawdles) }
+    ensures readers_drop_dawdles { Never (ReadersDropDawdles) }
+    ensures write_passes_over { Never (WritePassesOver) }
     ensures two_told { Never (TwoTold) }
     ensures overtaken_twice { Never (OvertakenTwice) }
 {}

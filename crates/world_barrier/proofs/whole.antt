@@ -9,5 +9,6 @@ pub mod Handing
 pub mod Patient
 pub mod Ring
 pub mod Newcomers
+pub mod Counted
 pub mod Promises
 pub mod Whole

@@ -15,6 +15,8 @@ use Rattle.std.specs.Prelude.{◌≢◌}
 use Rattle.lock_event.specs.Lists.{notified}
 use Rattle.world_base.specs.declared.standing.Within.{Within}
 use Rattle.world_base.specs.Standings.{inside, is_possible}
+use Rattle.world_base.specs.Frame.{is_drop}
+use Rattle.world_base.specs.Steps.{leaves, list_after}
 use Rattle.world_barrier.specs.State.{is_starved}
 
 -- How many entries a party has in both lists.
@@ -43,6 +45,8 @@ pub record AnswersAtOnce (old : World) (m : Move) (a : Answer) (new : World) : T
   pub first_poll : is_first_poll (standing_of old m.party) m.what (entries_in old m.party) ≡ true → TakesAtOnce old m a new
   pub locking : is_later_poll (standing_of old m.party) m.what ≡ true → 0 < entries_of m.party old.lock_list → a ≡ (if is_marked_at (is_party m.party) old.lock_list then answer.Stepped else answer.Pending)
   pub listed : is_later_poll (standing_of old m.party) m.what ≡ true → 0 < entries_of m.party old.list → a ≡ (if is_marked_at (is_party m.party) old.list then answer.Stepped else answer.Pending)
+  -- The drop of a wait in the inner lock's list that isn't starved is one step: it leaves, and hands on there what it was told.
+  pub abandons : is_drop m.what ≡ true → standing_of old m.party ≡ outside Pending → 0 < entries_of m.party old.lock_list → is_starved old.lock m.party ≡ false → (a ≡ answer.GivenBack) × (new.lock_list ≡ list_after m.party leaves old.lock_list)
   -- A wait that is to be refused, has no more to do with the inner lock, and isn't starved for it, notifies one there as it ends.
   pub refuses : (within : Within) (r : ℕ) → standing_of old m.party ≡ inside within (Some (answer.Refused r)) → old.lock.holder ≢ Some m.party → entries_of m.party old.lock_list ≡ 0 → is_starved old.lock m.party ≡ false → is_possible a ≡ true
       → (a ≡ answer.Refused r) × (new.lock_list ≡ notified old.lock_list 1)

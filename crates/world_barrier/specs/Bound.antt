@@ -89,9 +89,10 @@ pub record GivesWay (w : World) (p : ℕ) (a : Answer) (v : World) : Type 0 wher
   pub wait : wait_of v p ≡ wait_of w p
   pub rests : is_at_rest w ≡ true → is_at_rest v ≡ true
 
--- What a solo poll does to a free inner lock: it takes it or gives way, unless the limit of starved parties is met; and whatever the limit, it takes it if its party is starved, or if nobody is.
+-- What a solo poll does to a free inner lock: it takes it or gives way, unless it is refused as one too many of the starved, and that only where as many are as may be, of which it is none; and whatever the limit, it takes it if its party is starved, or if nobody is.
 pub record SoloPoll (w : World) (p : ℕ) (a : Answer) (v : World) : Type 0 where
-  pub takes_or_gives_way : how_many w.lock.starved < w.starved_limit → Takes w p (wait_of w p) a v ⊎ GivesWay w p a v
+  pub takes_or_gives_way : a ≢ refused refusal.Starved → Takes w p (wait_of w p) a v ⊎ GivesWay w p a v
+  pub refused : a ≡ refused refusal.Starved → (how_many w.lock.starved ≡ w.starved_limit) × (is_starved w.lock p ≡ false)
   pub takes : (is_starved w.lock p ≡ true) ⊎ (how_many w.lock.starved ≡ 0) → Takes w p (wait_of w p) a v
 
 -- What a whole call promises beside its end.
@@ -114,13 +115,15 @@ pub record Promises (w : World) (p : ℕ) (c : Call) (inputs : Inputs) (a : Answ
   pub first_patient : is_first_poll (standing_of w p) (Begin c inputs) (entries_in w p) ≡ true → how_many w.lock.starved ≡ 0 → (a ≢ refused refusal.Starved) × (is_starved v.lock p ≡ false)
   -- Beside a starved party a first poll is pending, and its party is starved from then on; or it is refused.
   pub newcomer : is_first_poll (standing_of w p) (Begin c inputs) (entries_in w p) ≡ true → 0 < how_many w.lock.starved → ((a ≡ answer.Pending) × (is_starved v.lock p ≡ true)) ⊎ (is_refusal a ≡ true)
+  -- A notified party that has waited for too long, or beside whom somebody is starved, is starved at its poll's end, where it found the lock held, if it finds memory and fewer are starved than may be.
+  pub held : c ≡ call.Poll → IsSolo w p inputs → (inputs.starving ≡ true) ⊎ (0 < how_many w.lock.starved) → how_many w.lock.starved < w.starved_limit → w.lock.holder ≢ None → is_starved v.lock p ≡ true
   -- A refused poll of a party that stood in the inner lock's list hands on what it was told: some entry is marked, if there is any.
   pub hands_on : c ≡ call.Poll → standing_of w p ≡ outside Pending → 0 < entries_of p w.lock_list → is_refusal a ≡ true → 0 < length v.lock_list → 0 < marked_count v.lock_list
 
--- A whole solo poll that doesn't take the inner lock, while fewer parties are starved than may be.
+-- A whole solo poll that isn't refused as one too many of the starved, and doesn't take the inner lock.
 pub record PassesOver (w : World) (p : ℕ) (inputs : Inputs) (a : Answer) (v : World) : Type 0 where
   pub solo : IsSolo w p inputs
-  pub limit : how_many w.lock.starved < w.starved_limit
+  pub unrefused : a ≢ refused refusal.Starved
   pub whole : IsWholeCall w p call.Poll inputs a v
   pub not_taken : Takes w p (wait_of w p) a v → ⊥
 

@@ -43,9 +43,10 @@ pub record GivesWay (w : World) (p : ℕ) (a : Answer) (v : World) : Type 0 wher
   pub gave_way : bounds.GaveWay p w.state.starved w.entries v.state.starved v.entries
   pub rests : is_at_rest w ≡ true → is_at_rest v ≡ true
 
--- What a solo poll does to a free lock: it takes it or gives way, unless the limit of starved parties is met; and whatever the limit, it takes it if its party is starved, or if nobody is.
+-- What a solo poll does to a free lock: it takes it or gives way, unless it is refused, and that only where as many parties are starved as may be, of which it is none; and whatever the limit, it takes it if its party is starved, or if nobody is.
 pub record SoloPoll (w : World) (p : ℕ) (a : Answer) (v : World) : Type 0 where
-  pub takes_or_gives_way : how_many w.state.starved < w.limit → Takes w p a v ⊎ GivesWay w p a v
+  pub takes_or_gives_way : is_refusal a ≡ false → Takes w p a v ⊎ GivesWay w p a v
+  pub refused : is_refusal a ≡ true → (how_many w.state.starved ≡ w.limit) × (is_starved w.state p ≡ false)
   pub takes : (is_starved w.state p ≡ true) ⊎ (how_many w.state.starved ≡ 0) → Takes w p a v
 
 -- What a whole call promises those that wait for too long.
@@ -84,10 +85,10 @@ pub record Promises (w : World) (p : ℕ) (c : Call) (inputs : Inputs) (a : Answ
   -- Whoever has waited for too long is counted as starved, and nobody new comes before the starved.
   pub serves_starved : ServesStarved w p c inputs a v
 
--- A whole solo poll that doesn't take the lock, while fewer parties are starved than may be.
+-- A whole solo poll that isn't refused, and doesn't take the lock.
 pub record PassesOver (w : World) (p : ℕ) (inputs : Inputs) (a : Answer) (v : World) : Type 0 where
   pub solo : IsSolo w p inputs
-  pub limit : how_many w.state.starved < w.limit
+  pub unrefused : is_refusal a ≡ false
   pub whole : IsWholeCall w p call.Poll inputs a v
   pub not_taken : v.state.holder ≢ Some p
 

@@ -13,6 +13,7 @@ pub mod Owed
 pub mod Acting
 pub mod AtOnce
 pub mod Asked
+pub mod Dropped
 pub mod Refusing
 pub mod Owing
 pub mod Instants

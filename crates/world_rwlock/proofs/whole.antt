@@ -7,3 +7,4 @@ pub mod FirstPolls
 pub mod Newcomers
 pub mod Takers
 pub mod Handing
+pub mod Counted

@@ -1,5 +1,5 @@
 -- How often what is free may be passed over: whole polls of notified parties, one after the other, each carried out while the others stand still.
-use Rattle.std.specs.Prelude.{◌≡◌, ◌≢◌, ℕ, ◌<◌, ◌⊎◌, true, false, List, length, Some}
+use Rattle.std.specs.Prelude.{◌≡◌, ◌≢◌, ℕ, ◌<◌, ◌≤◌, ◌⊎◌, true, false, List, length, Some}
 use Rattle.lock_event.specs.declared.event.Entry.{Entry}
 use Rattle.lock_event.specs.Lists.{marked_count, is_marked_at}
 use Rattle.world_base.specs.queue.Parties.{is_party, entries_of}
@@ -62,10 +62,15 @@ pub record GivesTurnWay (w : World) (p : ℕ) (a : Answer) (v : World) : Type 0 
   pub readers : v.state.readers ≡ w.state.readers
   pub rests : is_at_rest w ≡ true → is_at_rest v ≡ true
 
--- What a solo poll does to a free turn, while readers are below their limit: it takes it or gives way, unless the limit of starved parties is met; and whatever that limit, it takes it if its party is starved, or if nobody is.
+-- An upgradable read meets the readers' limit, once it has the turn; a write never does.
+abbrev pub MeetsReaders : World → ℕ → Type 0
+MeetsReaders w p = (sought_by w p ≡ Some upgradable) × (w.readers_limit ≤ how_many_read w)
+
+-- What a solo poll does to a free turn: it takes it or gives way, unless it is refused, and that only where as many parties are starved as may be, of which it is none, or where it meets the readers' limit; and unless it is refused it takes the turn if its party is starved, or if nobody is.
 pub record SoloPollForTurn (w : World) (p : ℕ) (a : Answer) (v : World) : Type 0 where
-  pub takes_or_gives_way : how_many w.state.starved < w.starved_limit → TakesTurn w p a v ⊎ GivesTurnWay w p a v
-  pub takes : (is_starved w p ≡ true) ⊎ (how_many w.state.starved ≡ 0) → TakesTurn w p a v
+  pub takes_or_gives_way : is_refusal a ≡ false → TakesTurn w p a v ⊎ GivesTurnWay w p a v
+  pub refused : is_refusal a ≡ true → ((how_many w.state.starved ≡ w.starved_limit) × (is_starved w p ≡ false)) ⊎ MeetsReaders w p
+  pub takes : (is_starved w p ≡ true) ⊎ (how_many w.state.starved ≡ 0) → TakesTurn w p a v ⊎ (MeetsReaders w p × (is_refusal a ≡ true))
 
 -- The poll is ready with the value as it was, and its party reads.
 pub record TakesToRead (w : World) (p : ℕ) (a : Answer) (v : World) : Type 0 where
@@ -85,9 +90,9 @@ IsFirstForTurn w p c inputs = (is_first w (record { party = p; what = Begin c in
 
 -- What a whole call promises: a solo poll of a free turn takes it or gives way; one of a party that was told to read, or that looks for readers to write, takes that where it is free; where nobody is starved, a party isn't starved at the end that hasn't waited for too long; a first poll of what is free is ready; and a refused poll hands on.
 pub record Promises (w : World) (p : ℕ) (c : Call) (inputs : Inputs) (a : Answer) (v : World) : Type 0 where
-  pub turn : c ≡ call.Poll → IsSoloForTurn w p inputs → w.state.turn ≡ nobody → how_many_read w < w.readers_limit → SoloPollForTurn w p a v
+  pub turn : c ≡ call.Poll → IsSoloForTurn w p inputs → w.state.turn ≡ nobody → SoloPollForTurn w p a v
   -- of a party that was notified for it, it takes it without memory too if its party is starved or nobody is, but for a write beside readers
-  pub told : c ≡ call.Poll → IsToldOfTurn w p inputs → w.state.turn ≡ nobody → how_many_read w < w.readers_limit → (is_starved w p ≡ true) ⊎ (how_many w.state.starved ≡ 0) → TakesTurn w p a v
+  pub told : c ≡ call.Poll → IsToldOfTurn w p inputs → w.state.turn ≡ nobody → (MeetsReaders w p → ⊥) → (is_starved w p ≡ true) ⊎ (how_many w.state.starved ≡ 0) → TakesTurn w p a v
   pub reading : c ≡ call.Poll → IsToldToRead w p → is_marked w.state.turn ≡ false → how_many_read w < w.readers_limit → TakesToRead w p a v
   pub writing : c ≡ call.Poll → IsSoloToWrite w p → how_many_read w ≡ 0 → TakesToWrite w p a v
   pub unstarved : inputs.starving ≡ false → how_many w.state.starved ≡ 0 → is_starved v p ≡ false
@@ -104,16 +109,17 @@ pub record Promises (w : World) (p : ℕ) (c : Call) (inputs : Inputs) (a : Answ
   pub newcomer : IsFirstForTurn w p c inputs → 0 < how_many w.state.starved → ((a ≡ answer.Pending) × (is_starved v p ≡ true)) ⊎ (is_refusal a ≡ true)
   -- so while somebody is starved nobody takes the turn but in a poll for which it was notified
   pub only_told : 0 < how_many w.state.starved → (HasTurn w.state.turn p → ⊥) → (c ≡ call.Poll → (standing_of w p ≡ outside Pending) × (is_marked_at (is_party p) w.turn_list ≡ true) → ⊥) → HasTurn v.state.turn p → ⊥
+  -- and a notified party that has waited for too long, or beside whom somebody is starved, is starved at its poll's end, where it found the turn taken, if it finds memory and fewer are starved than may be
+  pub held : c ≡ call.Poll → IsSoloForTurn w p inputs → (inputs.starving ≡ true) ⊎ (0 < how_many w.state.starved) → how_many w.state.starved < w.starved_limit → w.state.turn ≢ nobody → is_starved v p ≡ true
   -- A refused poll of a party that stood in a list hands on what it was told there: some entry of that list is marked, if there is any.
   pub hands_on : (list : ListName) → c ≡ call.Poll → standing_of w p ≡ outside Pending → 0 < entries_of p (list_of w list) → is_refusal a ≡ true → 0 < length (list_of v list) → 0 < marked_count (list_of v list)
 
 -- ---- Polls that pass over what is free
 
--- A whole solo poll that doesn't take the turn, while neither limit is met.
+-- A whole solo poll that isn't refused, and doesn't take the turn.
 pub record PassesTurnOver (w : World) (p : ℕ) (inputs : Inputs) (a : Answer) (v : World) : Type 0 where
   pub solo : IsSoloForTurn w p inputs
-  pub starved_limit : how_many w.state.starved < w.starved_limit
-  pub readers_limit : how_many_read w < w.readers_limit
+  pub unrefused : is_refusal a ≡ false
   pub whole : IsWholeCall w p call.Poll inputs a v
   pub not_taken : HasTurn v.state.turn p → ⊥
 

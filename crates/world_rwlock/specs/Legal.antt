@@ -21,7 +21,7 @@ use Rattle.world_base.specs.Frame.{is_drop, is_giving_back, is_refusal, put_in}
 use Rattle.world_base.specs.Rights.{Right, read, upgradable, write}
 use Rattle.world_base.specs.Rosters.{how_many}
 use Rattle.world_base.specs.Standings.{Standing, outside, inside, forgotten, inputs_of, is_possible, is_decided, decision, refused}
-use Rattle.world_base.specs.Steps.{Deed, nothing, does, joins}
+use Rattle.world_base.specs.Steps.{Deed, nothing, does, joins, leaves, list_after}
 use Rattle.world_rwlock.specs.State.{ListName, list_of, Turn, passes, is_upgradable, waits_to_write, writes, World, standing_of, sought_by, reads, how_many_read, is_marked, is_turn_free, HasTurn, entries_in, told_in, is_upgrader, IsClear}
 use Rattle.world_rwlock.specs.Changes.{Change, state_after, entries_after, IsAllowed, gives_back, gives_up}
 use Rattle.world_base.specs.Standings.{IsUndecided}
@@ -102,13 +102,14 @@ HasSought w p = (r : Right) × (sought_by w p ≡ Some r) × HasJust w p r
 abbrev pub HasNothing : World → ℕ → Type 0
 HasNothing w p = (reads w p ≡ false) × (HasTurn w.state.turn p → ⊥)
 
--- Outside every call a guard has just its right, a future has nothing but that it may wait to write if it seeks to, and only a future is in a list, starved, or an upgrade's. Until its call is decided a party has no right, and it waits to write only if it seeks to. A drop and a downgrade are decided at their first step, and a guard that is downgraded reads from then on.
+-- Outside every call a guard has just its right, a future has nothing but that it may wait to write if it seeks to, and only a future is in a list, starved, or an upgrade's. Until its call is decided a party has no right, and it waits to write only if it seeks to. A drop and a downgrade are decided at their first step, and a guard that is downgraded reads from then on; whoever gives back is starved no more once it stands in the turn's list no more.
 abbrev pub HasItsOwn : World → ℕ → Standing → Type 0
 HasItsOwn w p (outside Idle) = IsClear w p × HasNothing w p × (is_upgrader w p ≡ false)
 HasItsOwn w p (outside Finished) = IsClear w p × HasNothing w p × (is_upgrader w p ≡ false)
 HasItsOwn w p (outside Holding) = IsClear w p × HasSought w p × (is_upgrader w p ≡ false)
 HasItsOwn w p (outside Pending) = (reads w p ≡ false) × (((w.state.turn ≡ waits_to_write p) × (sought_by w p ≡ Some write)) ⊎ ((HasTurn w.state.turn p → ⊥) × (is_upgrader w p ≡ false)))
 HasItsOwn w p (inside within None) = (reads w p ≡ false) × (w.state.turn ≢ is_upgradable p) × (w.state.turn ≢ writes p) × (w.state.turn ≡ waits_to_write p → sought_by w p ≡ Some write) × (within.kind ≢ kind.Drop) × (within.kind ≢ kind.Downgrade)
+HasItsOwn w p (inside within (Some answer.GivenBack)) = (within.kind ≡ kind.Downgrade → reads w p ≡ true) × (entries_of p w.turn_list ≡ 0 → is_starved w p ≡ false)
 HasItsOwn w p (inside within (Some a)) = within.kind ≡ kind.Downgrade → reads w p ≡ true
 HasItsOwn w p forgotten = Unit {0}
 
@@ -276,6 +277,9 @@ pub record AnswersAtOnce (old : World) (m : Move) (a : Answer) (new : World) : T
   -- A poll of a party that waits for the turn, or to read, asks in that list first.
   pub listed_for_turn : (inputs : _) → m.what ≡ Begin call.Poll inputs → standing_of old m.party ≡ outside Pending → 0 < entries_of m.party old.turn_list → AsksIn m.party old.turn_list a new.turn_list
   pub listed_to_read : (inputs : _) → m.what ≡ Begin call.Poll inputs → standing_of old m.party ≡ outside Pending → 0 < entries_of m.party old.no_writer → AsksIn m.party old.no_writer a new.no_writer
+  -- The drop of a party that waits for the turn and isn't starved, or that waits to read, is one step: it leaves, and hands on there what it was told.
+  pub abandons_turn : is_drop m.what ≡ true → standing_of old m.party ≡ outside Pending → 0 < entries_of m.party old.turn_list → is_starved old m.party ≡ false → (a ≡ answer.GivenBack) × (new.turn_list ≡ list_after m.party leaves old.turn_list)
+  pub abandons_reading : is_drop m.what ≡ true → standing_of old m.party ≡ outside Pending → 0 < entries_of m.party old.no_writer → (a ≡ answer.GivenBack) × (new.no_writer ≡ list_after m.party leaves old.no_writer)
   -- A call for the turn that is to be refused, has not the turn, stands in its list no more and isn't starved for it, notifies one there as it ends; and so does a read that is to be refused, among those that wait to read.
   pub refuses_turn : (within : Within) (r : ℕ) → standing_of old m.party ≡ inside within (Some (answer.Refused r)) → is_for_turn (sought_by old m.party) ≡ true → (HasTurn old.state.turn m.party → ⊥) → entries_of m.party old.turn_list ≡ 0 → is_starved old m.party ≡ false → is_possible a ≡ true
       → (a ≡ answer.Refused r) × (new.turn_list ≡ notified old.turn_list 1)

@@ -7,6 +7,9 @@ use Rattle.world_barrier.proofs.step.Owns.{at_most_once}
 use Rattle.world_barrier.proofs.step.Acting as acting
 use Rattle.world_barrier.proofs.step.Acting.{Acting}
 use Rattle.world_mutex.specs.machine.Deeds.{entries_after as lock_entries_after}
+use Rattle.world_base.specs.Frame.{is_drop}
+use Rattle.world_base.specs.Steps.{leaves, list_after}
+use Rattle.world_mutex.specs.machine.Course as course
 
 -- a free inner lock
 free_by : (h : Option ℕ) (n : ℕ) → is_none h && (n == 0) ≡ true → (h ≡ None) × (n ≡ 0)
@@ -45,6 +48,20 @@ begins_there (outside Pending) (Begin Call.Poll i) Waiting c from h e link some 
 begins_there (outside Pending) (Begin Call.Poll i) Out c from h e link some = absurd (none_some e)
 begins_there (outside Pending) (Begin Call.Poll i) (At y) c from h e link some = absurd (none_some e)
 begins_there _ _ x c from h e link some = absurd (cc h)
+
+-- so does its drop
+drops_there : (what : What) (x : Position) (c : Course) (from : Place) → is_drop what ≡ true → place_for what x ≡ Some from → fits_lock (in_lock x) c ≡ true → 0 < listed_there c → (from ≡ CancelLock) × (is_waiting c ≡ true)
+drops_there (Begin Call.Drop i) (Locking b) c from h e link some = (sym (some_eq e), link)
+drops_there (Begin Call.Drop i) (Made b) c from h e link some = let none = out_unlisted c link in absurd (omega arith)
+drops_there (Begin Call.Drop i) Waiting c from h e link some = let none = out_unlisted c link in absurd (omega arith)
+drops_there (Begin Call.Drop i) Out c from h e link some = let none = out_unlisted c link in absurd (omega arith)
+drops_there (Begin Call.Drop i) (At y) c from h e link some = absurd (none_some e)
+drops_there _ x c from h e link some = absurd (cc h)
+
+waits_plain : (c : Course) → is_waiting c ≡ true → counted c ≡ 0 → c ≡ course.waiting false
+waits_plain (course.waiting true) w h = absurd (omega (arith, h))
+waits_plain (course.waiting false) w h = refl
+waits_plain _ w h = absurd (cc w)
 
 -- ---- a refused party
 
@@ -144,6 +161,19 @@ module _ (t u : Table Barrier) (m : Move) (a : Answer) (w : Within) (k : Acting 
       let P : Place → Type 0 = λ y. OnLock i p (action_of y) k.found t.machine.lock u.machine.lock in
       locking_by there.0 k.found some (subst P there.1 k.acts.lock) (k.answer ∙ ap (λ y. answer_by (next_of y k.found)) there.1)
 
+  dropped_by : (f : Found) → c ≡ course.waiting false → OnLock i p (action_of CancelLock) f t.machine.lock u.machine.lock → (answer_by (next_of CancelLock f) ≡ Answer.GivenBack) × (u.machine.lock.entries ≡ list_after p leaves t.machine.lock.entries)
+  dropped_by (Found.Lock s) waits l = let it = l.abandons refl waits in (ap (λ z. answer_by (next_of CancelLock (Found.Lock z))) it.0, it.1)
+  dropped_by _ waits l = absurd l
+
+  abandons_so : is_drop m.what ≡ true → 0 < entries_of p old.lock_list → is_starved old.lock p ≡ false → (a ≡ Answer.GivenBack) × (new.lock_list ≡ list_after p leaves old.lock_list)
+  abandons_so drops some plain =
+      let own = k.old_laws.lock.owners p in
+      let there = drops_there m.what x c k.from drops k.starts (k.old_laws.links p) (omega arith) in
+      let uncounted : counted c ≡ 0 = sym (sees.counted_bit c) ∙ ap bit (sym (sees.starved_at t.machine.lock.courses p) ∙ plain) in
+      let P : Place → Type 0 = λ y. OnLock i p (action_of y) k.found t.machine.lock u.machine.lock in
+      let it = dropped_by k.found (waits_plain c there.1 uncounted) (subst P there.0 k.acts.lock) in
+      (k.answer ∙ (ap (λ y. answer_by (next_of y k.found)) there.0 ∙ it.0), it.1)
+
   -- where a refused party notifies
   refuses_by : (y : Place) (f : Found) (r : ℕ) → fits_lock (in_lock (At y)) c ≡ true → OnLock i p (action_of y) f t.machine.lock u.machine.lock → verdict_of y c ≡ Some (Answer.Refused r) → old.lock.holder ≢ Some p → listed_there c ≡ 0 → counted c ≡ 0
       → (answer_by (next_of y f) ≡ Answer.Refused r) × (u.machine.lock.entries ≡ notified t.machine.lock.entries 1)
@@ -176,4 +206,4 @@ module _ (t u : Table Barrier) (m : Move) (a : Answer) (w : Within) (k : Acting 
       (k.answer ∙ it.0, it.1)
 
   pub at_once : AnswersAtOnce old m a new
-  at_once = record { first_poll = first; locking = locking_so; listed = listed_so; refuses = λ within r at apart none plain possible. refuses_so within r at apart none plain }
+  at_once = record { first_poll = first; locking = locking_so; listed = listed_so; abandons = λ drops pending some plain. abandons_so drops some plain; refuses = λ within r at apart none plain possible. refuses_so within r at apart none plain }

@@ -1,5 +1,5 @@
 -- What comes of a poll that is carried out alone, as callers see it.
-use Rattle.world_barrier.proofs.Prelude.{◌≡◌, ◌≢◌, ℕ, zero, suc, ◌+◌, ◌<◌, inl, inr, Bool, true, List, [], ◌∷◌, refl, sym, ap, ◌∙◌, subst, arith, ℕ_discrete, list_all, entries_of, Answer, Refusal, Stage, is_outside_stage, stage_at, Table, rest_seen, outside_at, LockStep as Step, End as LockEnd, GaveWay, StandsBack, starved, gave_way, none_held, Aim, Ending, Found, Position, Locking, Waiting, Progress, Words, uncounted, counted, wait_for, wait_at, arrivals_at, progress, IsFollower, after_lock, position_after, listed, Barrier, IsBarrier, position_at, arrival_at, answer_by, World, wait_of, view_of, verdict_in, HasToWait, is_at_rest, WaitsOn, ComesTo, GivesWay}
+use Rattle.world_barrier.proofs.Prelude.{false, how_many, is_starved, ◌≡◌, ◌≢◌, ℕ, zero, suc, ◌+◌, ◌<◌, inl, inr, Bool, true, List, [], ◌∷◌, refl, sym, ap, ◌∙◌, subst, arith, ℕ_discrete, list_all, entries_of, Answer, Refusal, Stage, is_outside_stage, stage_at, Table, rest_seen, outside_at, LockStep as Step, End as LockEnd, GaveWay, StandsBack, starved, gave_way, none_held, Aim, Ending, Found, Position, Locking, Waiting, Progress, Words, uncounted, counted, wait_for, wait_at, arrivals_at, progress, IsFollower, after_lock, position_after, listed, Barrier, IsBarrier, position_at, arrival_at, answer_by, World, wait_of, view_of, verdict_in, HasToWait, is_at_rest, WaitsOn, ComesTo, GivesWay, refused}
 use Rattle.world_base.proofs.of_queue.Told.{waits_at}
 use Rattle.world_barrier.specs.Bound.{Takes}
 use Rattle.world_barrier.proofs.Numbers as numbers
@@ -7,6 +7,8 @@ use Rattle.world_barrier.proofs.table.Seen.{wait_seen}
 use Rattle.world_barrier.proofs.whole.Served as served
 use Rattle.world_barrier.proofs.whole.Served.{AreNow, Same, Came, end_answer, end_place}
 use Rattle.world_barrier.proofs.whole.Locked.{GaveUp}
+use Rattle.world_mutex.specs.machine.Mutex.{is_counted}
+use Rattle.world_mutex.proofs.of_machine.callers.Holders as sees
 
 module _ (p : ℕ) (b : Aim) (t u : Table Barrier) (a : Answer) where
   abbrev s : Barrier
@@ -107,7 +109,7 @@ module _ (p : ℕ) (b : Aim) (t u : Table Barrier) (a : Answer) where
       rest_seen (verdict_in y) u.stages ∙ all_outside u.stages each
 
   module _ (others : (q : ℕ) → q ≢ p → stage_at u.stages q ≡ stage_at t.stages q) (outside : is_outside_stage (stage_at u.stages p) ≡ true) (here : position_at s.positions p ≡ Locking b) where
-    gives_by : (memory : Bool) (e : LockEnd) → (k : GaveUp p b s memory a (position_at y.positions p) y) → k.to ≡ e → 0 < entries_of p s.lock.entries → starved s.lock < s.lock.limit → StandsBack p s.lock e y.lock → GivesWay old p a new
+    gives_by : (memory : Bool) (e : LockEnd) → (k : GaveUp p b s memory a (position_at y.positions p) y) → k.to ≡ e → 0 < entries_of p s.lock.entries → a ≢ refused Refusal.Starved → StandsBack p s.lock e y.lock → GivesWay old p a new
     gives_by memory LockEnd.Pending k is there below back =
         let at : position_at y.positions p ≡ Locking b = k.place ∙ ap (λ e. position_after (after_lock b (Found.Lock (Step.End e)))) is in
         record {
@@ -118,8 +120,17 @@ module _ (p : ℕ) (b : Aim) (t u : Table Barrier) (a : Answer) where
           wait = wait_so (Locking b) _ _ at k.same ∙ sym (wait_seen t p ∙ ap (λ x. wait_at x number) here);
           rests = rests_seen others outside;
         }
-    gives_by memory (LockEnd.Refused Refusal.Starved) k is there below back = absurd (omega (arith, back.2, below))
+    gives_by memory (LockEnd.Refused Refusal.Starved) k is there below back = absurd (below (k.answer ∙ ap (λ e. answer_by (after_lock b (Found.Lock (Step.End e)))) is))
     gives_by memory _ k is there below back = absurd back
 
-    pub gives_seen : (memory : Bool) → GaveUp p b s memory a (position_at y.positions p) y → 0 < entries_of p s.lock.entries → starved s.lock < s.lock.limit → GivesWay old p a new
+    pub gives_seen : (memory : Bool) → GaveUp p b s memory a (position_at y.positions p) y → 0 < entries_of p s.lock.entries → a ≢ refused Refusal.Starved → GivesWay old p a new
     gives_seen memory k there below = gives_by memory k.to k refl there below k.gave.stands_back
+
+    -- who is refused met the limit of the starved, and is none of them
+    refused_by : (memory : Bool) (e : LockEnd) → (k : GaveUp p b s memory a (position_at y.positions p) y) → k.to ≡ e → a ≡ refused Refusal.Starved → StandsBack p s.lock e y.lock → starved s.lock ≡ s.lock.limit
+    refused_by memory LockEnd.Pending k is refused back = absurd (let pends : a ≡ Answer.Pending = k.answer ∙ ap (λ e. answer_by (after_lock b (Found.Lock (Step.End e)))) is in cc (pends, refused))
+    refused_by memory (LockEnd.Refused Refusal.Starved) k is refused back = back.2
+    refused_by memory _ k is refused back = absurd back
+
+    pub refused_seen : (memory : Bool) → GaveUp p b s memory a (position_at y.positions p) y → a ≡ refused Refusal.Starved → (how_many old.lock.starved ≡ old.starved_limit) × (is_starved old.lock p ≡ false)
+    refused_seen memory k refused = (sees.how_many_counted s.lock.courses ∙ refused_by memory k.to k refl refused k.gave.stands_back, sees.starved_at s.lock.courses p ∙ ap is_counted k.gave.unstarved_here)

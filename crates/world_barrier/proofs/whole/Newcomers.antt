@@ -1,5 +1,5 @@
 -- Beside parties that are starved for the inner lock a first poll waits as one of them, or is refused; where there are none it isn't counted, nor refused for their number.
-use Rattle.world_barrier.proofs.Prelude.{◌≡◌, ◌≢◌, ℕ, ◌<◌, ◌==◌, ◌⊎◌, inl, inr, Bool, true, false, is_some, refl, sym, ap, ◌∙◌, subst, arith, nat_tests, false≢true, true≢false, Answer, Call, Inputs, Refusal, refused, is_refusal, Begin, Go, Rest, Account, accounts_after, how_many, is_outside_stage, going_on, moves_of, answers_of, beginning, Onward, along, stage_at, Table, End as LockEnd, LockStep, Course, starved_there as counted, Takes, is_counting, decision, is_out, course_at, starved, Aim, Found, Place, EnterLock, TakeLock, Position, Out, Made, Locking, Waiting, At, next_of, position_after, position_left, after_lock, InLock, fits_lock, in_lock, Barrier, IsBarrier, position_at, answer_by, Next, World, standing_of, is_starved, view_of, entries_in, is_first_poll, knows, Runs, HoldsWell, Stands, Steps}
+use Rattle.world_barrier.proofs.Prelude.{◌≡◌, ◌≢◌, ℕ, ◌<◌, ◌==◌, ◌⊎◌, inl, inr, Bool, true, false, is_some, refl, sym, ap, ◌∙◌, subst, arith, nat_tests, false≢true, true≢false, Answer, Call, Inputs, Refusal, refused, is_refusal, Begin, Rest, Account, accounts_after, how_many, is_outside_stage, going_on, moves_of, answers_of, beginning, Onward, along, stage_at, Table, End as LockEnd, LockStep, Course, starved_there as counted, Takes, is_counting, decision, is_out, course_at, starved, Aim, Found, Place, EnterLock, TakeLock, Position, Out, Made, Locking, Waiting, At, next_of, position_after, position_left, after_lock, InLock, fits_lock, in_lock, Barrier, IsBarrier, position_at, answer_by, Next, World, standing_of, is_starved, view_of, entries_in, is_first_poll, knows, Runs, HoldsWell, Stands, Steps}
 use Rattle.std.specs.Prelude.{nat_lt}
 use Rattle.lock_program.specs.declared.end.Next.TheVariants as next
 use Rattle.world_base.proofs.of_any_world.Unsaid.{unsaid}

@@ -1,5 +1,5 @@
 -- Whole polls on a free inner lock: where they begin, and that they take it or give way.
-use Rattle.world_barrier.proofs.Prelude.{◌≡◌, ◌≢◌, ℕ, ◌+◌, ◌<◌, ◌==◌, ◌⊎◌, inl, inr, Bool, true, false, Option, Some, None, refl, sym, ap, ◌∙◌, subst, arith, nat_tests, is_marked_at, is_party, entries_of, Answer, Call, Inputs, Begin, Kind, Rest, Stage, Outside, Inside, Forgotten, Within, Account, how_many, outside, moves_of, answers_of, both, stage_at, stands_as, call_at, polls_again, Table, inside_or_past, outside_stage, bit, is_waiting, IsCalled, PollsAlone, SoloPolls, StandsBack, End as LockEnd, Mutex, course_at, holders, starved, holder_of, starved_of, IsStarved, out_unlisted, waiting_listed, Aim, Place, EnterLock, WaitLock, Ask, Position, Out, Made, Locking, Waiting, At, start_of, fits_lock, in_lock, listed, follows, wait_for, wait_at, arrivals_at, IsFollower, Barrier, IsBarrier, knows, goes_with, position_at, arrival_at, World, standing_of, wait_of, is_free, is_starved, view_of, verdict_in, entries_in, is_first_poll, wait_then, HasToWait, IsSolo, IsNotified, IsToldOfLock, SoloPoll, Runs, IsBarrierTable, Stands}
+use Rattle.world_barrier.proofs.Prelude.{Refusal, ◌≡◌, ◌≢◌, ℕ, ◌+◌, ◌<◌, ◌==◌, ◌⊎◌, inl, inr, Bool, true, false, Option, Some, None, refl, sym, ap, ◌∙◌, subst, arith, nat_tests, is_marked_at, is_party, entries_of, Answer, Call, Inputs, Begin, Kind, Rest, Stage, Outside, Inside, Forgotten, Within, Account, how_many, outside, moves_of, answers_of, both, stage_at, stands_as, call_at, polls_again, Table, inside_or_past, outside_stage, bit, is_waiting, IsCalled, PollsAlone, SoloPolls, StandsBack, End as LockEnd, Mutex, course_at, holders, starved, holder_of, starved_of, IsStarved, out_unlisted, waiting_listed, Aim, Place, EnterLock, WaitLock, Ask, Position, Out, Made, Locking, Waiting, At, start_of, fits_lock, in_lock, listed, follows, wait_for, wait_at, arrivals_at, IsFollower, Barrier, IsBarrier, knows, goes_with, position_at, arrival_at, World, standing_of, wait_of, is_free, is_starved, view_of, verdict_in, entries_in, is_first_poll, wait_then, HasToWait, IsSolo, IsNotified, IsToldOfLock, SoloPoll, Runs, IsBarrierTable, Stands, refused}
 use Rattle.std.specs.Prelude.{is_none}
 use Rattle.world_base.proofs.Bounds.{marked_listed}
 use Rattle.world_mutex.proofs.of_machine.callers.AloneSeen.{solo_polls as lock_law}
@@ -11,7 +11,9 @@ use Rattle.world_barrier.proofs.whole.Served.{Came, IsSupplied, Serves, serves}
 use Rattle.world_barrier.proofs.whole.Locked.{GaveUp, Enters, Settles, asks, gets_at_once, Goes, Ends, begins}
 use Rattle.world_barrier.proofs.whole.Alone.{EndsAt, whole}
 use Rattle.world_barrier.proofs.whole.Walks.{serves_inside, enters_inside, enters_on, goes_inside, takes_on}
-use Rattle.world_barrier.proofs.whole.Comes.{has_to_wait, takes_seen, gives_seen}
+use Rattle.world_barrier.proofs.whole.Comes.{has_to_wait, takes_seen, gives_seen, refused_seen}
+use Rattle.world_barrier.specs.Bound.{ComesTo}
+use Rattle.world_barrier.specs.machine.Waits.{Wait, uncounted, counted, no_wait}
 
 -- ---- the inner lock is free
 
@@ -34,6 +36,15 @@ finished_waits _ i n h = absurd (cc h)
 pending_polls : (c : Call) (i : Inputs) (n : ℕ) → is_first_poll (outside Rest.Pending) (Begin c i) n ≡ true → (c ≡ Call.Poll) × ((n == 0) ≡ true)
 pending_polls Call.Poll i n h = (refl, h)
 pending_polls _ i n h = absurd (cc h)
+
+-- who has had the inner lock isn't refused as one too many of the starved
+never_starved : (before : Wait) (w : World) (p : ℕ) (a : Answer) (v : World) → ComesTo before w p a v → a ≡ refused Refusal.Starved → ⊥
+never_starved uncounted w p a v (inl leads) is = cc (leads.ready, is)
+never_starved uncounted w p a v (inr (inl back)) is = cc (back.refused, is)
+never_starved uncounted w p a v (inr (inr waits)) is = cc (waits.waits.pending, is)
+never_starved (counted k) w p a v (same, inl follows) is = cc (follows.1, is)
+never_starved (counted k) w p a v (same, inr waits) is = cc (waits.1.pending, is)
+never_starved no_wait w p a v never is = never
 
 module _ (t : Table Barrier) where
   abbrev m : Mutex
@@ -209,9 +220,10 @@ module _ (known : ℕ → Account) (w : World) (p : ℕ) (i : Inputs) (n : ℕ) 
 
     solo_by : (k : Begins t p Call.Poll i WaitLock) → position_at s.positions p ≡ Locking k.its_aim → (law : SoloPolls s.lock) → IsCalled s.lock p → 0 < entries_of p s.lock.entries → EndsAt t p i (Goes p k.its_aim s i.memory) (Ends p k.its_aim s i.memory) a v
         → Came p k.its_aim s a (position_at v.behind.machine.positions p) v.behind.machine ⊎ GaveUp p k.its_aim s i.memory a (position_at v.behind.machine.positions p) v.behind.machine → SoloPoll (view_of t) p a (view_of v.behind)
-    solo_by k here law called there end (inl came) = record { takes_or_gives_way = λ below. inl (came_seen k came); takes = λ why. came_seen k came }
+    solo_by k here law called there end (inl came) = record { takes_or_gives_way = λ below. inl (came_seen k came); refused = λ is. absurd (never_starved (wait_of (view_of t) p) (view_of t) p a (view_of v.behind) (came_seen k came).comes_to is); takes = λ why. came_seen k came }
     solo_by k here law called there end (inr gave) = record {
-      takes_or_gives_way = λ below. inr (gives_seen p k.its_aim t v.behind a end.elsewhere end.outside here i.memory gave there (rw sees.how_many_counted at below));
+      takes_or_gives_way = λ below. inr (gives_seen p k.its_aim t v.behind a end.elsewhere end.outside here i.memory gave there below);
+      refused = refused_seen p k.its_aim t v.behind a end.elsewhere end.outside here i.memory gave;
       takes = λ why. must_come k law called why (inr gave);
     }
 

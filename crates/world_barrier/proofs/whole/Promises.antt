@@ -6,6 +6,7 @@ use Rattle.world_barrier.proofs.whole.Handing.{hands_on}
 use Rattle.world_barrier.proofs.whole.Polls.{nobody_starved, first, notified, told, solo}
 use Rattle.world_base.proofs.of_any_world.Unsaid.{unsaid}
 use Rattle.world_barrier.proofs.whole.Ring.{counts_none, begins_uncounted, tells_nobody_at_end}
+use Rattle.world_barrier.proofs.whole.Counted.{held}
 use Rattle.world_barrier.proofs.whole.Newcomers.{newcomer, first_patient}
 use Rattle.world_barrier.proofs.whole.Patient.{starved_refusal, midway, counting}
 
@@ -72,6 +73,7 @@ module _ (known : ℕ → Account) (w : World) (p : ℕ) (c : Call) (i : Inputs)
     tells_nobody = λ patient none. tells_nobody_at_end known w p c i n a v stood stands runs ended patient none;
     first_patient = λ is. first_patient known w p c i n a v stood stands ended runs is;
     newcomer = λ is. newcomer known w p c i n a v stood stands ended runs is;
+    held = λ is. held known w p i n a v stood stands ended (as_poll is);
     hands_on = λ is. hands_on known w p i n a v stood stands ended (as_poll is);
   }
 

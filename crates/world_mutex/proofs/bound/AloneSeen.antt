@@ -1,5 +1,5 @@
 -- What a poll that is carried out alone does to a free lock, as callers see it.
-use Rattle.world_mutex.proofs.Prelude.{◌≡◌, ◌≢◌, ℕ, ◌<◌, ◌⊎◌, inl, inr, true, false, None, refl, sym, ap, ◌∙◌, subst, arith, set, list_all, entries_of, Answer, Call, Value, Inputs, Refusal, Rest, Outside, Account, how_many, is_outside_stage, moves_of, answers_of, marked_listed, stage_at, stage_after, Table, by_stage_or_past_at, rest_seen, outside_stage, End, Next, Place, IsMutex, IsStarved, starved, is_waiting, bit, holds, listed, IsCalled, Took, StandsBack, GaveWay, PollsAlone, is_counted, IsSolo, GivesWay, SoloPoll, Guarded, place_of, goes_with, answer_by, is_at_rest, Runs, World, is_starved, Stands, IsMutexTable, verdict, view_of, Kind, within}
+use Rattle.world_mutex.proofs.Prelude.{◌≡◌, ◌≢◌, ℕ, ◌<◌, ◌⊎◌, inl, inr, true, false, None, refl, sym, ap, ◌∙◌, subst, arith, set, list_all, entries_of, Answer, Call, Value, Inputs, Refusal, Rest, Outside, Account, how_many, is_outside_stage, moves_of, answers_of, marked_listed, stage_at, stage_after, Table, by_stage_or_past_at, rest_seen, outside_stage, End, Next, Place, IsMutex, IsStarved, starved, is_waiting, bit, holds, listed, IsCalled, Took, StandsBack, GaveWay, PollsAlone, is_counted, IsSolo, GivesWay, SoloPoll, Guarded, place_of, goes_with, answer_by, is_at_rest, Runs, World, is_starved, Stands, IsMutexTable, verdict, view_of, Kind, within, is_refusal}
 use Rattle.world_base.proofs.Rests.{still_outside}
 use Rattle.world_mutex.proofs.of_machine.solo_polls.Parts.{gave_way}
 use Rattle.world_mutex.proofs.of_machine.laws.Seen as sees
@@ -32,14 +32,14 @@ module _ (t : Table Guarded) (p : ℕ) where
         let before : list_all is_outside_stage t.stages ≡ true = sym (rest_seen (verdict t.machine) t.stages) ∙ resting in
         rest_seen (verdict u.machine) u.stages ∙ (ap (list_all is_outside_stage) is ∙ still_outside t.stages p (Outside Rest.Pending) refl before)
 
-    gives_seen : (e : End) → 0 < entries_of p t.machine.lock.entries → starved t.machine.lock < t.machine.lock.limit → GaveWay p t.machine.lock e u.machine.lock → StandsBack p t.machine.lock e u.machine.lock → Ended t p a u e → GivesWay (view_of t) p a (view_of u)
+    gives_seen : (e : End) → 0 < entries_of p t.machine.lock.entries → is_refusal a ≡ false → GaveWay p t.machine.lock e u.machine.lock → StandsBack p t.machine.lock e u.machine.lock → Ended t p a u e → GivesWay (view_of t) p a (view_of u)
     gives_seen End.Pending there below g back k = record {
       free = sees.none_held 0 u.machine.lock.places g.free;
       pending = k.answer;
       gave_way = gave_way p t.machine.lock u.machine.lock g there;
       rests = rests_seen (k.stages ∙ ap (λ b. set t.stages p (stage_after Rest.Holding (within Kind.LaterPoll Rest.Pending) b)) k.answer);
     }
-    gives_seen (End.Refused Refusal.Starved) there below g back k = absurd (omega (arith, back.2))
+    gives_seen (End.Refused Refusal.Starved) there below g back k = absurd (let is : is_refusal a ≡ true = ap is_refusal k.answer in cc (is, below))
     gives_seen _ there below g back k = absurd back
 
   module _ (i : Inputs) (tm : IsMutex t.machine.lock) (tf : IsMutexTable t) (solo : IsSolo (view_of t) p i) where
@@ -63,15 +63,25 @@ module _ (t : Table Guarded) (p : ℕ) where
     why_seen (inr none) = inr (sym (sees.how_many_counted t.machine.lock.places) ∙ none)
 
     module _ (u : Table Guarded) (a : Answer) (um : IsMutex u.machine.lock) (uf : IsMutexTable u) where
-      either_seen : (e : End) → Ended t p a u e → starved t.machine.lock < t.machine.lock.limit → Took p e u.machine.lock ⊎ GaveWay p t.machine.lock e u.machine.lock → Takes (view_of t) p a (view_of u) ⊎ GivesWay (view_of t) p a (view_of u)
+      either_seen : (e : End) → Ended t p a u e → is_refusal a ≡ false → Took p e u.machine.lock ⊎ GaveWay p t.machine.lock e u.machine.lock → Takes (view_of t) p a (view_of u) ⊎ GivesWay (view_of t) p a (view_of u)
       either_seen e k below (inl took) = inl (takes_seen u a um uf e took k)
       either_seen e k below (inr gave) = inr (gives_seen u a um uf e listed_here below gave gave.stands_back k)
+
+      -- who is refused met the limit, and isn't starved
+      refused_seen : (e : End) → Ended t p a u e → is_refusal a ≡ true → Took p e u.machine.lock ⊎ GaveWay p t.machine.lock e u.machine.lock → (how_many (view_of t).state.starved ≡ t.machine.lock.limit) × (is_starved (view_of t).state p ≡ false)
+      refused_seen e k is (inl took) = absurd (let never : is_refusal a ≡ false = ap is_refusal (takes_seen u a um uf e took k).ready in cc (is, never))
+      refused_seen e k is (inr gave) = (sees.how_many_counted t.machine.lock.places ∙ at_limit e k is gave.stands_back, starved_seen ∙ ap is_counted gave.unstarved_here) where
+        at_limit : (e : End) → Ended t p a u e → is_refusal a ≡ true → StandsBack p t.machine.lock e u.machine.lock → starved t.machine.lock ≡ t.machine.lock.limit
+        at_limit End.Pending k is back = absurd (let never : is_refusal a ≡ false = ap is_refusal k.answer in cc (is, never))
+        at_limit (End.Refused Refusal.Starved) k is back = back.2
+        at_limit _ k is back = absurd back
 
       pub ended_seen : (e : End) → PollsAlone true p e u.machine.lock t.machine.lock → Ended t p a u e → (view_of t).state.holder ≡ None → SoloPoll (view_of t) p a (view_of u)
       ended_seen e polls k free =
           let law = solo_polls t.machine.lock tm (sees.none_holds 0 t.machine.lock.places free) in
           record {
-            takes_or_gives_way = λ below. either_seen e k (rw sees.how_many_counted at below) (law.takes_or_gives_way p e u.machine.lock is_called polls);
+            takes_or_gives_way = λ below. either_seen e k below (law.takes_or_gives_way p e u.machine.lock is_called polls);
+            refused = λ is. refused_seen e k is (law.takes_or_gives_way p e u.machine.lock is_called polls);
             takes = λ why. takes_seen u a um uf e (law.takes true p e u.machine.lock is_called (why_seen why) polls) k;
           }
 

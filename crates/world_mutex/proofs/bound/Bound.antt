@@ -13,7 +13,7 @@ passed w p a v not_taken (inl takes) = absurd (not_taken takes.holder)
 passed w p a v not_taken (inr gives) = (gives.free, gives.gave_way)
 
 gives : (w : World) (p : ℕ) (inputs : Inputs) (a : Answer) (v : World) → IsFree w → PassesOver w p inputs a v → IsFree v × GaveWay p w.state.starved w.entries v.state.starved v.entries
-gives w p inputs a v free over = passed w p a v over.not_taken (((keeps_promise (accounts_of w) w p Call.Poll inputs over.whole.more a v over.whole.runs over.whole.ended).solo refl over.solo free).takes_or_gives_way over.limit)
+gives w p inputs a v free over = passed w p a v over.not_taken (((keeps_promise (accounts_of w) w p Call.Poll inputs over.whole.more a v over.whole.runs over.whole.ended).solo refl over.solo free).takes_or_gives_way over.unrefused)
 
 pub bounded : (w : World) → IsSound w → IsAwake w → IsFreeAndWanted w → IsBounded w
 bounded w sound awake wanted =

@@ -7,5 +7,6 @@ pub mod Promised
 pub mod Sights
 pub mod Asked
 pub mod Untold
+pub mod Long
 pub mod Clauses
 pub mod Told

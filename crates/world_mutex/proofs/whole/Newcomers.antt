@@ -1,5 +1,5 @@
 -- A first poll never takes the lock while somebody is starved: it is pending and its party starved at its end, or it is refused.
-use Rattle.world_mutex.proofs.Prelude.{◌≡◌, ◌≢◌, ℕ, ◌+◌, ◌<◌, ◌==◌, ◌&&◌, ◌⊎◌, inl, inr, if◌then◌else◌, Bool, true, false, Some, refl, other_test, arith, ap, sym, ◌∙◌, subst, get_or-set_same, true≢false, sum_by-set, set, sum_by, is_none, entries_of, Answer, Call, Value, Inputs, Move, What, Begin, Go, Rest, Inside, Forgotten, Within, Account, accounts_after, is_refusal, how_many, inputs_of, going_on, moves_of, answers_of, beginning, along, Onward, stage_at, stage_after, call_at, polls_again, Table, Acted, acted, End, Free, No, Next, Place, next_of, place_after, counted, listed, starved, Guarded, knows, place_of, Moves, answer_by, is_try_kind, is_first_poll, is_free, Runs, HoldsWell, World, standing_of, is_starved, Stands, Steps, view_of}
+use Rattle.world_mutex.proofs.Prelude.{◌≡◌, ◌≢◌, ℕ, ◌+◌, ◌<◌, ◌==◌, ◌&&◌, ◌⊎◌, inl, inr, if◌then◌else◌, Bool, true, false, Some, refl, other_test, arith, ap, sym, ◌∙◌, subst, get_or-set_same, true≢false, sum_by-set, set, sum_by, is_none, entries_of, Answer, Call, Value, Inputs, Move, What, Begin, Go, Rest, Inside, Forgotten, Within, Account, accounts_after, is_refusal, how_many, inputs_of, going_on, moves_of, answers_of, beginning, along, Onward, stage_at, stage_after, call_at, polls_again, Table, Acted, acted, End, Next, Place, next_of, place_after, counted, listed, starved, Guarded, knows, place_of, Moves, answer_by, is_try_kind, is_first_poll, is_free, Runs, HoldsWell, World, standing_of, is_starved, Stands, Steps, view_of}
 use Rattle.world_mutex.proofs.of_machine.laws.Seen as sees
 use Rattle.world_mutex.proofs.of_machine.legal.Untold.{NewAt, NewThen, goes}
 use Rattle.world_mutex.proofs.step.Acting.{Acting}

@@ -1,5 +1,7 @@
 -- What a step of a party's call does to a mutex.
 use Rattle.std.specs.Prelude.{◌≡◌, ◌≢◌, ℕ, ◌<◌, ◌⊎◌, ◌↔◌, Bool, true, false, List, length, Option, Some, None}
+use Rattle.std.specs.Prelude.{◌||◌}
+use Rattle.world_mutex.specs.machine.Course.{holds, is_long}
 use Rattle.lock_event.specs.declared.event.Entry.{Entry}
 use Rattle.lock_event.specs.declared.event.Mark.TheVariants.{Waiting}
 use Rattle.lock_event.specs.Lists.{mark_at, marked_count}
@@ -119,3 +121,24 @@ StaysUntold p beside (step.End Got) m = beside ≡ false
 StaysUntold p beside (step.End Pending) m = course_at m.courses p ≡ waiting beside
 StaysUntold p beside (step.End (Refused Starved)) m = beside ≡ true
 StaysUntold p beside (step.End e) m = Unit {0}
+
+-- Another party holds the lock, and this one's poll counts it as starved: it has waited for too long or some party is starved, and fewer are than may be, or it is counted already.
+pub record IsLong (starving : Bool) (p : ℕ) (m : Mutex) : Type 0 where
+  pub held : holders m ≡ 1
+  pub without_lock : holds (course_at m.courses p) ≡ 0
+  pub long : is_long (starving || is_some_starved m) (course_at m.courses p) ≡ true
+  pub below : counted (course_at m.courses p) ≡ 0 → starved m < m.limit
+
+-- What becomes of such a poll, if it finds memory: it ends waiting as one that is starved.
+abbrev pub StaysLong : Bool → ℕ → Step → Mutex → Type 0
+StaysLong starving p step.More m = IsLong starving p m
+StaysLong starving p (step.End Pending) m = course_at m.courses p ≡ waiting true
+StaysLong starving p (step.End e) m = ⊥
+
+-- So it begins, of a party that waits for the lock and was notified.
+pub record BeginsLong (starving : Bool) (p : ℕ) (m : Mutex) : Type 0 where
+  pub held : holders m ≡ 1
+  pub called : is_waiting (course_at m.courses p) ≡ true
+  pub marked : is_marked_at (is_party p) m.entries ≡ true
+  pub long : starving || is_some_starved m ≡ true
+  pub below : starved m < m.limit

@@ -86,6 +86,14 @@ is_untold beside (taking (gives_up refusal) starved listed told) = beside && not
 is_untold beside (taking has_lock starved listed told) = not beside && not starved
 is_untold beside _ = false
 
+-- While another holds the lock its poll counts it as starved, or has counted it: it was notified, where that is so; it is about to be counted; or it is counted.
+abbrev pub is_long : Bool → Course → Bool
+is_long long (waiting starved) = starved
+is_long long (taking called starved listed told) = long
+is_long long (taking counting starved listed told) = true
+is_long long (taking undecided starved listed told) = starved
+is_long long _ = false
+
 -- It notifies next: it gives way to a starved party, is refused, or has released the lock.
 abbrev pub may_tell : Course → Bool
 may_tell (taking counting starved listed told) = if listed then false else true

@@ -12,6 +12,11 @@ use Rattle.world_rwlock.proofs.laws.Sound.{nobody_holds, bit_seen}
 use Rattle.world_rwlock.proofs.step.Idle.{sought_is}
 use Rattle.world_rwlock.proofs.step.Owns as owns
 use Rattle.world_rwlock.proofs.table.Views as view
+use Rattle.world_base.specs.Frame.{is_refusal}
+use Rattle.world_mutex.specs.machine.Mutex.{is_counted}
+use Rattle.world_rwlock.specs.Bound.{MeetsReaders as Meets}
+use Rattle.world_rwlock.specs.State.{writes}
+use Rattle.world_rwlock.specs.machine.Solo.{MeetsReaders}
 
 -- ---- where a pending party stands that is listed
 
@@ -88,7 +93,7 @@ module _ (w v : World) (p : ℕ) (a : Answer) where
       let before : list_all is_outside_stage t.stages ≡ true = sym (rest_seen (verdicts t) t.stages) ∙ resting in
       rest_seen (verdicts u) u.stages ∙ (ap (list_all is_outside_stage) is ∙ still_outside t.stages p (Outside Rest.Pending) refl before)
 
-  gives_way_seen : (e : End) → IsRwLockTable w.behind → 0 < entries_of p w.behind.machine.lock.turn.entries → starved w.behind.machine.lock.turn < w.behind.machine.lock.turn.limit → GaveTurnWay p w.behind.machine.lock e v.behind.machine.lock → StandsBack p w.behind.machine.lock e v.behind.machine.lock → Ended w p a v e → GivesTurnWay (shown w) p a (shown v)
+  gives_way_seen : (e : End) → IsRwLockTable w.behind → 0 < entries_of p w.behind.machine.lock.turn.entries → is_refusal a ≡ false → GaveTurnWay p w.behind.machine.lock e v.behind.machine.lock → StandsBack p w.behind.machine.lock e v.behind.machine.lock → Ended w p a v e → GivesTurnWay (shown w) p a (shown v)
   gives_way_seen End.Pending tf there below g back k =
       let t = w.behind in
       let u = v.behind in
@@ -99,7 +104,7 @@ module _ (w v : World) (p : ℕ) (a : Answer) where
         readers = ap (map is_reading) (g.places ∙ (ap (set t.machine.lock.places p) back.1 ∙ set-get_or t.machine.lock.places p Place.Out));
         rests = rests_seen tf k.stands.fits k.stages;
       }
-  gives_way_seen (End.Refused Refusal.Starved) tf there below g back k = absurd (omega (arith, back.0.stands_back.2, below))
+  gives_way_seen (End.Refused Refusal.Starved) tf there below g back k = absurd (let is : is_refusal a ≡ true = ap is_refusal k.answer in cc (is, below))
   gives_way_seen _ tf there below g back k = absurd back
 
   reads_seen : (e : End) → Took p Place.Reading e v.behind.machine.lock → Ended w p a v e → TakesToRead (shown w) p a (shown v)
@@ -155,9 +160,34 @@ module _ (w : World) (p : ℕ) (i : Inputs) (laws : IsRwLock w.behind.machine.lo
         let none : readers t.machine.lock ≡ 0 = sym (view.how_many-read t.machine.lock.places) ∙ free in
         writes_seen w v p a e (law.writes none i.memory p e v.behind.machine.lock looks polls) k
 
-    either_seen : 0 < entries_of p t.machine.lock.turn.entries → starved t.machine.lock.turn < t.machine.lock.turn.limit → TookTurn p e v.behind.machine.lock ⊎ GaveTurnWay p t.machine.lock e v.behind.machine.lock → TakesTurn (shown w) p a (shown v) ⊎ GivesTurnWay (shown w) p a (shown v)
+    -- who met the readers' limit is refused
+    met_seen : MeetsReaders p t.machine.lock e → Meets (shown w) p
+    met_seen met = (sought_is t p ∙ ap sought_at met.wants, omega (arith, met.full, view.how_many-read t.machine.lock.places))
+
+    met_refused : MeetsReaders p t.machine.lock e → is_refusal a ≡ true
+    met_refused met = ap is_refusal (k.answer ∙ ap (λ z. answer_by t.machine.value (Next.End z k.to)) met.refused)
+
+    took_or_met : TookTurn p e v.behind.machine.lock ⊎ MeetsReaders p t.machine.lock e → TakesTurn (shown w) p a (shown v) ⊎ (Meets (shown w) p × (is_refusal a ≡ true))
+    took_or_met (inl took) = inl (takes_turn_seen w v p a e took k)
+    took_or_met (inr met) = inr (met_seen met, met_refused met)
+
+    either_seen : 0 < entries_of p t.machine.lock.turn.entries → is_refusal a ≡ false → TookTurn p e v.behind.machine.lock ⊎ (GaveTurnWay p t.machine.lock e v.behind.machine.lock ⊎ MeetsReaders p t.machine.lock e) → TakesTurn (shown w) p a (shown v) ⊎ GivesTurnWay (shown w) p a (shown v)
     either_seen some below (inl took) = inl (takes_turn_seen w v p a e took k)
-    either_seen some below (inr gave) = inr (gives_way_seen w v p a e tf some below gave gave.stands_back k)
+    either_seen some below (inr (inl gave)) = inr (gives_way_seen w v p a e tf some below gave gave.stands_back k)
+    either_seen some below (inr (inr met)) = absurd (let is = met_refused met in cc (is, below))
+
+    -- who is refused met the limit of the starved, and is none of them
+    refused_seen : is_refusal a ≡ true → TookTurn p e v.behind.machine.lock ⊎ (GaveTurnWay p t.machine.lock e v.behind.machine.lock ⊎ MeetsReaders p t.machine.lock e) → ((how_many (shown w).state.starved ≡ t.machine.lock.turn.limit) × (is_starved (shown w) p ≡ false)) ⊎ Meets (shown w) p
+    refused_seen is (inl took) = absurd (answered (takes_turn_seen w v p a e took k).answered) where
+      answered : ((a ≡ Answer.Ready (Value (shown v).state.value)) × (((shown v).state.turn ≡ is_upgradable p) ⊎ ((shown v).state.turn ≡ writes p))) ⊎ ((a ≡ Answer.Pending) × ((shown v).state.turn ≡ waits p)) → ⊥
+      answered (inl r) = let never : is_refusal a ≡ false = ap is_refusal r.0 in cc (is, never)
+      answered (inr r) = let never : is_refusal a ≡ false = ap is_refusal r.0 in cc (is, never)
+    refused_seen is (inr (inr met)) = inr (met_seen met)
+    refused_seen is (inr (inl gave)) = inl (by_end e k gave.stands_back) where
+      by_end : (e : End) → Ended w p a v e → StandsBack p t.machine.lock e v.behind.machine.lock → (how_many (shown w).state.starved ≡ t.machine.lock.turn.limit) × (is_starved (shown w) p ≡ false)
+      by_end End.Pending k back = absurd (let never : is_refusal a ≡ false = ap is_refusal k.answer in cc (is, never))
+      by_end (End.Refused Refusal.Starved) k back = (sees.how_many_counted t.machine.lock.turn.courses ∙ back.0.stands_back.2, sees.starved_at t.machine.lock.turn.courses p ∙ ap is_counted back.0.unstarved_here)
+      by_end _ k back = absurd back
 
     why_seen : (is_starved (shown w) p ≡ true) ⊎ (how_many (shown w).state.starved ≡ 0) → IsStarved t.machine.lock.turn p ⊎ (starved t.machine.lock.turn ≡ 0)
     why_seen (inl starving) = inl (sym (sees.counted_bit (turn_at t.machine.lock.turn.courses p)) ∙ ap bit (sym (sees.starved_at t.machine.lock.turn.courses p) ∙ starving))
@@ -167,34 +197,33 @@ module _ (w : World) (p : ℕ) (i : Inputs) (laws : IsRwLock w.behind.machine.lo
     record CalledThere : Type 0 where
       pub some : 0 < entries_of p t.machine.lock.turn.entries
       pub called : IsCalledToTurn t.machine.lock p
-      pub few : readers t.machine.lock < t.machine.lock.limit
       pub nobody_there : holders t.machine.lock.turn ≡ 0
 
-    called_there : is_marked_at (is_party p) t.machine.lock.turn.entries ≡ true → (shown w).state.turn ≡ nobody → how_many_read (shown w) < t.machine.lock.limit → CalledThere
-    called_there marked free below =
+    called_there : is_marked_at (is_party p) t.machine.lock.turn.entries ≡ true → (shown w).state.turn ≡ nobody → CalledThere
+    called_there marked free =
         let some : 0 < entries_of p t.machine.lock.turn.entries = marked_listed p t.machine.lock.turn.entries marked in
         let there : 0 < listed (turn_at t.machine.lock.turn.courses p) = omega (arith, laws.turn.owners p, some) in
         record {
           some = some;
           called = (in_turn_list (turn_at t.machine.lock.turn.courses p) (place_at t.machine.lock.places p) future (laws.in_turn p) there, marked);
-          few = rw view.how_many-read at below;
           nobody_there = sees.none_holds 0 t.machine.lock.turn.courses (nobody_holds (holder_of t.machine.lock.turn) t.machine.lock.places free);
         }
 
-    turn_polled : IsSoloForTurn (shown w) p i → (shown w).state.turn ≡ nobody → how_many_read (shown w) < t.machine.lock.limit → SoloPollForTurn (shown w) p a (shown v)
-    turn_polled solo free below =
-        let c = called_there solo.marked free below in
+    turn_polled : IsSoloForTurn (shown w) p i → (shown w).state.turn ≡ nobody → SoloPollForTurn (shown w) p a (shown v)
+    turn_polled solo free =
+        let c = called_there solo.marked free in
         let with_memory : PollsAlone true p e v.behind.machine.lock w.behind.machine.lock = subst (λ b. PollsAlone b p e v.behind.machine.lock w.behind.machine.lock) solo.memory polls in
         record {
-          takes_or_gives_way = λ under. either_seen c.some (rw sees.how_many_counted at under) (law.takes_turn_or_gives_way c.nobody_there c.few p e v.behind.machine.lock c.called with_memory);
-          takes = λ why. takes_turn_seen w v p a e (law.takes_turn c.nobody_there c.few true p e v.behind.machine.lock c.called (λ is_write some. refl) (why_seen why) with_memory) k;
+          takes_or_gives_way = λ under. either_seen c.some under (law.takes_turn_or_gives_way c.nobody_there p e v.behind.machine.lock c.called with_memory);
+          refused = λ is. refused_seen is (law.takes_turn_or_gives_way c.nobody_there p e v.behind.machine.lock c.called with_memory);
+          takes = λ why. took_or_met (law.takes_turn c.nobody_there true p e v.behind.machine.lock c.called (λ is_write some. refl) (why_seen why) with_memory);
         }
 
-    told_polled : IsToldOfTurn (shown w) p i → (shown w).state.turn ≡ nobody → how_many_read (shown w) < t.machine.lock.limit → (is_starved (shown w) p ≡ true) ⊎ (how_many (shown w).state.starved ≡ 0) → TakesTurn (shown w) p a (shown v)
+    told_polled : IsToldOfTurn (shown w) p i → (shown w).state.turn ≡ nobody → (Meets (shown w) p → ⊥) → (is_starved (shown w) p ≡ true) ⊎ (how_many (shown w).state.starved ≡ 0) → TakesTurn (shown w) p a (shown v)
     told_polled told free below why =
-        let c = called_there told.marked free below in
+        let c = called_there told.marked free in
         let enough : HasEnough i.memory t.machine.lock p = λ is_write some. told.memory (sought_is t p ∙ ap sought_at is_write) (omega (arith, some, view.how_many-read t.machine.lock.places)) in
-        takes_turn_seen w v p a e (law.takes_turn c.nobody_there c.few i.memory p e v.behind.machine.lock c.called enough (why_seen why) polls) k
+        elim (took_or_met (law.takes_turn c.nobody_there i.memory p e v.behind.machine.lock c.called enough (why_seen why) polls)) as (λ _. TakesTurn (shown w) p a (shown v)) [ inl took ↦ took | inr met ↦ absurd (below met.0) ]
 
 -- ---- a solo poll that was carried out alone keeps its promise
 
@@ -208,15 +237,15 @@ module _ (known : ℕ → Account) (w : World) (p : ℕ) (i : Inputs) (k : ℕ) 
       let last : v ≡ shown v = polls.2.stands.seen in
       subst (λ x. P x v) (sym stood.seen) (subst (P (shown w)) (sym last) (gives polls.0 polls.1 polls.2))
 
-  pub turn_seen_polled : IsSoloForTurn w p i → w.state.turn ≡ nobody → how_many_read w < w.readers_limit → SoloPollForTurn w p a v
-  turn_seen_polled solo free below =
-      let F : World → Type 0 = λ x. IsSoloForTurn x p i × (x.state.turn ≡ nobody) × (how_many_read x < x.readers_limit) in
-      let so : F (shown w) = subst F stood.seen (solo, free, below) in
-      as_seen (λ x y. SoloPollForTurn x p a y) solo.pending (λ e polls ended. turn_polled w p i stood.laws stood.fits so.0.pending v a e polls ended so.0 so.1 so.2)
+  pub turn_seen_polled : IsSoloForTurn w p i → w.state.turn ≡ nobody → SoloPollForTurn w p a v
+  turn_seen_polled solo free =
+      let F : World → Type 0 = λ x. IsSoloForTurn x p i × (x.state.turn ≡ nobody) in
+      let so : F (shown w) = subst F stood.seen (solo, free) in
+      as_seen (λ x y. SoloPollForTurn x p a y) solo.pending (λ e polls ended. turn_polled w p i stood.laws stood.fits so.0.pending v a e polls ended so.0 so.1)
 
-  pub told_seen_polled : IsToldOfTurn w p i → w.state.turn ≡ nobody → how_many_read w < w.readers_limit → (is_starved w p ≡ true) ⊎ (how_many w.state.starved ≡ 0) → TakesTurn w p a v
+  pub told_seen_polled : IsToldOfTurn w p i → w.state.turn ≡ nobody → (Meets w p → ⊥) → (is_starved w p ≡ true) ⊎ (how_many w.state.starved ≡ 0) → TakesTurn w p a v
   told_seen_polled told free below why =
-      let F : World → Type 0 = λ x. IsToldOfTurn x p i × (x.state.turn ≡ nobody) × (how_many_read x < x.readers_limit) × ((is_starved x p ≡ true) ⊎ (how_many x.state.starved ≡ 0)) in
+      let F : World → Type 0 = λ x. IsToldOfTurn x p i × (x.state.turn ≡ nobody) × (Meets x p → ⊥) × ((is_starved x p ≡ true) ⊎ (how_many x.state.starved ≡ 0)) in
       let so : F (shown w) = subst F stood.seen (told, free, below, why) in
       as_seen (λ x y. TakesTurn x p a y) told.pending (λ e polls ended. told_polled w p i stood.laws stood.fits so.0.pending v a e polls ended so.0 so.1 so.2 so.3)
 

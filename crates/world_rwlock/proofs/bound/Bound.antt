@@ -25,7 +25,7 @@ passed w p a v not_taken (inl takes) = absurd (not_taken takes.has_turn)
 passed w p a v not_taken (inr gives) = (gives.free, gives.gave_way)
 
 gives : (w : World) (p : ℕ) (inputs : Inputs) (a : Answer) (v : World) → IsFree w → PassesTurnOver w p inputs a v → IsFree v × GaveWay p w.state.starved w.turn_list v.state.starved v.turn_list
-gives w p inputs a v free over = passed w p a v over.not_taken (((kept w p inputs a v over.whole).turn refl over.solo free over.readers_limit).takes_or_gives_way over.starved_limit)
+gives w p inputs a v free over = passed w p a v over.not_taken (((kept w p inputs a v over.whole).turn refl over.solo free).takes_or_gives_way over.unrefused)
 
 pub turn_bounded : (w : World) → IsSound w → IsAwake w → IsTurnWanted w → IsTurnBounded w
 turn_bounded w sound awake wanted = record {

@@ -13,6 +13,7 @@ use Rattle.world_rwlock.proofs.whole.Newcomers.{newcomer, first_patient}
 use Rattle.world_rwlock.proofs.whole.Takers.{only_told}
 use Rattle.world_rwlock.proofs.whole.Ring.{tells_nobody_at_end}
 use Rattle.world_rwlock.proofs.bound.AloneSeen.{turn_seen_polled, told_seen_polled, reading_seen_polled, writing_seen_polled}
+use Rattle.world_rwlock.proofs.whole.Counted.{held}
 
 pub sound_now : (w : World) → Stands w → IsSound w
 sound_now w s = subst IsSound (sym s.seen) (sound w.behind s.laws s.fits)
@@ -59,5 +60,6 @@ keeps_promise known w p c i n a v runs ended =
       first_patient = λ first. first_patient known w p c i n a v stood stands runs ended first;
       newcomer = λ first. newcomer known w p c i n a v stood stands runs ended first;
       only_told = only_told known w p c i n a v stood stands runs ended;
+      held = λ is. held known w p i n a v stood stands (subst R is runs) ended;
       hands_on = hands_on known w p c i n a v stood runs ended;
     }

@@ -7,7 +7,7 @@ use Rattle.world_rwlock.proofs.table.Begun.{at_future}
 
 -- ---- where such a party stands, and its poll begins
 
-in_turn_list : (t : TurnCourse) (x : Place) → is_future x ≡ true → fits_turn x t ≡ true → 0 < listed t → (q : Purpose) × (x ≡ Place.WaitTurn q)
+pub in_turn_list : (t : TurnCourse) (x : Place) → is_future x ≡ true → fits_turn x t ≡ true → 0 < listed t → (q : Purpose) × (x ≡ Place.WaitTurn q)
 in_turn_list t = at_future (λ x. fits_turn x t ≡ true → 0 < listed t → (q : Purpose) × (x ≡ Place.WaitTurn q)) (record {
   made = λ w fits there. absurd (omega (arith, there, out_unlisted t fits));
   no_writer = λ fits there. absurd (omega (arith, there, out_unlisted t fits));
@@ -16,7 +16,7 @@ in_turn_list t = at_future (λ x. fits_turn x t ≡ true → 0 < listed t → (q
   upgrade = λ fits there. absurd (omega (arith, there, holding_unlisted t fits));
 })
 
-in_no_writer_list : (x : Place) → is_future x ≡ true → 0 < in_no_writer x → x ≡ Place.AskNoWriter
+pub in_no_writer_list : (x : Place) → is_future x ≡ true → 0 < in_no_writer x → x ≡ Place.AskNoWriter
 in_no_writer_list = at_future (λ x. 0 < in_no_writer x → x ≡ Place.AskNoWriter) (record {
   made = λ w there. absurd (omega (arith, there));
   no_writer = λ there. refl;

@@ -17,6 +17,9 @@ use Rattle.world_rwlock.proofs.step.Asked as asked
 use Rattle.world_rwlock.proofs.step.Refusing as refusing
 use Rattle.world_rwlock.proofs.step.Owed.{owes_outside}
 use Rattle.world_rwlock.proofs.step.Owing as owing
+use Rattle.world_base.specs.Frame.{is_drop}
+use Rattle.world_base.specs.Steps.{leaves, list_after}
+use Rattle.world_rwlock.proofs.step.Dropped as dropped
 
 -- ---- tests
 
@@ -232,8 +235,13 @@ record Refuses (old : World) (m : Move) (a : Answer) (new : World) : Type 0 wher
   pub for_turn : (within : Within) (r : ℕ) → standing_of old m.party ≡ inside within (Some (Answer.Refused r)) → is_for_turn (sought_by old m.party) ≡ true → (HasTurn old.state.turn m.party → ⊥) → entries_of m.party old.turn_list ≡ 0 → is_starved old m.party ≡ false → (a ≡ Answer.Refused r) × (new.turn_list ≡ notified old.turn_list 1)
   pub to_read : (within : Within) (r : ℕ) → standing_of old m.party ≡ inside within (Some (Answer.Refused r)) → sought_by old m.party ≡ Some read → entries_of m.party old.no_writer ≡ 0 → (a ≡ Answer.Refused r) × (new.no_writer ≡ notified old.no_writer 1)
 
-acted_at_once : (t u : Table Guarded) (m : Move) (a : Answer) (from : Place) → Acted t u m a from → Begins (view_of t) m from → Asking (λ w. w.turn_list) (view_of t) m a (view_of u) → Asking (λ w. w.no_writer) (view_of t) m a (view_of u) → InLists t u m from → Refuses (view_of t) m a (view_of u) → TellsOnRelease (view_of t) m a (view_of u) → AnswersAtOnce (view_of t) m a (view_of u)
-acted_at_once t u m a from y b for_turn to_read l refuses gives_up =
+-- what a drop does of a party that waits
+record Abandons (old : World) (m : Move) (a : Answer) (new : World) : Type 0 where
+  pub from_turn : is_drop m.what ≡ true → standing_of old m.party ≡ outside Rest.Pending → 0 < entries_of m.party old.turn_list → is_starved old m.party ≡ false → (a ≡ Answer.GivenBack) × (new.turn_list ≡ list_after m.party leaves old.turn_list)
+  pub from_reading : is_drop m.what ≡ true → standing_of old m.party ≡ outside Rest.Pending → 0 < entries_of m.party old.no_writer → (a ≡ Answer.GivenBack) × (new.no_writer ≡ list_after m.party leaves old.no_writer)
+
+acted_at_once : (t u : Table Guarded) (m : Move) (a : Answer) (from : Place) → Acted t u m a from → Begins (view_of t) m from → Asking (λ w. w.turn_list) (view_of t) m a (view_of u) → Asking (λ w. w.no_writer) (view_of t) m a (view_of u) → InLists t u m from → Abandons (view_of t) m a (view_of u) → Refuses (view_of t) m a (view_of u) → TellsOnRelease (view_of t) m a (view_of u) → AnswersAtOnce (view_of t) m a (view_of u)
+acted_at_once t u m a from y b for_turn to_read l abandons refuses gives_up =
     let P : Place → Type 0 = λ x. Acted t u m a x in
     record {
       try_read = λ i e h. at_try_read t u m a (subst P (b.try_read i e) y);
@@ -256,6 +264,8 @@ acted_at_once t u m a from y b for_turn to_read l refuses gives_up =
       first_write_looks = λ e n. turn_looks_at t u m Purpose.Write from (inl (b.first_write e n)) l;
       listed_for_turn = for_turn;
       listed_to_read = to_read;
+      abandons_turn = abandons.from_turn;
+      abandons_reading = abandons.from_reading;
       refuses_turn = λ within r at sought without none plain possible. refuses.for_turn within r at sought without none plain;
       refuses_read = λ within r at sought none possible. refuses.to_read within r at sought none;
       gives_up = gives_up;
@@ -317,6 +327,7 @@ module _ (t u : Table Guarded) (m : Move) (a : Answer) (w : Within) (c : Acting 
         decides = decided;
       }) begins (asked.for_turn t u m a w c) (asked.to_read t u m a w c)
       (record { found = c.acts.found; turn = c.acts.turn; no_writer = c.acts.no_writer; no_readers = c.acts.no_readers })
+      (record { from_turn = λ d pending. dropped.from_turn t u m a w c d pending; from_reading = λ d pending. dropped.from_reading t u m a w c d pending })
       (record { for_turn = refusing.for_turn t u m a w c; to_read = refusing.to_read t u m a w c })
       (owing.releases t u m a w c)
 
@@ -387,6 +398,8 @@ still_at_once t m a after k at holds same_turn same_readers same_owing =
       first_write_looks = λ e z. absurd (never_first write s (outside Rest.Holding) o m.what n is refl e);
       listed_for_turn = λ i polls pending. absurd (cc (sym is ∙ pending));
       listed_to_read = λ i polls pending. absurd (cc (sym is ∙ pending));
+      abandons_turn = λ d pending. absurd (cc (sym is ∙ pending));
+      abandons_reading = λ d pending. absurd (cc (sym is ∙ pending));
       refuses_turn = λ within r at sought without none plain b. absurd (outside_apart s Rest.Holding within (Some (Answer.Refused r)) is at);
       refuses_read = λ within r at sought none b. absurd (outside_apart s Rest.Holding within (Some (Answer.Refused r)) is at);
       gives_up = owing.keeps_owing (view_of t) m a after same_turn same_owing (λ r none. none_left (view_of t) m.party r (sym (ap how_many same_readers) ∙ none)) (λ list h possible. (let inside = owes_outside t list m.party k h in let out : is_outside s ≡ true = ap is_outside is in cc (inside, out)));
@@ -418,6 +431,13 @@ never_polls s o what i e p none =
     let S : Standing → Type 0 = λ z. call_in (knows o) z what ≡ None in
     some_none (subst N e (subst S p none))
 
+drop_possible : (o : Option Right) (what : What) → is_drop what ≡ true → call_in (knows o) (outside Rest.Pending) what ≡ None → ⊥
+drop_possible o (Begin Call.Drop i) h e = some_none e
+drop_possible o _ h e = cc h
+
+never_drops : (s : Standing) (o : Option Right) (what : What) → is_drop what ≡ true → s ≡ outside Rest.Pending → call_in (knows o) s what ≡ None → ⊥
+never_drops s o what d p none = let S : Standing → Type 0 = λ z. call_in (knows o) z what ≡ None in drop_possible o what d (subst S p none)
+
 pub impossible_at_once : (w : World) (m : Move) → call_of w m ≡ None → AnswersAtOnce w m Answer.NotPossible w
 impossible_at_once w m none =
     let s = standing_of w m.party in
@@ -444,6 +464,8 @@ impossible_at_once w m none =
       first_write_looks = λ e z. absurd (never_write s o m.what n e none);
       listed_for_turn = λ i polls pending. absurd (never_polls s o m.what i polls pending none);
       listed_to_read = λ i polls pending. absurd (never_polls s o m.what i polls pending none);
+      abandons_turn = λ d pending. absurd (never_drops s o m.what d pending none);
+      abandons_reading = λ d pending. absurd (never_drops s o m.what d pending none);
       refuses_turn = λ within r at sought without unlisted plain h. absurd (cc);
       refuses_read = λ within r at sought unlisted h. absurd (cc);
       gives_up = owing.keeps_owing w m Answer.NotPossible w refl refl (λ r left. none_left w m.party r left) (λ list h possible. cc possible);

@@ -1,5 +1,6 @@
 -- What each party has, by how it stands.
-use Rattle.world_rwlock.proofs.Prelude.{◌≡◌, ◌≢◌, ℕ, ◌≤◌, ◌⊎◌, inl, inr, Bool, true, false, List, Option, Some, None, refl, arith, ap, sym, subst, ◌∙◌, and_parts, Answer, Refusal, Kind, Rest, Stage, Outside, Inside, Forgotten, Within, Right, read, upgradable, write, inside, End as TurnEnd, TurnCourse, decision, is_out, is_holding, holds, listed, turn_at, is_holder, is_counted, holder_of, out_unlisted, holding_unlisted, out_free, out_unstarved, holding_unstarved, waiting_free, Ending, Place, has_turn, in_no_writer, in_no_readers, fits_turn, RwLock, place_at, IsRwLock, is_upgradable, waits_to_write, World, standing_of, sought_by, is_upgrader, HasTurn, IsClear, HasSought, HasNothing, HasItsOwn, stage_at, Course, drops, downgrades, course_of, course_until, is_on_course, sought_at, is_inside, goes_with, verdict_of, Share, passing, upgrading, waiting, writing, turn_as, share_of, turn_by, is_reading, is_upgrade, verdict, verdict_until, refused_by, standing_at, seen, standings_at, inside_or_past}
+use Rattle.world_rwlock.proofs.Prelude.{◌≡◌, ◌≢◌, ℕ, ◌≤◌, ◌⊎◌, inl, inr, Bool, true, false, List, Option, Some, None, refl, arith, ap, sym, subst, ◌∙◌, and_parts, Answer, Refusal, Kind, Rest, Stage, Outside, Inside, Forgotten, Within, Right, read, upgradable, write, inside, End as TurnEnd, TurnCourse, decision, is_out, is_holding, holds, listed, turn_at, is_holder, is_counted, holder_of, out_unlisted, holding_unlisted, out_free, out_unstarved, holding_unstarved, waiting_free, Ending, Place, has_turn, in_no_writer, in_no_readers, fits_turn, RwLock, place_at, IsRwLock, is_upgradable, waits_to_write, World, standing_of, sought_by, is_upgrader, HasTurn, IsClear, HasSought, HasNothing, HasItsOwn, stage_at, Course, drops, downgrades, course_of, course_until, is_on_course, sought_at, is_inside, goes_with, verdict_of, Share, passing, upgrading, waiting, writing, turn_as, share_of, turn_by, is_reading, is_upgrade, verdict, verdict_until, refused_by, standing_at, seen, standings_at, inside_or_past, nat_tests}
+use Rattle.world_mutex.specs.machine.Course.{counted, is_waiting}
 use Rattle.world_mutex.proofs.of_machine.callers.Holders as sees
 use Rattle.world_rwlock.specs.State as state
 use Rattle.world_rwlock.specs.State.{Turn, writes}
@@ -7,6 +8,7 @@ use Rattle.world_rwlock.specs.Stages as plans
 use Rattle.world_rwlock.proofs.table.Begun.{at_out, at_future, at_guard}
 use Rattle.world_rwlock.proofs.table.Views as view
 use Rattle.world_rwlock.proofs.table.Views.{Fits}
+use Rattle.world_mutex.specs.machine.Course as course
 
 -- ---- the turn
 
@@ -48,6 +50,66 @@ waits_as t p passing e h = absurd (cc)
 waits_as t p upgrading e h = absurd (cc)
 waits_as t p waiting e h = refl
 waits_as t p writing e h = absurd (cc)
+
+-- ---- whoever gives back isn't starved, unless it stands in the turn's list
+
+is_plain : (t : TurnCourse) → counted t ≡ 0 → is_counted t ≡ false
+is_plain t h = grind (arith, nat_tests)
+
+waiting_one : (t : TurnCourse) → is_waiting t ≡ true → listed t ≡ 0 → ⊥
+waiting_one (course.waiting b) h n = omega (arith, n)
+waiting_one _ h n = cc h
+
+cancelling_one : (t : TurnCourse) → course.is_cancelling t ≡ true → listed t ≡ 0 → ⊥
+cancelling_one (course.cancelling b) h n = omega (arith, n)
+cancelling_one _ h n = cc h
+
+holding_plain : (t : TurnCourse) → is_holding t ≡ true → counted t ≡ 0
+holding_plain course.holding h = refl
+holding_plain _ h = absurd (cc h)
+
+releasing_plain : (t : TurnCourse) → course.is_releasing t ≡ true → counted t ≡ 0
+releasing_plain course.releasing h = refl
+releasing_plain _ h = absurd (cc h)
+
+out_plain : (t : TurnCourse) → is_out t ≡ true → counted t ≡ 0
+out_plain course.out h = refl
+out_plain _ h = absurd (cc h)
+
+refused_not_given : (o : Option TurnEnd) → refused_by o ≡ Some Answer.GivenBack → ⊥
+refused_not_given None e = cc e
+refused_not_given (Some (TurnEnd.Refused r)) e = cc e
+refused_not_given (Some _) e = cc e
+
+given_back_plain : (v : ℕ) (x : Place) (t : TurnCourse) → fits_turn x t ≡ true → verdict v x t ≡ Some Answer.GivenBack → listed t ≡ 0 → counted t ≡ 0
+given_back_plain v (Place.WaitTurn q) t h e n = absurd (waiting_one t h n)
+given_back_plain v (Place.TakeTurn q) t h e n = absurd (refused_not_given (decision t) e)
+given_back_plain v Place.CancelTurn t h e n = absurd (waiting_one t h n)
+given_back_plain v Place.CancellingTurn t h e n = absurd (cancelling_one t h n)
+given_back_plain v (Place.ReleasingTurn e') t h e n = releasing_plain t h
+given_back_plain v (Place.Add trying) t h e n = holding_plain t h
+given_back_plain v Place.Upgradable t h e n = holding_plain t h
+given_back_plain v Place.TryUpgrade t h e n = holding_plain t h
+given_back_plain v Place.Upgrade t h e n = holding_plain t h
+given_back_plain v Place.Mark t h e n = holding_plain t h
+given_back_plain v Place.TryWrite t h e n = holding_plain t h
+given_back_plain v (Place.JoinNoReaders u) t h e n = holding_plain t h
+given_back_plain v (Place.LookNoReaders u) t h e n = holding_plain t h
+given_back_plain v (Place.AskNoReaders u) t h e n = holding_plain t h
+given_back_plain v (Place.AwaitNoReaders u) t h e n = holding_plain t h
+given_back_plain v (Place.LookUnlisted u) t h e n = holding_plain t h
+given_back_plain v Place.LeaveNoReaders t h e n = holding_plain t h
+given_back_plain v Place.Writing t h e n = holding_plain t h
+given_back_plain v Place.DropUpgradable t h e n = holding_plain t h
+given_back_plain v Place.DropUpgradableNotify t h e n = holding_plain t h
+given_back_plain v Place.DropWrite t h e n = holding_plain t h
+given_back_plain v Place.CancelAwait t h e n = holding_plain t h
+given_back_plain v (Place.Unmark r) t h e n = holding_plain t h
+given_back_plain v (Place.UnmarkNotify r) t h e n = holding_plain t h
+given_back_plain v (Place.Down k) t h e n = holding_plain t h
+given_back_plain v Place.DownNotify t h e n = holding_plain t h
+given_back_plain v (Place.ReleaseTurn d) t h e n = holding_plain t h
+given_back_plain v _ t h e n = out_plain t h
 
 -- a guard that is downgraded reads
 downgraded_until : (e : Ending) → course_until e ≡ downgrades → is_reading (Place.ReleaseTurn e) ≡ true
@@ -311,6 +373,7 @@ module _ (l : RwLock) (ss : List Stage) (opening : ℕ) (v : ℕ) (laws : IsRwLo
         let has = undecided_has q x at (undecided x (turn_at l.turn.courses q) here e) in
         let so = decided_so v x (turn_at l.turn.courses q) here e in
         (has.0, has.1, has.2, has.3, (λ d. so.0 (drop_course u.kind u.was (course_of x) on_course d)), (λ d. so.1 (downgrade_course u.kind u.was (course_of x) on_course d)))
+    inside_has (Some Answer.GivenBack) e = ((λ d. reads_at q x at ∙ downgraded_reads x here (downgrade_course u.kind u.was (course_of x) on_course d)), (λ none. (let plain = given_back_plain v x (turn_at l.turn.courses q) (let F : Place → Type 0 = λ y. fits_turn y (turn_at l.turn.courses q) ≡ true in subst F at (laws.in_turn q)) e (sym (laws.turn.owners q) ∙ none) in sees.starved_at l.turn.courses q ∙ is_plain (turn_at l.turn.courses q) plain)))
     inside_has (Some b) e = λ d. reads_at q x at ∙ downgraded_reads x here (downgrade_course u.kind u.was (course_of x) on_course d)
   has q Forgotten x at g = tt
 

@@ -1,5 +1,5 @@
 -- Beside starved parties a first poll waits for the turn as one of them, or is refused; where there are none it isn't counted, nor refused for their number.
-use Rattle.world_rwlock.proofs.Prelude.{◌≡◌, ◌≢◌, ℕ, ◌<◌, ◌==◌, ◌⊎◌, inl, inr, Bool, true, false, Option, Some, None, refl, arith, ap, sym, ◌∙◌, subst, nat_tests, get_or-set_same, set, false≢true, true≢false, Account, accounts_after, Answer, Call, Inputs, What, Begin, Go, Refusal, Rest, Inside, Forgotten, Within, how_many, Move, Standing, outside, inputs_of, refused, put_in, is_poll_after_ready, none_some, going_on, moves_of, answers_of, some_eq, beginning, along, Onward, Right, upgradable, write, TurnCourse, is_counting, is_taking, counted, starved, Mutex, turn_at, End as TurnEnd, TurnStep, Takes, Found, Place, Purpose, LockCall, Action, action_of, next_of, place_after, after_lock, with_turn, OnTurn, place_at, fits_turn, stage_at, stage_after, call_at, polls_again, Runs, HoldsWell, call_of, knows, knows_of, World, standing_of, is_starved, is_first, is_first_poll, sought_by, entries_in, is_upgrader, Stands, Moved, knows_at, answer_by, view_of}
+use Rattle.world_rwlock.proofs.Prelude.{◌≡◌, ◌≢◌, ℕ, ◌<◌, ◌==◌, ◌⊎◌, inl, inr, Bool, true, false, Option, Some, None, refl, arith, ap, sym, ◌∙◌, subst, nat_tests, get_or-set_same, false≢true, true≢false, Account, accounts_after, Answer, Call, Inputs, What, Begin, Go, Refusal, Rest, Inside, Forgotten, Within, how_many, Move, Standing, outside, inputs_of, refused, put_in, is_poll_after_ready, none_some, going_on, moves_of, answers_of, some_eq, beginning, along, Onward, Right, upgradable, write, TurnCourse, is_counting, is_taking, counted, starved, Mutex, turn_at, End as TurnEnd, TurnStep, Takes, Found, Place, Purpose, LockCall, Action, action_of, next_of, place_after, after_lock, with_turn, OnTurn, place_at, fits_turn, stage_at, stage_after, call_at, polls_again, Runs, HoldsWell, call_of, knows_of, World, standing_of, is_starved, is_first, is_first_poll, sought_by, entries_in, is_upgrader, Stands, Moved, knows_at, answer_by, view_of}
 use Rattle.std.specs.Prelude.{nat_lt}
 use Rattle.world_base.specs.Frame.{is_refusal}
 use Rattle.world_base.proofs.of_any_world.Unsaid.{unsaid}

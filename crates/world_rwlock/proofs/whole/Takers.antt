@@ -1,5 +1,5 @@
 -- Beside a starved party no call takes the turn but a poll for which its party was notified.
-use Rattle.world_rwlock.proofs.Prelude.{◌≡◌, ◌≢◌, ℕ, ◌<◌, ◌⊎◌, inl, inr, Bool, true, false, Some, None, refl, arith, ap, sym, ◌∙◌, subst, nat_tests, cases_Bool, get_or-set_same, set, if◌then◌else◌, false≢true, true≢false, is_marked_at, is_party, Account, accounts_after, Answer, Call, Inputs, What, Begin, Go, Refusal, Rest, Stage, Outside, Inside, Forgotten, Within, how_many, Move, outside, inputs_of, refused, going_on, moves_of, answers_of, some_eq, none_some, beginning, along, Onward, TurnCourse, is_out, is_taking, holds, is_holder, listed, starved, Mutex, turn_at, holder_of, out_free, waiting_free, waiting_listed, releasing_free, End as TurnEnd, TurnStep, Takes, Tries, Releases, Cancels, Found, Place, Purpose, Wanted, LockCall, Action, action_of, next_of, place_after, after_lock, first_poll, start_of, OnTurn, place_at, fits_turn, stage_at, call_at, goes_with, Runs, HoldsWell, World, standing_of, standing_at, HasTurn, Stands, Moved, answer_by, view_of}
+use Rattle.world_rwlock.proofs.Prelude.{◌≡◌, ◌≢◌, ℕ, ◌<◌, ◌⊎◌, inl, inr, Bool, true, false, Some, refl, arith, ap, sym, ◌∙◌, subst, nat_tests, cases_Bool, get_or-set_same, if◌then◌else◌, false≢true, true≢false, is_marked_at, is_party, Account, accounts_after, Answer, Call, Inputs, What, Begin, Go, Refusal, Rest, Stage, Outside, Inside, Forgotten, Within, how_many, Move, outside, inputs_of, refused, going_on, moves_of, answers_of, some_eq, none_some, beginning, along, Onward, TurnCourse, is_out, is_taking, holds, is_holder, starved, Mutex, turn_at, holder_of, out_free, waiting_free, waiting_listed, releasing_free, End as TurnEnd, TurnStep, Takes, Tries, Releases, Cancels, Found, Place, Purpose, Wanted, LockCall, Action, action_of, next_of, place_after, after_lock, first_poll, start_of, OnTurn, place_at, fits_turn, stage_at, call_at, goes_with, Runs, HoldsWell, World, standing_of, standing_at, HasTurn, Stands, Moved, answer_by, view_of}
 use Rattle.std.specs.Prelude.{nat_lt}
 use Rattle.world_mutex.specs.machine.Course as course
 use Rattle.world_mutex.specs.machine.Conduct.{is_some_starved, IsUntold, StaysUntold}

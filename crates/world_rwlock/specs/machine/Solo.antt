@@ -1,13 +1,13 @@
 -- Polls that are carried out alone, each from its first action to its end before another party moves.
-use Rattle.std.specs.Prelude.{◌≡◌, ℕ, ◌<◌, ◌⊎◌, Bool, true, false, length, slice_set, IsSomeAnd}
+use Rattle.std.specs.Prelude.{◌≡◌, ℕ, ◌<◌, ◌≤◌, ◌⊎◌, Bool, true, false, length, slice_set, IsSomeAnd}
 use Rattle.lock_event.specs.Lists.{is_marked_at}
 use Rattle.world_base.specs.queue.Parties.{is_party}
 use Rattle.world_base.specs.declared.moves.Call.TheVariants as call
-use Rattle.lock_program.specs.declared.refusal.Refusal.TheVariants.{Starved}
+use Rattle.lock_program.specs.declared.refusal.Refusal.TheVariants.{Readers, Starved}
 use Rattle.lock_program.specs.declared.end.End.TheVariants as turn_end
 use Rattle.world_mutex.specs.machine.Mutex.{IsStarved, holders, starved}
 use Rattle.world_mutex.specs.machine.Alone.{GaveWay}
-use Rattle.lock_program.specs.declared.rwlock.Purpose.TheVariants.{Write}
+use Rattle.lock_program.specs.declared.rwlock.Purpose.TheVariants.{Write, UpgradableRead}
 use Rattle.lock_program.specs.declared.rwlock.Place.{Place}
 use Rattle.lock_program.specs.declared.rwlock.Place.TheVariants.{Made, Reading, Upgradable, Writing, AskNoWriter, WaitTurn, AwaitNoReaders, LookUnlisted}
 use Rattle.lock_program.specs.declared.rwlock.Action.{Action}
@@ -95,16 +95,22 @@ pub record GaveTurnWay (p : ℕ) (old : RwLock) (e : End) (new : RwLock) : Type 
 abbrev pub HasEnough : Bool → RwLock → ℕ → Type 0
 HasEnough memory v p = place_at v.places p ≡ WaitTurn Write → 0 < readers v → memory ≡ true
 
+-- The poll was refused: its party took the turn to read upgradably, and as many read as may.
+pub record MeetsReaders (p : ℕ) (v : RwLock) (e : End) : Type 0 where
+  pub wants : place_at v.places p ≡ WaitTurn UpgradableRead
+  pub full : v.limit ≤ readers v
+  pub refused : e ≡ Refused Readers
+
 -- What polls that are carried out alone do to a lock that is free for them.
 pub record SoloPolls (v : RwLock) : Type 0 where
   -- Where the bit is clear and readers are below their limit, such a poll of a notified reader reads.
   pub reads : marked v ≡ 0 → readers v < v.limit → (memory : Bool) (p : ℕ) (e : End) (new : RwLock) → IsCalledToRead v p → PollsAlone memory p e new v → Took p Reading e new
   -- Where no reader is left, such a poll of a party that looks for them writes, notified or not, in the list or not.
   pub writes : readers v ≡ 0 → (memory : Bool) (p : ℕ) (e : End) (new : RwLock) → looks_for_readers (place_at v.places p) ≡ true → PollsAlone memory p e new v → Took p Writing e new
-  -- Where nobody has the turn and readers are below their limit, such a poll of a party that was notified for the turn takes it or gives way if it finds memory,
-  pub takes_turn_or_gives_way : holders v.turn ≡ 0 → readers v < v.limit → (p : ℕ) (e : End) (new : RwLock) → IsCalledToTurn v p → PollsAlone true p e new v → TookTurn p e new ⊎ GaveTurnWay p v e new
-  -- and takes it if its party is starved, or if nobody is, and it has memory enough.
-  pub takes_turn : holders v.turn ≡ 0 → readers v < v.limit → (memory : Bool) (p : ℕ) (e : End) (new : RwLock) → IsCalledToTurn v p → HasEnough memory v p → IsStarved v.turn p ⊎ (starved v.turn ≡ 0) → PollsAlone memory p e new v → TookTurn p e new
+  -- Where nobody has the turn, such a poll of a party that was notified for it takes it, gives way, or meets the readers' limit, if it finds memory,
+  pub takes_turn_or_gives_way : holders v.turn ≡ 0 → (p : ℕ) (e : End) (new : RwLock) → IsCalledToTurn v p → PollsAlone true p e new v → TookTurn p e new ⊎ (GaveTurnWay p v e new ⊎ MeetsReaders p v e)
+  -- and doesn't give way if its party is starved, or if nobody is, and it has memory enough.
+  pub takes_turn : holders v.turn ≡ 0 → (memory : Bool) (p : ℕ) (e : End) (new : RwLock) → IsCalledToTurn v p → HasEnough memory v p → IsStarved v.turn p ⊎ (starved v.turn ≡ 0) → PollsAlone memory p e new v → TookTurn p e new ⊎ MeetsReaders p v e
   -- At rest, where somebody waits in a list for something free, some party there has been notified.
   pub some_reader_called : IsAtRest v → marked v ≡ 0 → 0 < length v.no_writer → (p : ℕ) × IsCalledToRead v p
   pub some_writer_called : IsAtRest v → readers v ≡ 0 → 0 < length v.no_readers → (p : ℕ) × IsCalledToWrite v p

@@ -312,3 +312,9 @@ returns-clause-overtakes_starved c = λ r. elim (r.kept.newcomer r.first r.some_
 
 pub returns-clause-two_told_of_lock : goal.returns-clause-two_told_of_lock
 returns-clause-two_told_of_lock c = λ r. (let one = r.sound.one_told in absurd (omega (arith, one, r.two)))
+
+pub returns-clause-never_starved : goal.returns-clause-never_starved
+returns-clause-never_starved c = λ r. true≢false (sym (r.kept.held r.polls r.solo (inl r.long) r.room r.held) ∙ r.patient)
+
+pub returns-clause-drop_dawdles : goal.returns-clause-drop_dawdles
+returns-clause-drop_dawdles c = λ r. (let ended = (r.legal.abandons r.drops r.pending r.listed r.unstarved).0 in absurd (cc (ended, r.goes_on)))

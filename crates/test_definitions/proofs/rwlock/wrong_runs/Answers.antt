@@ -32,6 +32,8 @@ use Rattle.world_rwlock.specs.Changes.{IsAllowed}
 use Rattle.world_rwlock.specs.State.{is_starved, is_for_turn, for_the_turn, for_no_readers, for_no_writer, has_to_tell}
 use Rattle.std.proofs.lemmas.List.{get_or-set_other}
 use Rattle.lock_event.specs.Lists.{marked_count}
+use Rattle.world_base.specs.declared.standing.Kind.TheVariants as kind
+use Rattle.world_rwlock.specs.State.{reads}
 
 none_possible : (a : Answer) → a ≡ answer.None → is_possible a ≡ true
 none_possible a e = ap is_possible e
@@ -169,10 +171,15 @@ returns-clause-drops_undecided c = λ r.
     let own = own_as r.step.new r.step.move.party (inside r.within None) r.undecided (r.legal.leaves_clear.each r.step.move.party) in
     own.4 r.kind
 
+-- whoever is downgraded reads, whatever it is to be answered
+reads_then : (w : World) (p : ℕ) (within : Within) (a : Answer) → HasItsOwn w p (inside within (Some a)) → within.kind ≡ kind.Downgrade → reads w p ≡ true
+reads_then w p within answer.GivenBack own d = own.0 d
+reads_then w p within _ own d = own d
+
 pub returns-clause-downgrades_through_nothing : goal.returns-clause-downgrades_through_nothing
 returns-clause-downgrades_through_nothing c = λ r.
     let own = own_as r.step.new r.step.move.party (inside r.within (Some r.to_come)) r.downgrades (r.legal.leaves_clear.each r.step.move.party) in
-    true≢false (sym (own r.kind) ∙ r.reads_not)
+    true≢false (sym (reads_then r.step.new r.step.move.party r.within r.to_come own r.kind) ∙ r.reads_not)
 
 not_upgrade : (w : World) (p : ℕ) (k : Rest) → (k ≢ Pending) → HasItsOwn w p (outside k) → is_upgrader w p ≡ false
 not_upgrade w p Idle n own = own.2
@@ -250,7 +257,7 @@ pub returns-clause-meets_starved_with_turn : goal.returns-clause-meets_starved_w
 returns-clause-meets_starved_with_turn c = λ r. starved_without (sought_by r.step.new r.step.move.party) r.step.old r.step.move.party (starved_met r.step r.legal r.refused) r.has_turn
 
 pub returns-clause-passes_turn_in_vain : goal.returns-clause-passes_turn_in_vain
-returns-clause-passes_turn_in_vain c = λ r. r.not_taken (((r.kept.turn r.polls r.solo r.free r.below).takes (inr r.unstarved)).has_turn)
+returns-clause-passes_turn_in_vain c = λ r. elim ((r.kept.turn r.polls r.solo r.free).takes (inr r.unstarved)) as (λ _. ⊥) [ inl took ↦ r.not_taken took.has_turn | inr met ↦ (let most = met.0.1 in omega (arith, most, r.below)) ]
 
 may_read_parts : (w : World) → may_read w ≡ true → (is_marked w.state.turn ≡ false) × (how_many_read w < w.readers_limit)
 may_read_parts w h = let both = and_parts (not (is_marked w.state.turn)) (nat_lt (how_many_read w) w.readers_limit) h in (unmarked (is_marked w.state.turn) both.0, grind (arith, nat_tests, both.1)) where
@@ -438,7 +445,7 @@ returns-clause-refused_to_write_unneeded c = λ r. let ready = (r.kept.writing r
 pub returns-clause-refused_turn_unneeded : goal.returns-clause-refused_turn_unneeded
 returns-clause-refused_turn_unneeded c = λ r.
     let told : IsToldOfTurn r.whole.old r.whole.party r.whole.inputs = record { pending = r.was_pending; marked = r.marked; memory = λ is_write some. absurd (omega (arith, some, r.none_read)) } in
-    elim (r.kept.told r.polls told r.free (omega (arith, r.below, r.none_read)) (inr r.none_starved)).answered as (λ _. ⊥) [
+    elim (r.kept.told r.polls told r.free (λ met. (let most = met.1 in omega (arith, r.below, r.none_read, most))) (inr r.none_starved)).answered as (λ _. ⊥) [
       | inl ready ↦ (let is = ready.0 in cc (r.is_refused))
       | inr waits ↦ (let is = waits.0 in cc (r.is_refused))
     ]
@@ -496,3 +503,21 @@ returns-clause-two_told c = λ r. (let one = r.sound.one_told r.list in absurd (
 
 pub returns-clause-overtaken_twice : goal.returns-clause-overtaken_twice
 returns-clause-overtaken_twice c = λ r. (let few = r.seldom r.party r.calls 2 r.new r.overtaken in absurd (omega (arith, few, r.one_before)))
+
+pub returns-clause-never_starved : goal.returns-clause-never_starved
+returns-clause-never_starved c = λ r. true≢false (sym (r.kept.held r.polls r.solo (inl r.long) r.room r.taken) ∙ r.patient)
+
+own_there : (w : World) (p : ℕ) (s : Standing) → standing_of w p ≡ s → HasItsOwn w p (standing_of w p) → HasItsOwn w p s
+own_there w p s e own = subst (HasItsOwn w p) e own
+
+pub returns-clause-leaves_counted : goal.returns-clause-leaves_counted
+returns-clause-leaves_counted c = λ r. true≢false (sym r.starved ∙ (own_there r.step.new r.party _ r.gives_back (r.legal.leaves_clear.each r.party)).1 r.unlisted)
+
+pub returns-clause-drop_dawdles : goal.returns-clause-drop_dawdles
+returns-clause-drop_dawdles c = λ r. (let ended = (r.legal.abandons_turn r.drops r.pending r.listed r.unstarved).0 in absurd (cc (ended, r.goes_on)))
+
+pub returns-clause-readers_drop_dawdles : goal.returns-clause-readers_drop_dawdles
+returns-clause-readers_drop_dawdles c = λ r. (let ended = (r.legal.abandons_reading r.drops r.pending r.listed).0 in absurd (cc (ended, r.goes_on)))
+
+pub returns-clause-write_passes_over : goal.returns-clause-write_passes_over
+returns-clause-write_passes_over c = λ r. elim ((r.kept.turn r.polls r.solo r.free).takes (inl r.starved)) as (λ _. ⊥) [ inl took ↦ r.without took.has_turn | inr met ↦ (let same : Some write ≡ Some upgradable = sym r.writes ∙ met.0.0 in cc same) ]

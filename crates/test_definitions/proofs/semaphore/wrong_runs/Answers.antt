@@ -1,5 +1,5 @@
 -- No wrong run of a semaphore is legal.
-use Rattle.std.proofs.Common.{◌≡◌, ℕ, ◌+◌, ◌-◌, ◌<◌, ◌||◌, if◌then◌else◌, inl, inr, Bool, true, false, List, Option, Some, None, is_some, refl, arith, ap, sym, ◌∙◌, subst}
+use Rattle.std.proofs.Common.{◌≡◌, ℕ, ◌+◌, ◌-◌, ◌||◌, if◌then◌else◌, inl, inr, Bool, true, false, List, is_some, refl, arith, ap, sym, ◌∙◌, subst}
 use Rattle.std.proofs.lemmas.Bool.{false≢true, true≢false}
 use Rattle.lock_event.specs.declared.event.Entry.{Entry}
 use Rattle.lock_event.specs.Lists.{marked_count}
@@ -10,9 +10,9 @@ use Rattle.world_base.specs.declared.moves.Inputs.{Inputs}
 use Rattle.world_base.specs.declared.moves.Move.{Move}
 use Rattle.world_base.specs.declared.moves.What.TheVariants.{Go}
 use Rattle.world_base.specs.Frame.{is_drop}
-use Rattle.world_base.specs.Standings.{Standing, inside, is_decided, is_possible}
+use Rattle.world_base.specs.Standings.{Standing, is_decided, is_possible}
 use Rattle.world_base.proofs.Equations.{none_some}
-use Rattle.world_semaphore.specs.machine.Seats.{Share, a_look, a_fit}
+use Rattle.world_semaphore.specs.machine.Seats.{Share}
 use Rattle.world_semaphore.specs.machine.Deeds.{Deed, nothing, changes, does, fits, takes, gives_back, forgets, raises, gives}
 use Rattle.world_semaphore.specs.State.{State, World, has_permits, standing_of, size_of}
 use Rattle.world_semaphore.specs.AtOnce.{is_try}

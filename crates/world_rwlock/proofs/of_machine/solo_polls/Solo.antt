@@ -201,8 +201,8 @@ pub solo_polls : (v : RwLock) → IsRwLock v → SoloPolls v
 solo_polls v laws = record {
   reads = λ free below memory p e new called polls. reader_polls memory p e new v free below called.0 called.1 polls;
   writes = λ none memory p e new looks polls. writer_polls memory p e new v none looks polls;
-  takes_turn_or_gives_way = λ free below p e new called polls. either true p e new v laws free below called refl polls;
-  takes_turn = λ free below memory p e new called enough why polls. must_take memory p e new v laws free below called enough why polls;
+  takes_turn_or_gives_way = λ free p e new called polls. either true p e new v laws free called refl polls;
+  takes_turn = λ free memory p e new called enough why polls. must_take memory p e new v laws free called enough why polls;
   some_reader_called = λ rest free some.
       let found = first_marked v.no_writer laws.in_order_no_writer (laws.wakes_no_writer rest free some) in
       let there : 0 < in_no_writer (place_at v.places found.0) = omega (arith, laws.owners_no_writer found.0, found.2) in

@@ -1,9 +1,10 @@
 -- Where a poll leads that is carried out alone by a party that waits for the turn, while nobody has it.
-use Rattle.world_rwlock.proofs.Prelude.{◌≡◌, ℕ, ◌<◌, ◌⊎◌, zero, suc, inl, inr, Bool, true, false, List, [], ◌∷◌, length, refl, sym, ap, arith, subst, ◌∙◌, get_or-set_same, length-set, set-set, set, sum_by, sum_by-set, LockCall, TurnStep, End as TurnEnd, Mutex, IsStarved, holders, starved, Purpose, Place, Out, Upgradable, Writing, WaitTurn, TakeTurn, Add, Mark, JoinNoReaders, LookNoReaders, AskNoReaders, LookUnlisted, LeaveNoReaders, Action, Found, Done, Full, NoneLeft, SomeLeft, NoMemory, Yes, Turn, End, Got, Pending, Refused, Next, action_of, next_of, after_lock, with_turn, place_after, go_to, ends, reads, OnTurn, RwLock, place_at, Acts, Finds, IsRwLock, readers, GoesOnAlone, last, step, PollsAlone, at_once, begun, waits_for_turn, IsCalledToTurn, TookTurn, GaveTurnWay, HasEnough}
-use Rattle.lock_program.specs.declared.refusal.Refusal.TheVariants.{Starved}
+use Rattle.world_rwlock.proofs.Prelude.{Ending, ◌≡◌, ℕ, ◌<◌, ◌≤◌, ◌⊎◌, zero, suc, inl, inr, Bool, true, false, List, [], ◌∷◌, length, refl, sym, ap, arith, subst, ◌∙◌, get_or-set_same, length-set, set-set, set, sum_by, sum_by-set, LockCall, TurnStep, End as TurnEnd, Mutex, IsStarved, holders, starved, Purpose, Place, Out, Upgradable, Writing, WaitTurn, TakeTurn, Add, Mark, JoinNoReaders, LookNoReaders, AskNoReaders, LookUnlisted, LeaveNoReaders, Action, Found, Done, Full, NoneLeft, SomeLeft, NoMemory, Yes, Turn, End, Got, Pending, Refused, Next, action_of, next_of, after_lock, with_turn, place_after, go_to, ends, reads, OnTurn, RwLock, place_at, Acts, Finds, IsRwLock, readers, GoesOnAlone, last, step, PollsAlone, at_once, begun, waits_for_turn, IsCalledToTurn, TookTurn, GaveTurnWay, HasEnough}
+use Rattle.lock_program.specs.declared.refusal.Refusal.TheVariants.{Readers, Starved}
 use Rattle.world_mutex.specs.machine.Alone as turn
 use Rattle.world_mutex.proofs.of_machine.callers.AloneSeen.{solo_polls as turn_law}
-use Rattle.world_rwlock.specs.machine.Solo.{waits_to_write}
+use Rattle.lock_program.specs.declared.rwlock.Wanted.{Wanted}
+use Rattle.world_rwlock.specs.machine.Solo.{waits_to_write, MeetsReaders}
 
 -- ---- once the turn is got
 
@@ -58,6 +59,12 @@ none_or_some (suc n) = inr (omega arith)
 end_eq : (x y : End) (to at : Place) → Next.End x to ≡ Next.End y at → (x ≡ y) × (to ≡ at)
 end_eq x y to at h = (cc, cc)
 
+-- where as many read as may, it finds that out
+fills : (memory : Bool) (v : RwLock) (f : Found) → Finds memory Action.Add f v → v.limit ≤ readers v → next_of (Add false) f ≡ go_to (Place.ReleaseTurn Ending.RefuseReaders)
+fills memory v Done e most = absurd (omega (arith, e, most))
+fills memory v Full e most = refl
+fills memory v _ e most = absurd e
+
 never : {P : Type 0} (a : _) (x : End) (to at : Place) → Next.Do a to ≡ Next.End x at → P
 never a x to at h = absurd (cc)
 
@@ -109,6 +116,44 @@ module _ (memory : Bool) (p : ℕ) (e : End) (new : RwLock) where
       let acts : Acts memory starving p (Add false) (Next.Do a to) m mid = rw here at b in
       never a Got to Upgradable (acts.next_is ∙ adds memory m acts.found acts.finds below)
 
+  -- as many read as may: it releases the turn, and is refused
+  releases_last : (m : RwLock) → place_at m.places p ≡ Place.ReleasingTurn Ending.RefuseReaders → GoesOnAlone memory p e new m → e ≡ Refused Readers
+  releases_last m here (last old starving to a) =
+      let acts : Acts memory starving p (Place.ReleasingTurn Ending.RefuseReaders) (Next.End e to) m new = rw here at a in
+      (end_eq e (Refused Readers) to (Place.Made Wanted.UpgradableRead) acts.next_is).0
+  releases_last m here (step old mid starving a to b on) =
+      let acts : Acts memory starving p (Place.ReleasingTurn Ending.RefuseReaders) (Next.Do a to) m mid = rw here at b in
+      never a (Refused Readers) to (Place.Made Wanted.UpgradableRead) acts.next_is
+
+  releases_full : (m : RwLock) → p < length m.places → place_at m.places p ≡ Place.ReleaseTurn Ending.RefuseReaders → GoesOnAlone memory p e new m → e ≡ Refused Readers
+  releases_full m known here (last old starving to a) =
+      let acts : Acts memory starving p (Place.ReleaseTurn Ending.RefuseReaders) (Next.End e to) m new = rw here at a in
+      by_last to acts.found acts.next_is where
+    by_last : (to : Place) (f : Found) → Next.End e to ≡ next_of (Place.ReleaseTurn Ending.RefuseReaders) f → e ≡ Refused Readers
+    by_last to (Turn TurnStep.More) h = absurd (cc h)
+    by_last to (Turn (TurnStep.End x)) h = (end_eq e (Refused Readers) to (Place.Made Wanted.UpgradableRead) h).0
+    by_last to _ h = (end_eq e (Refused Readers) to (Place.Made Wanted.UpgradableRead) h).0
+  releases_full m known here (step old mid starving a to b on) =
+      let acts : Acts memory starving p (Place.ReleaseTurn Ending.RefuseReaders) (Next.Do a to) m mid = rw here at b in
+      let there = lands starving (Place.ReleaseTurn Ending.RefuseReaders) (Next.Do a to) m mid known acts in
+      by_step a to acts.found acts.next_is there.1 where
+    by_step : (a : Action) (to : Place) (f : Found) → Next.Do a to ≡ next_of (Place.ReleaseTurn Ending.RefuseReaders) f → place_at mid.places p ≡ to → e ≡ Refused Readers
+    by_step a to (Turn TurnStep.More) h at = releases_last mid (at ∙ cc h) on
+    by_step a to (Turn (TurnStep.End x)) h at = never a (Refused Readers) to (Place.Made Wanted.UpgradableRead) h
+    by_step a to _ h at = never a (Refused Readers) to (Place.Made Wanted.UpgradableRead) h
+
+  meets_readers : (m : RwLock) → p < length m.places → place_at m.places p ≡ Add false → m.limit ≤ readers m → GoesOnAlone memory p e new m → e ≡ Refused Readers
+  meets_readers m known here full (last old starving to a) =
+      let acts : Acts memory starving p (Add false) (Next.End e to) m new = rw here at a in
+      absurd (let h = acts.next_is ∙ fills memory m acts.found acts.finds full in cc h)
+  meets_readers m known here full (step old mid starving a to b on) =
+      let acts : Acts memory starving p (Add false) (Next.Do a to) m mid = rw here at b in
+      let there = lands starving (Add false) (Next.Do a to) m mid known acts in
+      let h = acts.next_is ∙ fills memory m acts.found acts.finds full in
+      releases_full mid there.0 (there.1 ∙ to_is a to h) on where
+    to_is : (a : Action) (to : Place) → Next.Do a to ≡ go_to (Place.ReleaseTurn Ending.RefuseReaders) → to ≡ Place.ReleaseTurn Ending.RefuseReaders
+    to_is a to h = cc h
+
   marks_it : (m : RwLock) → p < length m.places → place_at m.places p ≡ Mark → readers m ≡ 0 → GoesOnAlone memory p e new m → TookTurn p e new
   marks_it m known here none (last old starving to a) =
       let acts : Acts memory starving p Mark (Next.End e to) m new = rw here at a in
@@ -119,8 +164,8 @@ module _ (memory : Bool) (p : ℕ) (e : End) (new : RwLock) where
       let acts : Acts memory starving p Mark (Next.Do a to) m mid = rw here at b in
       never a Got to Writing (acts.next_is ∙ marks_last memory m acts.found acts.finds none)
 
-  goes_with_turn : (q : Purpose) (m : RwLock) → p < length m.places → place_at m.places p ≡ with_turn q false → readers m < m.limit → (q ≡ Purpose.Write → 0 < readers m → memory ≡ true) → GoesOnAlone memory p e new m → TookTurn p e new
-  goes_with_turn Purpose.UpgradableRead m known here below enough g = adds_itself m known here below g
+  goes_with_turn : (q : Purpose) (m : RwLock) → p < length m.places → place_at m.places p ≡ with_turn q false → (q ≡ Purpose.UpgradableRead → readers m < m.limit) → (q ≡ Purpose.Write → 0 < readers m → memory ≡ true) → GoesOnAlone memory p e new m → TookTurn p e new
+  goes_with_turn Purpose.UpgradableRead m known here below enough g = adds_itself m known here (below refl) g
   goes_with_turn Purpose.Write m known here below enough g = elim (none_or_some (readers m)) as (λ _. TookTurn p e new) [
     | inl none ↦ marks_it m known here none g
     | inr some ↦ goes_to_write m (enough refl some) known (ap is_on_way here) g
@@ -235,7 +280,13 @@ pub reads_not : (q : Purpose) → reads (with_turn q false) ≡ 0
 reads_not Purpose.UpgradableRead = refl
 reads_not Purpose.Write = refl
 
-module _ (memory : Bool) (p : ℕ) (e : End) (new v : RwLock) (laws : IsRwLock v) (free : holders v.turn ≡ 0) (below : readers v < v.limit) (called : IsCalledToTurn v p) where
+reads_or_not : (q : Purpose) (n k : ℕ) → (q ≡ Purpose.UpgradableRead → n < k) ⊎ ((q ≡ Purpose.UpgradableRead) × (k ≤ n))
+reads_or_not Purpose.Write n k = inl (λ e. absurd (cc e))
+reads_or_not Purpose.UpgradableRead n k = elim (below_or_not n k) as (λ _. (Purpose.UpgradableRead ≡ Purpose.UpgradableRead → n < k) ⊎ ((Purpose.UpgradableRead ≡ Purpose.UpgradableRead) × (k ≤ n))) [ inl few ↦ inl (λ e. few) | inr many ↦ inr (refl, many) ] where
+  below_or_not : (n k : ℕ) → (n < k) ⊎ (k ≤ n)
+  below_or_not n k = grind arith
+
+module _ (memory : Bool) (p : ℕ) (e : End) (new v : RwLock) (laws : IsRwLock v) (free : holders v.turn ≡ 0) (called : IsCalledToTurn v p) where
   waiter : (q : Purpose) × (place_at v.places p ≡ WaitTurn q)
   waiter = waiter_at (place_at v.places p) called.0
 
@@ -249,17 +300,35 @@ module _ (memory : Bool) (p : ℕ) (e : End) (new v : RwLock) (laws : IsRwLock v
   law = turn_law v.turn laws.turn free
 
   -- the turn was got there
-  got : (te : TurnEnd) (mid : RwLock) → HasEnough memory v p → te ≡ End.Got → Rest memory p e new (after_lock waiter.0 (Turn (TurnStep.End te))) mid → mid.places ≡ set v.places p (place_after (after_lock waiter.0 (Turn (TurnStep.End te)))) → mid.limit ≡ v.limit → TookTurn p e new
-  got End.Got mid enough is rest places limit =
+  got : (waiter.0 ≡ Purpose.UpgradableRead → readers v < v.limit) → (te : TurnEnd) (mid : RwLock) → HasEnough memory v p → te ≡ End.Got → Rest memory p e new (after_lock waiter.0 (Turn (TurnStep.End te))) mid → mid.places ≡ set v.places p (place_after (after_lock waiter.0 (Turn (TurnStep.End te)))) → mid.limit ≡ v.limit → TookTurn p e new
+  got below End.Got mid enough is rest places limit =
       let to : Place = with_turn waiter.0 false in
       let here : place_at mid.places p ≡ to = ap (λ ps. place_at ps p) places ∙ get_or-set_same v.places p to Out known in
       let size : length mid.places ≡ length v.places = ap length places ∙ length-set v.places p to in
       let sum : readers mid ≡ sum_by reads (set v.places p to) = ap (sum_by reads) places in
       let was : reads (place_at v.places p) ≡ 0 = ap reads waiter.1 in
       let as_many : readers mid ≡ readers v = omega (arith, sum, sum_by-set reads v.places p to Out known, was, reads_not waiter.0) in
-      let few : readers mid < mid.limit = omega (arith, as_many, limit) in
+      let few : waiter.0 ≡ Purpose.UpgradableRead → readers mid < mid.limit = λ up. (let under = below up in omega (arith, under, as_many, limit)) in
       goes_with_turn memory p e new waiter.0 mid (omega (arith, size, known)) here few (λ is_write some. enough (waiter.1 ∙ ap WaitTurn is_write) (omega (arith, as_many, some))) rest
-  got _ mid enough is rest places limit = absurd (cc)
+  got below _ mid enough is rest places limit = absurd (cc)
+
+  -- or it met the readers' limit
+  full : waiter.0 ≡ Purpose.UpgradableRead → v.limit ≤ readers v → (te : TurnEnd) (mid : RwLock) → te ≡ End.Got → Rest memory p e new (after_lock waiter.0 (Turn (TurnStep.End te))) mid → mid.places ≡ set v.places p (place_after (after_lock waiter.0 (Turn (TurnStep.End te)))) → mid.limit ≡ v.limit → e ≡ Refused Readers
+  full up most End.Got mid is rest places limit =
+      let to : Place = with_turn waiter.0 false in
+      let here : place_at mid.places p ≡ to = ap (λ ps. place_at ps p) places ∙ get_or-set_same v.places p to Out known in
+      let size : length mid.places ≡ length v.places = ap length places ∙ length-set v.places p to in
+      let sum : readers mid ≡ sum_by reads (set v.places p to) = ap (sum_by reads) places in
+      let was : reads (place_at v.places p) ≡ 0 = ap reads waiter.1 in
+      let many : mid.limit ≤ readers mid = omega (arith, sum, sum_by-set reads v.places p to Out known, was, reads_not waiter.0, limit, most) in
+      meets_readers memory p e new mid (omega (arith, size, known)) (here ∙ ap (λ q. with_turn q false) up) many rest
+  full up most _ mid is rest places limit = absurd (cc)
+
+  got_or_full : (te : TurnEnd) (mid : RwLock) → HasEnough memory v p → te ≡ End.Got → Rest memory p e new (after_lock waiter.0 (Turn (TurnStep.End te))) mid → mid.places ≡ set v.places p (place_after (after_lock waiter.0 (Turn (TurnStep.End te)))) → mid.limit ≡ v.limit → TookTurn p e new ⊎ MeetsReaders p v e
+  got_or_full te mid enough is rest places limit = elim (reads_or_not waiter.0 (readers v) v.limit) as (λ _. TookTurn p e new ⊎ MeetsReaders p v e) [
+    | inl below ↦ inl (got below te mid enough is rest places limit)
+    | inr most ↦ inr (record { wants = waiter.1 ∙ ap WaitTurn most.0; full = most.1; refused = full most.0 most.1 te mid is rest places limit })
+  ]
 
   -- its party gave way there
   gave : (te : TurnEnd) (mid : RwLock) → turn.GaveWay p v.turn te mid.turn → turn.StandsBack p v.turn te mid.turn → Rest memory p e new (after_lock waiter.0 (Turn (TurnStep.End te))) mid → mid.places ≡ set v.places p (place_after (after_lock waiter.0 (Turn (TurnStep.End te))))
@@ -287,18 +356,18 @@ module _ (memory : Bool) (p : ℕ) (e : End) (new v : RwLock) (laws : IsRwLock v
       subst (λ x. GaveTurnWay p v x new) (sym rest.0) (subst (λ m. GaveTurnWay p v (Refused Starved) m) (sym rest.1) so)
   gave _ mid g back rest places same limit = absurd back
 
-  by_turn : HasEnough memory v p → (k : TurnEnded memory p e new (Polls memory p e new v) waiter.0 v) → turn.Took p k.turn_end k.mid.turn ⊎ turn.GaveWay p v.turn k.turn_end k.mid.turn → TookTurn p e new ⊎ GaveTurnWay p v e new
-  by_turn enough k (inl took) = inl (got k.turn_end k.mid enough took.0 k.rest k.places k.limit)
-  by_turn enough k (inr g) = inr (gave k.turn_end k.mid g g.stands_back k.rest k.places (k.no_writer, k.no_readers) k.limit)
+  by_turn : HasEnough memory v p → (k : TurnEnded memory p e new (Polls memory p e new v) waiter.0 v) → turn.Took p k.turn_end k.mid.turn ⊎ turn.GaveWay p v.turn k.turn_end k.mid.turn → TookTurn p e new ⊎ (GaveTurnWay p v e new ⊎ MeetsReaders p v e)
+  by_turn enough k (inl took) = elim (got_or_full k.turn_end k.mid enough took.0 k.rest k.places k.limit) as (λ _. TookTurn p e new ⊎ (GaveTurnWay p v e new ⊎ MeetsReaders p v e)) [ inl t ↦ inl t | inr f ↦ inr (inr f) ]
+  by_turn enough k (inr g) = inr (inl (gave k.turn_end k.mid g g.stands_back k.rest k.places (k.no_writer, k.no_readers) k.limit))
 
   -- the poll takes the turn or gives way
-  pub either : memory ≡ true → PollsAlone memory p e new v → TookTurn p e new ⊎ GaveTurnWay p v e new
+  pub either : memory ≡ true → PollsAlone memory p e new v → TookTurn p e new ⊎ (GaveTurnWay p v e new ⊎ MeetsReaders p v e)
   either found polls =
       let k = turn_polls memory p e new waiter.0 v known waiter.1 polls in
       by_turn (λ is_write some. found) k (law.takes_or_gives_way p k.turn_end k.mid.turn called_there (subst (λ b. turn.PollsAlone b p k.turn_end k.mid.turn v.turn) found k.polls))
 
   -- that of a starved party gives way to nobody, and nobody gives way where none is starved
-  pub must_take : HasEnough memory v p → IsStarved v.turn p ⊎ (starved v.turn ≡ 0) → PollsAlone memory p e new v → TookTurn p e new
+  pub must_take : HasEnough memory v p → IsStarved v.turn p ⊎ (starved v.turn ≡ 0) → PollsAlone memory p e new v → TookTurn p e new ⊎ MeetsReaders p v e
   must_take enough why polls =
       let k = turn_polls memory p e new waiter.0 v known waiter.1 polls in
-      got k.turn_end k.mid enough (law.takes memory p k.turn_end k.mid.turn called_there why k.polls).0 k.rest k.places k.limit
+      got_or_full k.turn_end k.mid enough (law.takes memory p k.turn_end k.mid.turn called_there why k.polls).0 k.rest k.places k.limit
