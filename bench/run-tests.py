@@ -11,6 +11,9 @@ what it prints is compared with its file stdout, and its status with its file st
 with the arguments in NAME.args; it has to end with status 0, and prints what NAME.stdout has, if that is there. What all cases printed is then
 handed to its file check, if that is there, which has to end with status 0 and counts as one more.
 
+A test whose folder has *.edit files is built in a copy of its own, whose crates these change: a line 'file: PATH', and then pairs 'old: TEXT' and
+'new: TEXT' for it, in which \\n is the end of a line. TEXT has to stand in the file once, or wherever, in a PATH with a star.
+
 Each test has a line, and each is counted, as each program is. The last line is 'N passed, M failed', and the status is 1 if
 any failed.
 
@@ -19,6 +22,7 @@ folder, and leaves it there for `rt try --test` or `rt check` by hand. --minutes
 """
 
 import argparse
+import glob
 import os
 import re
 import shutil
@@ -32,8 +36,7 @@ from concurrent.futures import ThreadPoolExecutor
 MEMORY = 4_500_000_000
 SECONDS = 900
 # The walks do so much that they are built without checks of each address, and optimised.
-FAST = {'walks'}
-GROUPS = {'walks': lambda name: name.startswith('test_lockstep'), 'stories': lambda name: True}
+FAST = {'walks', 'whole_calls'}
 # `rt try`, by itself.
 TRY = [sys.executable, f'{os.path.dirname(os.path.realpath(__file__))}/kit.py']
 RAN = re.compile(r'test (\S+) \.\.\. (\w+)')
@@ -65,11 +68,39 @@ def write(path, text):
         file.write(text)
 
 
-class Layout:
-    """A copy of the repository in which the tests are crates."""
+def edits(top, name):
+    """Returns the files of a test that change its copy of the crates."""
+    return sorted(glob.glob(f'{top}/tests/{name}/*.edit'))
 
-    def __init__(self, top, folder, wanted):
-        self.top, self.folder, self.wanted = top, folder, wanted
+
+def change(folder, path):
+    """Makes the changes of such a file in a copy of the repository."""
+    files, old = [], ''
+    for line in text_of(path).split('\n'):
+        key, _, text = line.partition(': ')
+        text = text.replace('\\n', '\n')
+        if key == 'file':
+            star, files = '*' in text, glob.glob(f'{folder}/{text}')
+        elif key == 'old':
+            old, found = text, [it for it in files if text in text_of(it)]
+            if not found or not star and text_of(found[0]).count(text) != 1:
+                sys.exit(f'{path}: a text has to stand there once: {line}')
+        elif key == 'new':
+            for it in found:
+                write(it, text_of(it).replace(old, text))
+
+
+def group_of(top, name):
+    if edits(top, name):
+        return 'whole_calls'
+    return 'walks' if name.startswith('test_lockstep') else 'stories'
+
+
+class Layout:
+    """A copy of the repository in which the tests are crates: those that change its crates, or all others."""
+
+    def __init__(self, top, folder, wanted, is_edited):
+        self.top, self.folder, self.wanted, self.is_edited = top, folder, wanted, is_edited
         self.needs, self.crates = listed(f'{top}/tests/tests.txt'), listed(f'{top}/crates.txt')
         self.programs, self.groups = [], {}
         shutil.copytree(f'{top}/crates', f'{folder}/crates', ignore=shutil.ignore_patterns('out', 'wrong'))
@@ -82,10 +113,12 @@ class Layout:
         for group, names in self.groups.items():
             lines.append(f'{group}: {" ".join(self.lay_group(group, names))}\n')
         write(f'{folder}/crates.txt', ''.join(lines))
+        for path in [it for name in self.needs if is_edited for it in edits(top, name)]:
+            change(folder, path)
 
     def divide(self):
         """Sorts what is wanted into programs and groups of tests. What tests share comes with each of them."""
-        is_wanted = lambda name: not self.wanted or name in self.wanted
+        is_wanted = lambda name: (not self.wanted or name in self.wanted) and bool(edits(self.top, name)) == self.is_edited
         tests = f'{self.top}/tests'
         own = [name for name in self.needs if os.path.isfile(f'{tests}/{name}/main.rattle')]
         kept = [name for name in self.crates if os.path.isfile(f'{self.top}/crates/{name}/src/main.rt')]
@@ -95,9 +128,8 @@ class Layout:
                 continue
             if not any(TEST.search(text_of(f'{tests}/{name}/{it}.rattle')) for it in sources(f'{tests}/{name}')):
                 continue
-            group = next(it for it, takes in GROUPS.items() if takes(name))
             shared = [it for it in self.needs[name] if it in self.needs]
-            some = self.groups.setdefault(group, [])
+            some = self.groups.setdefault(group_of(self.top, name), [])
             some += [it for it in [*shared, name] if it not in some]
 
     def lay_program(self, name):
@@ -230,12 +262,13 @@ def main():
     given, began = parser.parse_args(), time.monotonic()
     jobs = given.jobs or max(1, min(len(os.sched_getaffinity(0)), int(free() * 0.85 // MEMORY)))
     with tempfile.TemporaryDirectory(prefix='run-tests-') as room:
-        layout = Layout(os.getcwd(), given.into or f'{room}/copy', given.names)
+        folder = given.into or f'{room}/copy'
+        layouts = [Layout(os.getcwd(), folder, given.names, False), Layout(os.getcwd(), f'{folder}/edited', given.names, True)]
         if given.into:
             return
         with ThreadPoolExecutor(jobs) as pool:
-            running = [(it, pool.submit(run_group, layout, it)) for it in layout.groups]
-            running += [(it, pool.submit(run_program, layout, it)) for it in layout.programs]
+            running = [(it, pool.submit(run_group, layout, it)) for layout in layouts for it in layout.groups]
+            running += [(it, pool.submit(run_program, layout, it)) for layout in layouts for it in layout.programs]
             results = [(it, *one.result()) for it, one in running]
     if given.minutes:
         with open(given.minutes, 'a', encoding='utf-8') as file:
