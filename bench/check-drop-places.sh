@@ -4,7 +4,8 @@
 #
 # A place counts as reached where a script drops a party there between two `show` lines, with another party listed behind it; where the
 # drop notifies other lists than the party's own (a write or an upgrade that waits for readers, a maker), with another party waiting in
-# each of them. Prints each place with its scripts. Status 1 where a place has none, or where an answer differs.
+# each of them. Prints each place with its scripts, and with the test that drops a public future there: those of tests/test_public go through all states,
+# and fail where a place that they name was never come to. Status 1 where a place has no script or no test, or where an answer differs.
 #
 # Run it at the top of the repository: bench/check-drop-places.sh. It takes a second, and builds nothing.
 set -eu
@@ -65,12 +66,19 @@ def replay(script):
 scripts = sorted(glob.glob("scripts/*.script"))
 for script in scripts:
     replay(script)
+tests = {path: open(path).read() for path in sorted(glob.glob("tests/test_public/*.rattle"))}
+untested = []
 for (call, place, mark), names in reached.items():
-    print(f"{call} at {place}, {MARKS[mark]}: {', '.join(names) or 'no script'}")
+    name = f"{call} at {place}, {MARKS[mark]}"
+    public = [path for path, text in tests.items() if f'"{name}"' in text]
+    untested += [] if public else [name]
+    print(f"{name}: {', '.join(names) or 'no script'}; {', '.join(public) or 'no test'}")
 missing = [key for key, names in reached.items() if not names]
-for row in wrong + [f"no script drops a {call} at {place}, {MARKS[mark]}" for call, place, mark in missing]:
+wrong += [f"no script drops a {call} at {place}, {MARKS[mark]}" for call, place, mark in missing]
+wrong += [f"no test of tests/test_public drops a future: {name}" for name in untested]
+for row in wrong:
     print(row, file=sys.stderr)
-if not scripts or wrong or missing:
+if not scripts or wrong:
     sys.exit(1)
-print(f"{len(scripts)} scripts drop {drops} pending futures, at each of {len(reached)} places")
+print(f"{len(scripts)} scripts drop {drops} pending futures, at each of {len(reached)} places, as tests of public futures do")
 PYTHON

@@ -9,7 +9,9 @@
 #   the one after that refused it does wait;
 # - script: `lockrun script` on scripts/sixty-four-parties.script, which makes a World of each kind, with each allocation refused in turn.
 #   (A script takes memory for its text and for its Worlds, and for nothing else.)
-# - threads: `lockrun threads 2`, of which one worker holds the lock while the other comes, with each allocation refused in turn.
+# - threads: `lockrun threads 2`, of which one worker holds the lock while the other comes, with each allocation refused in turn;
+# - records: forty moves of a book, with each allocation refused in turn. A move that is refused changes nothing, and is recorded when it is
+#   made again.
 #
 # Each run is a test of a copy of tests/refused_memory, which `rt try --test` builds once, and runs in a process of its own. Of each of
 # them the same allocation is refused: so a test throws some away first. Nothing is proved.
@@ -19,6 +21,7 @@
 set -eu
 
 python3 - <<'PYTHON'
+import os
 import re
 import subprocess
 import sys
@@ -33,6 +36,9 @@ REFUSED = 400
 CALLS = (22, 155)
 SCRIPT = (3, 36)
 THREADS = (4, 21)
+
+# More than the allocations of a book of forty moves, and how often its history grows at least.
+BOOK, GROWS = 20, 4
 
 # The first allocation of each blocking call, after those that make its lock. And how many it makes before it waits, of which the last
 # two are those of the list and of its entry there.
@@ -88,6 +94,7 @@ def tests():
         parts.append(f'\nconst {name}: &str = "\\\n{text_of(f"{SCRIPT_NAME}.{kind}")}";\n')
     for name, (first, last) in (("calls", CALLS), ("script", SCRIPT), ("threads", THREADS)):
         parts += [test(name, number) for number in range(first - 1, last + 1)]
+    parts += [test("records", number) for number in range(1, BOOK + 1)]
     for name, first in HELD.items():
         waits = first + BLOCKING
         parts += [test(name, first, LONG), test(name, waits - 1, LONG), test(name, waits, SHORT)]
@@ -115,7 +122,8 @@ def printed_by_tests():
     """Runs the tests: what each has printed, by its name."""
     with tempfile.TemporaryDirectory() as top:
         crate = copy_to(top)
-        command = ["rt", "try", "--test", "--fail-alloc", str(REFUSED)]
+        # (`rt try`, without the check that it starts beside the program)
+        command = [sys.executable, f"{os.getcwd()}/bench/kit.py", "--test", "--fail-alloc", str(REFUSED)]
         ran = subprocess.run(command, cwd=crate, stdin=subprocess.DEVNULL, capture_output=True, text=True)
     blocks = re.split(r"^test tests::(\w+) \.\.\. \w+\n", ran.stdout, flags=re.MULTILINE)
     if len(blocks) < 3:
@@ -176,7 +184,18 @@ def judge_lockrun(name, numbers, allowed, done):
         wrong.append(f"{name}: {name.upper()} doesn't fit: {first} isn't the first allocation of a run, or {last - 1} isn't the last one")
 
 
+def judge_book():
+    refused = ["refused: no memory", "recorded 40"]
+    runs = [seen("records", number) for number in range(1, BOOK + 1)]
+    for number, lines in enumerate(runs, 1):
+        if lines not in ([], refused, refused[1:]):
+            wrong.append(f"book, with allocation {number} refused: {lines}")
+    if runs.count(refused) < GROWS or runs[-1] != refused[1:]:
+        wrong.append(f"book: BOOK doesn't fit: a record was refused in {runs.count(refused)} of {BOOK} runs")
+
+
 judge_held()
+judge_book()
 judge_calls()
 judge_lockrun("script", SCRIPT, ["refused: no memory"], "answered")
 # A worker that comes late needn't wait, and then takes no memory.

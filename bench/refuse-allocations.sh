@@ -1,88 +1,158 @@
 #!/bin/sh
-# Refuses each allocation of `lockrun script` in turn, in all scripts of a folder at a time, and checks what
-# each run prints: the script's answers and status 0, or a beginning of them in whole lines,
-# `lockrun: no memory` and status 3. It stops once no script asks for so many allocations, or, with status 1,
-# at the first run that does otherwise. Then the same of `lockrun threads 4`.
+# Refuses each allocation in turn to the program lockrun, with each script of a folder and with `threads 4`, and to the programs of the
+# examples, and looks what each run prints:
+# - a script: its answers and status 0, or a beginning of them in whole lines, `lockrun: no memory` and status 3;
+# - `threads 4`: `4` and status 0, or nothing, `lockrun: no memory` or `lockrun: thread failed`, and status 3;
+# - an example: what it prints with ample memory and status 0, or status 1.
+# The runs go on to one that is refused nothing. Status 1 where a run does otherwise. The last line has the figures.
 #
-# Run it at the top of the repository, with `rt` on the PATH: bench/refuse-allocations.sh [FOLDER].
-# FOLDER, with files NAME.script and NAME.answers, is scripts if left out, which takes some ten minutes. The last line has the figures.
+# Each program is built once, in a copy of the repository in which it throws away as many allocations first as its first argument says:
+# of all runs the same allocation is refused. Nothing is proved.
+#
+# Run it at the top of the repository, with `rt` on the PATH: bench/refuse-allocations.sh [FOLDER]. FOLDER, with files NAME.script and
+# NAME.answers, is scripts if left out. It takes two minutes, or more where other work is done beside it.
 set -eu
 
-scripts=$(cd "${1:-scripts}" && pwd)
-work=$(mktemp -d)
-trap 'rm -rf "$work"' EXIT
-mkdir "$work/cases"
-for script in "$scripts"/*.script; do
-    cp "$script" "$work/cases/$(basename "$script" .script)"
-done
-total=$(ls "$work/cases" | wc -l)
-cd crates/lockrun
+python3 - "${1:-scripts}" <<'PYTHON'
+import glob
+import os
+import re
+import shutil
+import subprocess
+import sys
+import tempfile
 
-count=0
-fail() {
-    echo "allocation $count: $1" >&2
-    exit 1
+folder = sys.argv[1]
+# `rt try`, without the check that it starts beside the program.
+here = f"{os.getcwd()}/bench"
+
+# How many a run of lockrun makes at most, beside those of a World, and a run of `threads 4` and of each example.
+RUN, WORLD, THREADS = 24, 10, 120
+EXAMPLES = {"first_lock": 60, "lock_examples": 900}
+WORLDS = re.compile(r"^(mutex|rwlock|semaphore|cell|barrier) ", re.MULTILINE)
+
+THROWS_AWAY = """
+// As many allocations as the argument says.
+fn throw_away<R: std::rt::Env + AllocGlobal>(rt: &R) -> Option<()> {
+    let mut words = std::env::args(rt).ok()?;
+    let _ = words.next();
+    let often = words.next()?.parse::<u64>().ok()?;
+    for number in 0..often {
+        let _ = Box::new(rt.alloc(), number);
+    }
+    Some(())
 }
+"""
 
-# Runs all scripts with one allocation refused, and puts what each prints into a file of its own.
-run_all() {
-    rm -rf "$work/printed"
-    mkdir "$work/printed"
-    rt try --cases "$work/cases" --fail-alloc "$count" -- script >"$work/output" 2>"$work/log" || true
-    awk -v folder="$work/printed" '
-        /^== / { file = folder "/" $2; printf "" >file; next }
-        { print >file }
-    ' "$work/output"
-}
+MAIN = "fn main(rt: HostRuntime) -> ExitCode {\n"
+runs = refused = 0
+wrong = []
 
-# Whether the second file begins with the first.
-begins() {
-    head -c "$(wc -c <"$1")" "$2" | cmp -s - "$1"
-}
 
-runs=0
-all_refused=0
-refused=1
-while [ "$refused" -gt 0 ]; do
-    count=$((count + 1))
-    refused=0
-    run_all
-    for answers in "$scripts"/*.answers; do
-        name=$(basename "$answers" .answers)
-        status=$(sed -n "s/^case=$name run=ended status=\([0-9]*\) .*/\1/p" "$work/log")
-        case $status in
-        0) cmp -s "$answers" "$work/printed/$name" || fail "$name: other answers" ;;
-        3)
-            begins "$work/printed/$name" "$answers" || fail "$name: no beginning of its answers"
-            refused=$((refused + 1))
-            ;;
-        *) fail "$name: ${status:+status }${status:-not run}" ;;
-        esac
-    done
-    told=$(grep -c '^lockrun: no memory$' "$work/log") || true
-    [ "$told" = "$refused" ] || fail "$refused scripts refused, and $told told of it"
-    echo "allocation $count: refused in $refused of $total scripts"
-    runs=$((runs + total))
-    all_refused=$((all_refused + refused))
-done
+def text_of(path):
+    with open(path) as file:
+        return file.read()
 
-# The same of `lockrun threads 4`: `4` and status 0, or nothing, what was refused, and status 3.
-count=0
-status=3
-while [ "$status" = 3 ]; do
-    count=$((count + 1))
-    rt try --fail-alloc "$count" -- threads 4 >"$work/output" 2>"$work/log" || true
-    status=$(sed -n 's/^run=ended status=\([0-9]*\) .*/\1/p' "$work/log")
-    case $status in
-    0) [ "$(cat "$work/output")" = 4 ] || fail "threads 4: another number" ;;
-    3)
-        [ ! -s "$work/output" ] || fail "threads 4: a number beside a fault"
-        grep -q '^lockrun: no memory$\|^lockrun: thread failed$' "$work/log" || fail "threads 4: no fault told"
-        ;;
-    *) fail "threads 4: ${status:+status }${status:-not run}" ;;
-    esac
-done
-echo "threads 4: each of $((count - 1)) allocations refused"
-runs=$((runs + count))
-all_refused=$((all_refused + count - 1))
-echo "$runs runs of lockrun, $all_refused allocations refused, 0 differences"
+
+def copy_of(crate, top):
+    """Copies the repository, in which this program throws allocations away first."""
+    shutil.copytree("crates", f"{top}/crates", ignore=shutil.ignore_patterns("out"))
+    for name in ("HANDLES", "crates.txt"):
+        shutil.copy(name, top)
+    path = f"{top}/crates/{crate}/src/main.rt"
+    text = text_of(path)
+    if text.count(MAIN) != 1:
+        sys.exit(f"{path}: its main isn't as this script knows it")
+    text = text.replace(MAIN, f"{MAIN}    let _ = throw_away(&rt);\n").replace("words.as_slice(),", "words.as_slice().split_at(1).1,")
+    if "use std::alloc::AllocGlobal;" not in text:
+        text = text.replace("\nuse std::process::ExitCode;\n", "\nuse std::alloc::AllocGlobal;\nuse std::process::ExitCode;\n")
+    with open(path, "w") as file:
+        file.write(text + THROWS_AWAY)
+    return os.path.dirname(os.path.dirname(path))
+
+
+def run_all(crate, cases):
+    """Runs a program by its cases, each a name with its input, its arguments and the number of the allocation that is refused. Returns
+    what each prints, its status and what it tells."""
+    most = max(number for _, _, number in cases.values())
+    with tempfile.TemporaryDirectory() as top:
+        program = copy_of(crate, top)
+        os.mkdir(f"{top}/cases")
+        for name, (given, arguments, number) in cases.items():
+            with open(f"{top}/cases/{name}", "w") as file:
+                file.write(given)
+            with open(f"{top}/cases/{name}.args", "w") as file:
+                file.write("\n".join([str(most - number), *arguments]) + "\n")
+        command = [sys.executable, f"{here}/kit.py", "--cases", f"{top}/cases", "--fail-alloc", str(most)]
+        ran = subprocess.run(command, cwd=program, stdin=subprocess.DEVNULL, capture_output=True, text=True)
+    blocks = re.split(r"^== (.*)\n", ran.stdout, flags=re.MULTILINE)
+    printed = dict(zip(blocks[1::2], blocks[2::2]))
+    found, told = {}, []
+    for line in ran.stderr.splitlines():
+        case = re.match(r"case=(\S+) run=(\w+)(?: status=(\d+))?", line)
+        if case:
+            ended = int(case[3]) if case[2] == "ended" and case[3] else case[2]
+            found[case[1]] = (printed.get(case[1], ""), ended, told)
+            told = []
+        else:
+            told = told + [line]
+    if not found:
+        sys.exit(f"{crate}: rt try ran no case\n{ran.stdout}{ran.stderr}")
+    return found
+
+
+def judge(name, found, is_right, whole):
+    """Counts the runs of a name that are refused, and those that do otherwise. The last one has to be whole."""
+    global runs, refused
+    for number, (printed, ended, told) in enumerate(found, 1):
+        runs += 1
+        if (printed, ended) == (whole, 0):
+            continue
+        refused += 1
+        if not is_right(printed, ended, told):
+            wrong.append(f"{name}: allocation {number}: status {ended}, {printed!r}, {told}")
+    if found[-1][:2] != (whole, 0):
+        wrong.append(f"{name}: it makes more allocations than {len(found)}")
+
+
+def is_beginning(answers):
+    return lambda printed, ended, told: (
+        ended == 3 and answers.startswith(printed) and printed[-1:] in ("", "\n") and told == ["lockrun: no memory"]
+    )
+
+
+def is_no_number(printed, ended, told):
+    return ended == 3 and printed == "" and told in (["lockrun: no memory"], ["lockrun: thread failed"])
+
+
+def lockrun():
+    cases, names = {}, {}
+    for path in sorted(glob.glob(f"{folder}/*.script")):
+        name = os.path.basename(path).removesuffix(".script")
+        text = text_of(path)
+        names[name] = RUN + WORLD * len(WORLDS.findall(text))
+        cases |= {f"{name}@{number}": (text, ["script"], number) for number in range(1, names[name] + 1)}
+    cases |= {f"threads@{number}": ("", ["threads", "4"], number) for number in range(1, THREADS + 1)}
+    found = run_all("lockrun", cases)
+    for name, last in names.items():
+        answers = text_of(f"{folder}/{name}.answers")
+        judge(name, [found.get(f"{name}@{number}", ("", "not run", [])) for number in range(1, last + 1)], is_beginning(answers), answers)
+    threads = [found.get(f"threads@{number}", ("", "not run", [])) for number in range(1, THREADS + 1)]
+    judge("threads 4", threads, is_no_number, "4\n")
+
+
+def example(crate, last):
+    found = run_all(crate, {str(number): ("", [], number) for number in range(1, last + 1)})
+    whole = text_of(f"crates/{crate}/stdout")
+    runs_of_it = [found.get(str(number), ("", "not run", [])) for number in range(1, last + 1)]
+    judge(crate, runs_of_it, lambda printed, ended, told: ended == 1, whole)
+
+
+lockrun()
+for crate, last in EXAMPLES.items():
+    example(crate, last)
+for row in wrong:
+    print(row, file=sys.stderr)
+print(f"{runs} runs of lockrun and of examples, {refused} allocations refused, {len(wrong)} differences")
+sys.exit(1 if wrong else 0)
+PYTHON

@@ -12,7 +12,8 @@ with the arguments in NAME.args; it has to end with status 0, and prints what NA
 handed to its file check, if that is there, which has to end with status 0 and counts as one more.
 
 A test whose folder has *.edit files is built in a copy of its own, whose crates these change: a line 'file: PATH', and then pairs 'old: TEXT' and
-'new: TEXT' for it, in which \\n is the end of a line. TEXT has to stand in the file once, or wherever, in a PATH with a star.
+'new: TEXT' for it, in which \\n is the end of a line. TEXT has to stand in the file once, or wherever, in a PATH with a star. A line
+'with: PATH' stands for the changes of another file.
 
 Each test has a line, and each is counted, as each program is. The last line is 'N passed, M failed', and the status is 1 if
 any failed.
@@ -73,13 +74,17 @@ def edits(top, name):
     return sorted(glob.glob(f'{top}/tests/{name}/*.edit'))
 
 
-def change(folder, path):
-    """Makes the changes of such a file in a copy of the repository."""
+def change(folder, path, made=()):
+    """Makes the changes of such a file in a copy of the repository, and before them those of each file that it names. What was made, isn't again."""
+    made = [*made, os.path.realpath(path)]
     files, old = [], ''
     for line in text_of(path).split('\n'):
         key, _, text = line.partition(': ')
         text = text.replace('\\n', '\n')
-        if key == 'file':
+        other = f'{os.path.dirname(path)}/{text}'
+        if key == 'with' and os.path.realpath(other) not in made:
+            made = change(folder, other, made)
+        elif key == 'file':
             star, files = '*' in text, glob.glob(f'{folder}/{text}')
         elif key == 'old':
             old, found = text, [it for it in files if text in text_of(it)]
@@ -88,6 +93,7 @@ def change(folder, path):
         elif key == 'new':
             for it in found:
                 write(it, text_of(it).replace(old, text))
+    return made
 
 
 def group_of(top, name):
@@ -113,8 +119,13 @@ class Layout:
         for group, names in self.groups.items():
             lines.append(f'{group}: {" ".join(self.lay_group(group, names))}\n')
         write(f'{folder}/crates.txt', ''.join(lines))
-        for path in [it for name in self.needs if is_edited for it in edits(top, name)]:
-            change(folder, path)
+        made = []
+        for path in [it for name in self.groups_and_programs() if is_edited for it in edits(top, name)]:
+            if os.path.realpath(path) not in made:
+                made = change(folder, path, made)
+
+    def groups_and_programs(self):
+        return [*(it for names in self.groups.values() for it in names), *self.programs]
 
     def divide(self):
         """Sorts what is wanted into programs and groups of tests. What tests share comes with each of them."""
