@@ -1,6 +1,6 @@
 #!/bin/sh
 # Refuses each allocation in turn to all that takes memory, and looks how each run tells of it: the public calls of each lock
-# (check-refusals.sh), the same with their threads (refuse-calls.sh), and lockrun with each script and with four threads
+# (check-refusals.sh), the same with their threads (refuse-calls.sh), and lockrun with each script and with four threads, and the examples
 # (refuse-allocations.sh). Each goes to its end, whatever the others find. The last line sums up their figures: runs, allocations refused,
 # and differences. Status 1 where there is one, or where a check ends without figures.
 #

@@ -23,7 +23,7 @@ import sys
 import tempfile
 
 folder = sys.argv[1]
-# `rt try`, without the check that it starts beside the program.
+# `rt try`, without the check that it starts beside the program, and without a run by its interpreter, which takes a second each time.
 here = f"{os.getcwd()}/bench"
 
 # How many a run of lockrun makes at most, beside those of a World, and a run of `threads 4` and of each example.
@@ -83,7 +83,7 @@ def run_all(crate, cases):
                 file.write(given)
             with open(f"{top}/cases/{name}.args", "w") as file:
                 file.write("\n".join([str(most - number), *arguments]) + "\n")
-        command = [sys.executable, f"{here}/kit.py", "--cases", f"{top}/cases", "--fail-alloc", str(most)]
+        command = [sys.executable, f"{here}/kit.py", "--steps", "1", "--cases", f"{top}/cases", "--fail-alloc", str(most)]
         ran = subprocess.run(command, cwd=program, stdin=subprocess.DEVNULL, capture_output=True, text=True)
     blocks = re.split(r"^== (.*)\n", ran.stdout, flags=re.MULTILINE)
     printed = dict(zip(blocks[1::2], blocks[2::2]))

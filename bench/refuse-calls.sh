@@ -29,8 +29,8 @@ while [ "$count" -le "$most" ]; do
 done
 
 cd "$crate"
-# (`rt try`, without the check that it starts beside the program)
-python3 "$kit" --cases "$work/cases" --fail-alloc $((2 * most)) >"$work/output" 2>"$work/log" || true
+# (`rt try`, without the check that it starts beside the program, and without its interpreter, which takes a second for each run)
+python3 "$kit" --steps 1 --cases "$work/cases" --fail-alloc $((2 * most)) >"$work/output" 2>"$work/log" || true
 mkdir "$work/printed"
 awk -v folder="$work/printed" '
     /^== / { file = folder "/" $2; printf "" >file; next }
