@@ -1,0 +1,131 @@
+//! The future that gives an item back.
+
+ghost use Rattle.std.specs.Prelude.{◌≡◌, ◌⊎◌, ⊤, None, Some};
+ghost use Rattle.async_driver.specs.Turns.{OnPending};
+ghost use Rattle.async_mutex.specs.Futures.{IsTurn};
+ghost use Rattle.futures.specs.Task.{Covers, Keeps};
+ghost use Rattle.bounded_pool.specs.Leases.{Given, is_none};
+
+use crate::lease::Lease;
+use async_mutex::lock_futures::Lock;
+use async_semaphore::{Polled, Refusal, Turn};
+use futures::task::Context;
+use std::fmt;
+use std::marker::Model;
+use std::sync::Wait;
+use std::time::Clock;
+
+/// The future of [`Pool::give`](crate::Pool::give). Dropping it before it was ready loses the item, as dropping its lease does;
+/// [`Give::into_lease`] has the lease back.
+///
+/// Contracts see the lease that it keeps.
+pub struct Give<'a, T: Drop, R: Wait> {
+    lease: Option<Lease<'a, T, R>>,
+    lock: Option<Lock<'a, Vec<T>, R>>,
+}
+
+impl<'a, T: Drop, R: Wait> Model for Give<'a, T, R> {
+    ghost use Rattle.bounded_pool.specs.Leases.{Given};
+
+    ghost Value = { Given T R };
+
+    ghost view = { λ g. record { lease = g.lease } };
+}
+
+impl<'a, T: Drop, R: Wait> Give<'a, T, R> {
+    pub(crate) fn new(lease: Lease<'a, T, R>) -> Give<'a, T, R>
+        ensures { result.lease ≡ Some lease.entry }
+    {
+        let lock = Some(Lease::pool(&lease).items.lock());
+        Give {
+            lease: Some(lease),
+            lock,
+        }
+    }
+
+    /// Ends the future, and returns the lease of one that wasn't ready.
+    pub fn into_lease(self) -> Option<Lease<'a, T, R>> {
+        let Self { lease, lock } = self;
+        drop(lock);
+        lease
+    }
+}
+
+impl<'a, T: Drop, R: Wait + Clock> Give<'a, T, R> {
+    /// Polls once: ready when the item is back in the pool, or pending.
+    ///
+    /// It is refused as [`Refusal::Memory`] or as [`Refusal::Starved`] of the list's lock; it keeps its lease then, and may be polled
+    /// again (`stays`). Once it was ready it is refused as [`Refusal::Finished`], and nothing changes (`turn`).
+    pub fn poll(&mut self, cx: &mut Context<'_>) -> Turn<()>
+        ensures turn { IsTurn (λ _. ⊤) (is_none self.old.lease) result (is_none self.new.lease) }
+        ensures stays { (self.new.lease ≡ None) ⊎ (self.new.lease ≡ self.old.lease) }
+        ensures registered { OnPending result (Covers cx.new (λ _. ⊥)) }
+        ensures kept { Keeps cx.old cx.new }
+    {
+        let Some(lease) = self.lease.take() else {
+            return Turn::Refused(Refusal::Finished);
+        };
+        let pool = Lease::pool(&lease);
+        let mut lock = match self.lock.take() {
+            Some(lock) => lock,
+            None => pool.items.lock(),
+        };
+        let mut items = match lock.poll(cx) {
+            Turn::Ready(items) => items,
+            Turn::Pending => {
+                self.lock = Some(lock);
+                self.lease = Some(lease);
+                return Turn::Pending;
+            }
+            Turn::Refused(Refusal::Starved) => {
+                self.lease = Some(lease);
+                return Turn::Refused(Refusal::Starved);
+            }
+            Turn::Refused(_) => {
+                self.lease = Some(lease);
+                return Turn::Refused(Refusal::Memory);
+            }
+        };
+        let (item, permit) = lease.into_parts();
+        match items.push(item) {
+            Ok(()) => {
+                drop(items);
+                drop(permit);
+                Turn::Ready(())
+            }
+            Err(refused) => {
+                drop(items);
+                self.lease = Some(Lease::new(pool, refused.value, permit));
+                Turn::Refused(Refusal::Memory)
+            }
+        }
+    }
+}
+
+impl<'a, T: Drop, R: Wait + Clock> Polled for Give<'a, T, R> {
+    type Got = ();
+
+    ghost use Rattle.async_mutex.specs.Futures.{CanRefuse};
+    ghost use Rattle.bounded_pool.specs.Leases.{is_none};
+
+    ghost refuses = { λ give. CanRefuse (is_none give.lease) };
+
+    fn poll_turn(&mut self, cx: &mut Context<'_>) -> Turn<()> {
+        self.poll(cx)
+    }
+}
+
+impl<'a, T: Drop, R: Wait> Drop for Give<'a, T, R> {
+    fn drop(self) {
+        let Self { lease, lock } = self;
+        // The lock's place in its list goes before the permit.
+        drop(lock);
+        drop(lease);
+    }
+}
+
+impl<T: Drop, R: Wait> fmt::Debug for Give<'_, T, R> {
+    fn fmt<W: fmt::Write>(&self, f: &mut fmt::Formatter<W>) -> fmt::Result {
+        f.write_str("Give { .. }")
+    }
+}
