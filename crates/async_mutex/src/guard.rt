@@ -51,6 +51,10 @@ impl<T, R: Wait, O: Owns<Value = T, Runtime = R>> Guard<T, R, O> {
 
 impl<'a, T, R: Wait> Guard<T, R, &'a Mutex<T, R>> {
     /// Returns the mutex that the guard holds.
+    ///
+    /// ```
+    /// let is_held = MutexGuard::source(&guard).try_lock().is_none();
+    /// ```
     pub fn source(guard: &Guard<T, R, &'a Mutex<T, R>>) -> &'a Mutex<T, R>
         ensures { result.now ≡ guard.now.mutex }
     {
@@ -60,6 +64,10 @@ impl<'a, T, R: Wait> Guard<T, R, &'a Mutex<T, R>> {
 
 impl<T: Drop, R: Wait + Drop> Guard<T, R, Arc<Mutex<T, R>>> {
     /// Returns the mutex that the guard holds.
+    ///
+    /// ```
+    /// let is_held = Mutex::try_lock_arc(MutexGuardArc::source(&guard)).is_none();
+    /// ```
     pub fn source(guard: &Guard<T, R, Arc<Mutex<T, R>>>) -> &Arc<Mutex<T, R>>
         ensures { arc_value result.now ≡ guard.now.mutex }
     {

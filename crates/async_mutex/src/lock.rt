@@ -67,6 +67,14 @@ impl<T, R: Wait + Clock, O: Owns<Value = T, Runtime = R>> LockFuture<T, R, O> {
     /// Pending, it has an entry in the mutex's list that keeps a waker of the task that polls (`receipt`). The task has registered
     /// with the mutex's source (`registered`), and keeps what it had registered before (`kept`). Until it is ready the future keeps
     /// its mutex (`share`).
+    ///
+    /// ```
+    /// match future.poll(cx) {
+    ///     Turn::Pending => Ok(None),
+    ///     Turn::Ready(guard) => Ok(Some(*guard)),
+    ///     Turn::Refused(refusal) => Err(refusal),
+    /// }
+    /// ```
     #[inline]
     pub fn poll(&mut self, cx: &mut Context<'_>) -> Turn<Guard<T, R, O>>
         ensures turn { IsTurn (λ guard. IsOf O.lock_of self.old.stage guard.mutex) (is_finished self.old.stage) result (is_finished self.new.stage) }

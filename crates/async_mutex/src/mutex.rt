@@ -11,8 +11,7 @@ use crate::lock::LockFuture;
 use crate::lock_futures::{Lock, LockArc};
 use crate::stage::{Stage, first};
 use crate::{MutexGuard, MutexGuardArc};
-use async_driver::Settled;
-use futures::executor::block_on;
+use async_driver::wait_for;
 use lock_program::Refusal;
 use mutex_core::{Held, STARVED_LIMIT, Words};
 use std::alloc::AllocGlobal;
@@ -40,6 +39,10 @@ impl<T: Drop, R: AllocGlobal + Drop> Mutex<T, R> {
     /// Creates a free mutex over a value. If memory is refused, it returns [`Refusal::Memory`] and drops the value.
     ///
     /// No forgotten guard has left the mutex held (`is_left`), and as many waiters may be starved as [`STARVED_LIMIT`] says (`limit`).
+    ///
+    /// ```
+    /// let mutex = Mutex::new(rt, 0_u64)?;
+    /// ```
     // In line, as all that makes a mutex: so it isn't copied from one place to the next.
     #[inline(always)]
     pub fn new(rt: R, value: T) -> Result<Mutex<T, R>, Refusal>
@@ -68,6 +71,10 @@ impl<T: Drop, R: AllocGlobal + Drop> Mutex<T, R> {
 
 impl<T, R> Mutex<T, R> {
     /// Returns the value, also of a mutex that a forgotten guard left held. It waits for nobody and takes no memory.
+    ///
+    /// ```
+    /// Ok(mutex.into_inner())
+    /// ```
     pub fn into_inner(self) -> T
     where
         R: Drop,
@@ -79,6 +86,11 @@ impl<T, R> Mutex<T, R> {
 
     /// Returns the value, also of a mutex that a forgotten guard left held, which stays held. It waits for nobody and takes
     /// no memory.
+    ///
+    /// ```
+    /// let value = mutex.get_mut();
+    /// *value = value.saturating_add(1);
+    /// ```
     pub fn get_mut(&mut self) -> &mut T {
         self.words.get_mut()
     }
@@ -88,6 +100,12 @@ impl<T, R: Wait> Mutex<T, R> {
     /// Takes the lock at once, if it is free and nobody is starved.
     ///
     /// The contract guarantees that a returned guard belongs to this mutex. That a free lock is acquired is only tested.
+    ///
+    /// ```
+    /// let Some(guard) = mutex.try_lock() else {
+    ///     return Ok(false);
+    /// };
+    /// ```
     pub fn try_lock(&self) -> Option<MutexGuard<'_, T, R>>
         ensures { IfSome result (λ guard. guard.mutex ≡ self.now) }
     {
@@ -96,6 +114,11 @@ impl<T, R: Wait> Mutex<T, R> {
     }
 
     /// Returns a future of the lock, which does nothing until it is polled.
+    ///
+    /// ```
+    /// let mut future = mutex.lock();
+    /// let first = task.enter(|cx| poll_once(&mut future, cx))?;
+    /// ```
     pub fn lock(&self) -> Lock<'_, T, R>
         ensures mutex { IsFor (λ o. o.now) result.stage self.now }
         ensures new { is_finished result.stage ≡ false }
@@ -116,6 +139,10 @@ impl<T, R: Wait> Mutex<T, R> {
 impl<T: Drop, R: Wait + Drop> Mutex<T, R> {
     /// Does as [`Mutex::try_lock`] does, for a guard that owns its share of the mutex. It is `None` too where that share
     /// can't be had.
+    ///
+    /// ```
+    /// let is_free = Mutex::try_lock_arc(&mutex).is_some();
+    /// ```
     pub fn try_lock_arc(this: &Arc<Mutex<T, R>>) -> Option<MutexGuardArc<T, R>>
         ensures { IfSome result (λ guard. guard.mutex ≡ arc_value this.now) }
     {
@@ -131,6 +158,10 @@ impl<T: Drop, R: Wait + Drop> Mutex<T, R> {
 
     /// Returns a future as [`Mutex::lock`] does, which owns its share of the mutex and gives it to its guard. Where that share
     /// can't be had, its polls are refused as [`Refusal::Memory`].
+    ///
+    /// ```
+    /// let mut guard = wait_for(&rt, Mutex::lock_arc(&mutex))?;
+    /// ```
     #[inline]
     pub fn lock_arc(this: &Arc<Mutex<T, R>>) -> LockArc<T, R>
         ensures mutex { IsFor arc_value result.stage (arc_value this.now) }
@@ -142,9 +173,14 @@ impl<T: Drop, R: Wait + Drop> Mutex<T, R> {
 }
 
 impl<T: Drop, R: Wait + Clock + RandomSource + AllocGlobal> Mutex<T, R> {
-    /// Acquires the lock, blocking the calling thread until it is available. Any error of `block_on` is
+    /// Acquires the lock, blocking the calling thread until it is available. Any error of the executor is
     /// [`Refusal::Memory`]. It is refused as this, or as [`Refusal::Starved`] (`refused`).
     /// Don't call it in an async context: it blocks the thread that runs the other tasks, and may deadlock.
+    ///
+    /// ```
+    /// let mut guard = mutex.lock_blocking()?;
+    /// *guard = guard.saturating_add(1);
+    /// ```
     #[inline]
     pub fn lock_blocking(&self) -> Result<MutexGuard<'_, T, R>, Refusal>
         ensures mutex { IfOk result (λ guard. guard.mutex ≡ self.now) }
@@ -163,15 +199,16 @@ impl<T: Drop, R: Wait + Clock + RandomSource + AllocGlobal> Mutex<T, R> {
         ensures mutex { IfOk result (λ guard. guard.mutex ≡ self.now) }
         ensures refused { IfErr result IsGivenUp }
     {
-        match block_on(&self.rt, Settled(self.lock())) {
-            Ok(settled) => settled,
-            Err(_) => Err(Refusal::Memory),
-        }
+        wait_for(&self.rt, self.lock())
     }
 }
 
 impl<T: Drop, R: Wait + Clock + RandomSource + AllocGlobal + Drop> Mutex<T, R> {
     /// Does as [`Mutex::lock_blocking`] does, for a guard that owns its share of the mutex.
+    ///
+    /// ```
+    /// Mutex::lock_arc_blocking(&shared)
+    /// ```
     pub fn lock_arc_blocking(this: &Arc<Mutex<T, R>>) -> Result<MutexGuardArc<T, R>, Refusal>
         ensures mutex { IfOk result (λ guard. guard.mutex ≡ arc_value this.now) }
         ensures refused { IfErr result IsGivenUp }
@@ -179,10 +216,7 @@ impl<T: Drop, R: Wait + Clock + RandomSource + AllocGlobal + Drop> Mutex<T, R> {
         if let Some(guard) = Mutex::try_lock_arc(this) {
             return Ok(guard);
         }
-        match block_on(&this.rt, Settled(Mutex::lock_arc(this))) {
-            Ok(settled) => settled,
-            Err(_) => Err(Refusal::Memory),
-        }
+        wait_for(&this.rt, Mutex::lock_arc(this))
     }
 }
 
