@@ -423,6 +423,16 @@ pub record NeverStarved : Type 0 where
   pub patient : is_starved whole.new.lock whole.party ≡ false
   pub kept : Keeps whole
 
+-- A party that gives up its wait for the inner lock has left the list, and is counted as starved still.
+pub record LeavesCounted : Type 0 where
+  pub step : Step
+  pub party : ℕ
+  pub within : Within
+  pub gives_back : standing_of step.new party ≡ inside within (Some answer.GivenBack)
+  pub unlisted : entries_of party step.new.lock_list ≡ 0
+  pub starved : is_starved step.new.lock party ≡ true
+  pub legal : IsLegal step
+
 -- The drop of a wait in the inner lock's list that isn't starved goes on, so that what it was told reaches nobody for some steps.
 pub record DropDawdles : Type 0 where
   pub step : Step

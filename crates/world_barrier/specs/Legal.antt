@@ -211,9 +211,10 @@ pub record HasNothing (w : World) (p : ℕ) : Type 0 where
   pub clear : IsClear w p
   pub wait : wait_of w p ≡ no_wait
 
--- A dropped wait gives back its place in the list of the inner lock; it never had the lock, and has left its generation's list.
+-- A dropped wait gives back its place in the list of the inner lock, and before that it is counted as starved no more; it never had the lock, and has left its generation's list.
 pub record GivesUp (w : World) (p : ℕ) : Type 0 where
   pub lock : w.lock.holder ≢ Some p
+  pub uncounted : entries_of p w.lock_list ≡ 0 → is_starved w.lock p ≡ false
   pub list : entries_of p w.list ≡ 0
   pub wait : wait_of w p ≡ no_wait
 

@@ -126,6 +126,10 @@ pub cancelling_free : (c : Course) → is_cancelling c ≡ true → holds c ≡ 
 cancelling_free (cancelling b) h = refl
 cancelling_free _ h = absurd (cc)
 
+pub cancelling_listed : (c : Course) → is_cancelling c ≡ true → listed_there c ≡ 1
+cancelling_listed (cancelling b) h = refl
+cancelling_listed _ h = absurd (cc)
+
 -- whoever releases the lock does nothing else there
 pub out_quiet : (c : Course) → is_out c ≡ true → is_releasing c ≡ true → ⊥
 out_quiet out o h = cc h

@@ -3,7 +3,7 @@ use Rattle.world_barrier.proofs.Prelude.{◌≡◌, ◌≢◌, ℕ, ◌≤◌, t
 use Rattle.world_base.proofs.of_table.Mapped.{past_last}
 use Rattle.world_mutex.proofs.of_machine.callers.Holders as sees
 use Rattle.world_barrier.proofs.table.Seen as seen
-use Rattle.world_barrier.proofs.step.Locks.{cancelling_free, out_quiet, waiting_quiet}
+use Rattle.world_barrier.proofs.step.Locks.{cancelling_free, cancelling_listed, out_quiet, waiting_quiet}
 use Rattle.world_barrier.proofs.Numbers as numbers
 
 -- whoever has a wait has one
@@ -171,7 +171,7 @@ module _ (t : Table Barrier) (laws : IsBarrier t.machine) (fits : IsBarrierTable
   place_owns q u (ReleaseLock e) b k = ending_owns q u e k.wait k.outcome
   place_owns q u (ReleasingLock e) b k = ending_owns q u e k.wait k.outcome
   place_owns q u CancelLock b k = absurd (cc b)
-  place_owns q u CancellingLock b k = record { lock = not_holder q (cancelling_free (c_of q) k.link); list = k.owner; wait = k.wait }
+  place_owns q u CancellingLock b k = record { lock = not_holder q (cancelling_free (c_of q) k.link); uncounted = λ none. (let own = laws.lock.owners q in let one = cancelling_listed (c_of q) k.link in absurd (omega arith)); list = k.owner; wait = k.wait }
   place_owns q u CancelLeave b k = absurd (cc b)
   place_owns q u Abandon b k = absurd (cc b)
   place_owns q u Look b k = waits_there q _ k.wait (λ e. cc e)

@@ -1,5 +1,5 @@
 -- No wrong run of a barrier is legal.
-use Rattle.std.proofs.Common.{◌≡◌, ◌≢◌, ℕ, zero, suc, ◌+◌, ◌*◌, ◌/◌, ◌%◌, ◌≤◌, inl, inr, if◌then◌else◌, Bool, true, false, List, [], ◌∷◌, arith, ap, sym, ◌∙◌, subst}
+use Rattle.std.proofs.Common.{◌≡◌, ◌≢◌, Some, ℕ, zero, suc, ◌+◌, ◌*◌, ◌/◌, ◌%◌, ◌≤◌, inl, inr, if◌then◌else◌, Bool, true, false, List, [], ◌∷◌, arith, ap, sym, ◌∙◌, subst}
 use Rattle.std.proofs.Math.Nat.{mul_comm, div-add-mod}
 use Rattle.std.proofs.lemmas.Bool.{false≢true}
 use Rattle.std.proofs.lemmas.Nat.{le-div}
@@ -13,7 +13,7 @@ use Rattle.lock_program.specs.declared.refusal.Refusal.{Refusal}
 use Rattle.lock_program.specs.declared.refusal.Refusal.TheVariants as refusal
 use Rattle.world_base.specs.declared.standing.Rest.TheVariants.{Pending}
 use Rattle.lock_program.specs.Refusals.{number_of}
-use Rattle.world_base.specs.Standings.{outside, refused}
+use Rattle.world_base.specs.Standings.{outside, inside, refused}
 use Rattle.world_base.specs.Steps.{Deed, nothing, changes, does}
 use Rattle.world_barrier.specs.machine.Waits.{Wait, no_wait, uncounted, counted}
 use Rattle.world_barrier.specs.Bound.{ComesTo, IsNotified, IsToldOfLock}
@@ -315,6 +315,12 @@ returns-clause-two_told_of_lock c = λ r. (let one = r.sound.one_told in absurd 
 
 pub returns-clause-never_starved : goal.returns-clause-never_starved
 returns-clause-never_starved c = λ r. true≢false (sym (r.kept.held r.polls r.solo (inl r.long) r.room r.held) ∙ r.patient)
+
+pub returns-clause-leaves_counted : goal.returns-clause-leaves_counted
+returns-clause-leaves_counted c = λ r. (
+  let own : HasItsOwn r.step.new r.party (inside r.within (Some answer.GivenBack)) = subst (HasItsOwn r.step.new r.party) r.gives_back (r.legal.leaves_clear.each r.party) in
+  true≢false (sym r.starved ∙ own.uncounted r.unlisted)
+)
 
 pub returns-clause-drop_dawdles : goal.returns-clause-drop_dawdles
 returns-clause-drop_dawdles c = λ r. (let ended = (r.legal.abandons r.drops r.pending r.listed r.unstarved).0 in absurd (cc (ended, r.goes_on)))
