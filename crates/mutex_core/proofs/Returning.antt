@@ -1,8 +1,7 @@
 -- What is known of a list that is about to be given back.
 use Rattle.std.proofs.Common.{◌≡◌, ℕ, ◌<◌, ◌≤◌, ◌+◌, List, [], ◌∷◌, refl, sym, ap, ◌∙◌, subst, Result, Ok, Err, OnOk, OnErr, MatchResult}
 use Rattle.atomic_table.specs.Table.{Me, rest}
-use Rattle.words_mutex.specs.Seats.{listing_of}
-use Rattle.words_mutex.specs.Steps.{Has, Says, IsHeld, IsSame, CanJoin, CanHear, CanPay, CanLeave, CanStay}
+use Rattle.words_mutex.specs.Steps.{Has, Says, IsHeld, CanJoin, CanHear, CanPay, CanLeave, CanStay}
 use Rattle.mutex_core.specs.Asking.{ByHeard}
 use Rattle.mutex_core.specs.declared.heard.Heard.{Heard}
 use Rattle.mutex_core.specs.declared.heard.Heard.TheVariants.{Told, Waits}
