@@ -1,8 +1,8 @@
 //! A mutex whose word, waiting list and right to the value stand under one rule: no wake-up is lost.
 //!
 //! [`Words`] is the mutex: an atomic table with two words, the list in one slot and the right to the value in another. Its whole calls
-//! ([`Words::poll_first`], [`Words::release`] and the others) are the mutex's program. What always holds between any two atomic steps of any number of
-//! threads is [`MutexRule`], and [`no_lost_wakeup`] is what it says of a free lock.
+//! ([`Words::poll_first`], [`Words::release`] and the others) are the mutex's program. What always holds between any two atomic steps
+//! of any number of threads is [`MutexRule`] of `words_mutex`, and [`no_lost_wakeup`] is what it says of a free lock.
 #![tactic(auto)]
 
 mod calls;

@@ -17,34 +17,46 @@ use lock_place::Spare;
 /// The tables of mutexes with their lists.
 pub type Ruled<T, S> = Shared<S, View, Spare<T>, MutexRule>;
 
-/// Where the mutex's word and the list's stand, and where the list and the right to the value lie.
+/// Where the mutex's word stands.
 pub const WORD: usize = 0;
 
+/// Where the list's word stands.
 pub const LIST: usize = 1;
 
+/// Where the list lies.
 pub const LIST_SLOT: usize = 0;
 
+/// Where the right to the value lies.
 pub const RIGHT_SLOT: usize = 1;
 
-/// The words of a free lock and of a list that is in its place.
+/// The mutex's word while nobody holds the lock and nobody is starved.
 pub const FREE: u64 = 0;
 
+/// The same, while somebody holds it.
 pub const HELD: u64 = 1;
 
+/// The mutex's word while nobody holds the lock and one seat is starved.
 pub const ALONE: u64 = 2;
 
+/// The same, while somebody holds it.
 pub const HELD_ALONE: u64 = 3;
 
+/// By how much each starved seat raises the mutex's word.
 pub const COUNT: u64 = 2;
 
+/// The bit of the list's word that says that the list is out.
 pub const OUT: u64 = 1;
 
+/// That bit, and the one that says that somebody may sleep for the list.
 pub const OUT_AND_ASLEEP: u64 = 3;
 
+/// The bit of the list's word that says that somebody may sleep for the list.
 pub const ASLEEP: u64 = 2;
 
+/// The bit of the list's word that says that the list may have entries.
 pub const ENTRIES: u64 = 4;
 
+/// By how much each notification raises the list's word.
 pub const NOTIFICATION: u64 = 8;
 
 /// A look at the mutex's word: one load.
