@@ -10,7 +10,7 @@
 # of all runs the same allocation is refused. Nothing is proved.
 #
 # Run it at the top of the repository, with `rt` on the PATH: bench/refuse-allocations.sh [FOLDER]. FOLDER, with files NAME.script and
-# NAME.answers, is scripts if left out. It takes two minutes, or more where other work is done beside it.
+# NAME.answers, is scripts if left out. It takes three minutes of a processor.
 set -eu
 
 python3 - "${1:-scripts}" <<'PYTHON'
@@ -23,7 +23,6 @@ import sys
 import tempfile
 
 folder = sys.argv[1]
-# `rt try`, without the check that it starts beside the program, and without a run by its interpreter, which takes a second each time.
 here = f"{os.getcwd()}/bench"
 
 # How many a run of lockrun makes at most, beside those of a World, and a run of `threads 4` and of each example.
@@ -75,29 +74,14 @@ def run_all(crate, cases):
     """Runs a program by its cases, each a name with its input, its arguments and the number of the allocation that is refused. Returns
     what each prints, its status and what it tells."""
     most = max(number for _, _, number in cases.values())
+    found = {}
     with tempfile.TemporaryDirectory() as top:
-        program = copy_of(crate, top)
-        os.mkdir(f"{top}/cases")
+        command = [sys.executable, f"{here}/kept-program.py", f"{top}/program", str(most)]
+        subprocess.run(command, cwd=copy_of(crate, top), stdin=subprocess.DEVNULL, capture_output=True, check=True)
         for name, (given, arguments, number) in cases.items():
-            with open(f"{top}/cases/{name}", "w") as file:
-                file.write(given)
-            with open(f"{top}/cases/{name}.args", "w") as file:
-                file.write("\n".join([str(most - number), *arguments]) + "\n")
-        command = [sys.executable, f"{here}/kit.py", "--steps", "1", "--cases", f"{top}/cases", "--fail-alloc", str(most)]
-        ran = subprocess.run(command, cwd=program, stdin=subprocess.DEVNULL, capture_output=True, text=True)
-    blocks = re.split(r"^== (.*)\n", ran.stdout, flags=re.MULTILINE)
-    printed = dict(zip(blocks[1::2], blocks[2::2]))
-    found, told = {}, []
-    for line in ran.stderr.splitlines():
-        case = re.match(r"case=(\S+) run=(\w+)(?: status=(\d+))?", line)
-        if case:
-            ended = int(case[3]) if case[2] == "ended" and case[3] else case[2]
-            found[case[1]] = (printed.get(case[1], ""), ended, told)
-            told = []
-        else:
-            told = told + [line]
-    if not found:
-        sys.exit(f"{crate}: rt try ran no case\n{ran.stdout}{ran.stderr}")
+            words = [f"{top}/program", str(most - number), *arguments]
+            ran = subprocess.run(words, input=given, capture_output=True, text=True, timeout=600)
+            found[name] = (ran.stdout, ran.returncode, ran.stderr.splitlines())
     return found
 
 

@@ -7,40 +7,26 @@
 # Its calls that need no thread are tried by bench/check-refusals.sh too. Which call of a thread an allocation is made by differs from run
 # to run, so it is no check of .ci/run.
 #
-# Run it at the top of the repository, with `rt` on the PATH: bench/refuse-calls.sh. It takes some five minutes. The last line has the
+# Run it at the top of the repository, with `rt` on the PATH: bench/refuse-calls.sh. It takes a minute of a processor. The last line has the
 # figures.
 set -eu
 
 # More allocations than the program makes before its threads start, and some of those that its threads make.
 most=500
-calls=$(pwd)/bench/refused-calls.txt
-kit=$(pwd)/bench/kit.py
+bench=$(pwd)/bench
+calls=$bench/refused-calls.txt
 work=$(mktemp -d)
 trap 'rm -rf "$work"' EXIT
-mkdir "$work/cases"
 bench/run-tests.py --into "$work/copy" refused_memory
 crate=$work/copy/crates/refused_memory
-# The run named N throws away so many allocations first that the one that is refused is its Nth.
-count=1
-while [ "$count" -le "$most" ]; do
-    : >"$work/cases/$count"
-    echo $((2 * most - count)) >"$work/cases/$count.args"
-    count=$((count + 1))
-done
-
 cd "$crate"
-# (`rt try`, without the check that it starts beside the program, and without its interpreter, which takes a second for each run)
-python3 "$kit" --steps 1 --cases "$work/cases" --fail-alloc $((2 * most)) >"$work/output" 2>"$work/log" || true
-mkdir "$work/printed"
-awk -v folder="$work/printed" '
-    /^== / { file = folder "/" $2; printf "" >file; next }
-    { print >file }
-' "$work/output"
+python3 "$bench/kept-program.py" "$work/program" $((2 * most)) </dev/null >/dev/null 2>&1
+# The run of a number throws away so many allocations first that the one that is refused is of this number.
 count=1
 while [ "$count" -le "$most" ]; do
-    grep -q "^case=$count run=ended status=0 " "$work/log" && cmp -s stdout "$work/printed/$count" || {
+    "$work/program" $((2 * most - count)) >"$work/printed" 2>>"$work/log" && cmp -s stdout "$work/printed" || {
         echo "allocation $count:" >&2
-        cat "$work/printed/$count" >&2
+        cat "$work/printed" >&2
         exit 1
     }
     count=$((count + 1))
