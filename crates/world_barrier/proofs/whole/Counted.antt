@@ -64,12 +64,12 @@ module _ (known : ℕ → Account) (w : World) (p : ℕ) (i : Inputs) (n : ℕ) 
       let counts = (whole t p i (Going p i solo.memory) (EndsLong p i solo.memory) (inside p i solo.memory) (leads p i solo.memory)
       known w Call.Poll n a v k.stage k.within (WaitLock k.its_aim) refl k.at k.called k.first k.starts (λ f y laws step. starts p i solo.memory k.its_aim f t.machine y b step) runs ended).ended in
       ap (λ x. is_starved x.lock p) stands.seen ∙ (sees.starved_at v.behind.machine.lock.courses p ∙ ap (λ (k : ℕ). k == 1) counts) where
-    one : (k : ℕ) → holders t.machine.lock ≡ k → holders t.machine.lock ≤ 1 → holders t.machine.lock ≡ 1
-    one zero is few = absurd (taken (ap (λ x. x.lock.holder) stood.seen ∙ sees.none_held 0 t.machine.lock.courses is))
-    one (suc zero) is few = is
-    one (suc (suc k)) is few = absurd (omega (arith, few, is))
+        one : (k : ℕ) → holders t.machine.lock ≡ k → holders t.machine.lock ≤ 1 → holders t.machine.lock ≡ 1
+        one zero is few = absurd (taken (ap (λ x. x.lock.holder) stood.seen ∙ sees.none_held 0 t.machine.lock.courses is))
+        one (suc zero) is few = is
+        one (suc (suc k)) is few = absurd (omega (arith, few, is))
 
-    long_so : (b : Bool) (k : ℕ) → (b ≡ true) ⊎ (0 < k) → b || nat_lt 0 k ≡ true
-    long_so true k h = refl
-    long_so false k (inl e) = absurd (false≢true e)
-    long_so false k (inr h) = grind (arith, nat_tests)
+        long_so : (b : Bool) (k : ℕ) → (b ≡ true) ⊎ (0 < k) → b || nat_lt 0 k ≡ true
+        long_so true k h = refl
+        long_so false k (inl e) = absurd (false≢true e)
+        long_so false k (inr h) = grind (arith, nat_tests)

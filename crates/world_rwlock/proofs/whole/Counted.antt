@@ -93,47 +93,47 @@ module _ (known : ℕ → Account) (w : World) (p : ℕ) (i : Inputs) (n : ℕ) 
   held solo why below taken =
       let counts = along Moved accounts_after HoldsWell p i (Long p i solo.memory) (EndsLong p i solo.memory) (onward p i solo.memory) known n w (beginning p Call.Poll i) a v first ended runs in
       ap (λ y. is_starved y p) stands.seen ∙ (sees.starved_at v.behind.machine.lock.turn.courses p ∙ ap (λ (k : ℕ). k == 1) counts) where
-    seen_pending : standing_of (view_of w.behind) p ≡ outside Rest.Pending
-    seen_pending = subst (λ x. standing_of x p ≡ outside Rest.Pending) stood.seen solo.pending
+        seen_pending : standing_of (view_of w.behind) p ≡ outside Rest.Pending
+        seen_pending = subst (λ x. standing_of x p ≡ outside Rest.Pending) stood.seen solo.pending
 
-    marked : is_marked_at (is_party p) w.behind.machine.lock.turn.entries ≡ true
-    marked = subst (λ x. is_marked_at (is_party p) x.turn_list ≡ true) stood.seen solo.marked
+        marked : is_marked_at (is_party p) w.behind.machine.lock.turn.entries ≡ true
+        marked = subst (λ x. is_marked_at (is_party p) x.turn_list ≡ true) stood.seen solo.marked
 
-    some : 0 < listed (turn_at w.behind.machine.lock.turn.courses p)
-    some = omega (arith, stood.laws.turn.owners p, marked_listed p w.behind.machine.lock.turn.entries marked)
+        some : 0 < listed (turn_at w.behind.machine.lock.turn.courses p)
+        some = omega (arith, stood.laws.turn.owners p, marked_listed p w.behind.machine.lock.turn.entries marked)
 
-    waits : (q : Purpose) × (place_at w.behind.machine.lock.places p ≡ Place.WaitTurn q)
-    waits = waits_there (place_at w.behind.machine.lock.places p) (in_turn_list (turn_at w.behind.machine.lock.turn.courses p) (place_at w.behind.machine.lock.places p) (future w p i stood.laws stood.fits seen_pending) (stood.laws.in_turn p) some)
+        waits : (q : Purpose) × (place_at w.behind.machine.lock.places p ≡ Place.WaitTurn q)
+        waits = waits_there (place_at w.behind.machine.lock.places p) (in_turn_list (turn_at w.behind.machine.lock.turn.courses p) (place_at w.behind.machine.lock.places p) (future w p i stood.laws stood.fits seen_pending) (stood.laws.in_turn p) some)
 
-    one : holders w.behind.machine.lock.turn ≡ 1
-    one = by_count (holders w.behind.machine.lock.turn) refl (stood.laws.turn.one_holder) where
-      by_count : (k : ℕ) → holders w.behind.machine.lock.turn ≡ k → k ≤ 1 → holders w.behind.machine.lock.turn ≡ 1
-      by_count zero is few = absurd (taken (ap (λ x. x.state.turn) stood.seen ∙ ap (λ o. turn_by o w.behind.machine.lock.places) (sees.none_held 0 w.behind.machine.lock.turn.courses is)))
-      by_count (suc zero) is few = is
-      by_count (suc (suc k)) is few = absurd (omega (arith, few))
+        one : holders w.behind.machine.lock.turn ≡ 1
+        one = by_count (holders w.behind.machine.lock.turn) refl (stood.laws.turn.one_holder) where
+          by_count : (k : ℕ) → holders w.behind.machine.lock.turn ≡ k → k ≤ 1 → holders w.behind.machine.lock.turn ≡ 1
+          by_count zero is few = absurd (taken (ap (λ x. x.state.turn) stood.seen ∙ ap (λ o. turn_by o w.behind.machine.lock.places) (sees.none_held 0 w.behind.machine.lock.turn.courses is)))
+          by_count (suc zero) is few = is
+          by_count (suc (suc k)) is few = absurd (omega (arith, few))
 
-    long_so : (b : Bool) (k : ℕ) → (b ≡ true) ⊎ (0 < k) → b || nat_lt 0 k ≡ true
-    long_so true k h = refl
-    long_so false k (inl e) = absurd (false≢true e)
-    long_so false k (inr h) = grind (arith, nat_tests)
+        long_so : (b : Bool) (k : ℕ) → (b ≡ true) ⊎ (0 < k) → b || nat_lt 0 k ≡ true
+        long_so true k h = refl
+        long_so false k (inl e) = absurd (false≢true e)
+        long_so false k (inr h) = grind (arith, nat_tests)
 
-    begins : BeginsLong i.starving p w.behind.machine.lock.turn
-    begins =
-        let F : Place → Type 0 = λ y. fits_turn y (turn_at w.behind.machine.lock.turn.courses p) ≡ true in
-        let below' = subst (λ x. how_many x.state.starved < x.starved_limit) stood.seen below in
-        record {
-          held = one;
-          called = subst F waits.1 (stood.laws.in_turn p);
-          marked = marked;
-          long = long_so i.starving (starved w.behind.machine.lock.turn) (elim why as (λ _. (i.starving ≡ true) ⊎ (0 < starved w.behind.machine.lock.turn)) [ inl e ↦ inl e | inr many ↦ inr (omega (arith, many, starved_behind w stood)) ]);
-          below = omega (arith, below', sees.how_many_counted w.behind.machine.lock.turn.courses);
-        }
+        begins : BeginsLong i.starving p w.behind.machine.lock.turn
+        begins =
+            let F : Place → Type 0 = λ y. fits_turn y (turn_at w.behind.machine.lock.turn.courses p) ≡ true in
+            let below' = subst (λ x. how_many x.state.starved < x.starved_limit) stood.seen below in
+            record {
+              held = one;
+              called = subst F waits.1 (stood.laws.in_turn p);
+              marked = marked;
+              long = long_so i.starving (starved w.behind.machine.lock.turn) (elim why as (λ _. (i.starving ≡ true) ⊎ (0 < starved w.behind.machine.lock.turn)) [ inl e ↦ inl e | inr many ↦ inr (omega (arith, many, starved_behind w stood)) ]);
+              below = omega (arith, below', sees.how_many_counted w.behind.machine.lock.turn.courses);
+            }
 
-    first : (b : Answer) (x : World) → Moved w (beginning p Call.Poll i) b x → Onward (Long p i solo.memory) (EndsLong p i solo.memory) b x
-    first b x s =
-        let stage = (at_stage w p i stood.laws stood.fits seen_pending).1 in
-        let here : Place = place_at w.behind.machine.lock.places p in
-        let k = acting w.behind x.behind (beginning p Call.Poll i) b (laws w s.did.stood) (laws x s.did.stands) (within Kind.LaterPoll Rest.Pending)
-        (ap (λ s. call_at (knows_at here) s (Begin Call.Poll i)) stage) (ap (λ s. polls_again s (Begin Call.Poll i)) stage) refl s.did.step in
-        let from : k.from ≡ Place.WaitTurn waits.0 = (let S : Place → Type 0 = λ y. start_of Call.Poll y ≡ Some k.from in sym (some_eq (subst S waits.1 k.starts))) in
-        begins_so p i solo.memory w x (Begin Call.Poll i) b (within Kind.LaterPoll Rest.Pending) k waits.0 from refl begins
+        first : (b : Answer) (x : World) → Moved w (beginning p Call.Poll i) b x → Onward (Long p i solo.memory) (EndsLong p i solo.memory) b x
+        first b x s =
+            let stage = (at_stage w p i stood.laws stood.fits seen_pending).1 in
+            let here : Place = place_at w.behind.machine.lock.places p in
+            let k = acting w.behind x.behind (beginning p Call.Poll i) b (laws w s.did.stood) (laws x s.did.stands) (within Kind.LaterPoll Rest.Pending)
+            (ap (λ s. call_at (knows_at here) s (Begin Call.Poll i)) stage) (ap (λ s. polls_again s (Begin Call.Poll i)) stage) refl s.did.step in
+            let from : k.from ≡ Place.WaitTurn waits.0 = (let S : Place → Type 0 = λ y. start_of Call.Poll y ≡ Some k.from in sym (some_eq (subst S waits.1 k.starts))) in
+            begins_so p i solo.memory w x (Begin Call.Poll i) b (within Kind.LaterPoll Rest.Pending) k waits.0 from refl begins

@@ -201,7 +201,12 @@ impl Semaphore {
     }
 
     /// One action of a party's program, whose place is `from`. `memory` says whether a join finds memory.
-    pub(crate) fn take_step(&mut self, party: u32, from: Place, memory: bool) -> Next<Place, Position>
+    pub(crate) fn take_step(
+        &mut self,
+        party: u32,
+        from: Place,
+        memory: bool,
+    ) -> Next<Place, Position>
         requires known { party < length self.old.positions }
         requires stands { StandsAt from (position_at self.old.positions party) }
         ensures { ActsSo memory party from result self.old self.new }

@@ -318,9 +318,9 @@ returns-clause-never_starved c = λ r. true≢false (sym (r.kept.held r.polls r.
 
 pub returns-clause-leaves_counted : goal.returns-clause-leaves_counted
 returns-clause-leaves_counted c = λ r. (
-  let own : HasItsOwn r.step.new r.party (inside r.within (Some answer.GivenBack)) = subst (HasItsOwn r.step.new r.party) r.gives_back (r.legal.leaves_clear.each r.party) in
-  true≢false (sym r.starved ∙ own.uncounted r.unlisted)
-)
+    let own : HasItsOwn r.step.new r.party (inside r.within (Some answer.GivenBack)) = subst (HasItsOwn r.step.new r.party) r.gives_back (r.legal.leaves_clear.each r.party) in
+    true≢false (sym r.starved ∙ own.uncounted r.unlisted)
+    )
 
 pub returns-clause-drop_dawdles : goal.returns-clause-drop_dawdles
 returns-clause-drop_dawdles c = λ r. (let ended = (r.legal.abandons r.drops r.pending r.listed r.unstarved).0 in absurd (cc (ended, r.goes_on)))

@@ -182,17 +182,17 @@ begins_long l k memory p from n known acts c starts starving found polls b =
     let F : Next → Type 0 = λ m. First long from m in
     let one : by.holders l ≡ 1 = sym (holders_seen l.places) ∙ b.held in
     by_first n refl at.0 one (no_holder from at.1) did b (subst F (sym did.next_is) (asks long p from did.found l k.entries did.finds did.list b.marked b.long at.1)) where
-  by_first : (m : Next) → n ≡ m → place_at l.places p ≡ from → by.holders l ≡ 1 → holds from ≡ 0 → Acts true p from n l k → BeginsLong starving p (seen l) → First (starving || is_some_starved (seen l)) from m → StaysLong starving p (step_of m) (seen k)
-  by_first (Next.Do a y) is here one free did b h =
-      let same : SameRoles from (place_at l.places p) = same_there (place_at l.places p) from here in
-      let at : place_at k.places p ≡ y = lands l k p from n known did same starving one free ∙ ap (place_after from) is in
-      let places : k.places ≡ set l.places p y = did.places ∙ ap (λ m. set l.places p (place_after from m)) is in
-      let count : sum_by counted (set l.places p y) + counted (place_at l.places p) ≡ sum_by counted l.places + counted y = sum_by-set counted l.places p y Place.Out known in
-      let starved_same : mutex.starved (seen k) ≡ mutex.starved (seen l) = omega (arith, starved_seen k.places, starved_seen l.places, count, ap (sum_by counted) places, same.starving, h.1) in
-      let L : ℕ → Type 0 = λ z. LongAt (starving || nat_lt 0 z) y in
-      let under = b.below in
-      is_there l k p from n known did same starving one free y at (subst L (sym starved_same) h.0) (λ none. omega (arith, under, starved_seen l.places)) (λ none. sym h.1 ∙ none)
-  by_first (Next.End e) is here one free did b h = absurd h
+      by_first : (m : Next) → n ≡ m → place_at l.places p ≡ from → by.holders l ≡ 1 → holds from ≡ 0 → Acts true p from n l k → BeginsLong starving p (seen l) → First (starving || is_some_starved (seen l)) from m → StaysLong starving p (step_of m) (seen k)
+      by_first (Next.Do a y) is here one free did b h =
+          let same : SameRoles from (place_at l.places p) = same_there (place_at l.places p) from here in
+          let at : place_at k.places p ≡ y = lands l k p from n known did same starving one free ∙ ap (place_after from) is in
+          let places : k.places ≡ set l.places p y = did.places ∙ ap (λ m. set l.places p (place_after from m)) is in
+          let count : sum_by counted (set l.places p y) + counted (place_at l.places p) ≡ sum_by counted l.places + counted y = sum_by-set counted l.places p y Place.Out known in
+          let starved_same : mutex.starved (seen k) ≡ mutex.starved (seen l) = omega (arith, starved_seen k.places, starved_seen l.places, count, ap (sum_by counted) places, same.starving, h.1) in
+          let L : ℕ → Type 0 = λ z. LongAt (starving || nat_lt 0 z) y in
+          let under = b.below in
+          is_there l k p from n known did same starving one free y at (subst L (sym starved_same) h.0) (λ none. omega (arith, under, starved_seen l.places)) (λ none. sym h.1 ∙ none)
+      by_first (Next.End e) is here one free did b h = absurd h
 
 -- ---- the drop of a party that waits and isn't starved
 
@@ -203,11 +203,11 @@ abandons l k memory p from n did c starts cancels waits =
     let Q : Place → Type 0 = λ y. (step_of (next_of y did.found) ≡ Step.End End.GivenBack) × (OnParties p (action_of y) did.found l.entries k.entries → Finds memory (action_of y) did.found l → k.entries ≡ list_after p leaves l.entries) in
     let so = subst Q (sym is) (refl, left did.found) in
     (ap step_of did.next_is ∙ so.0, so.1 did.list did.finds) where
-  leaves_at : (x from : Place) → course_of x ≡ course.waiting false → start_of LockCall.Cancel x ≡ Some from → from ≡ CancelLeave
-  leaves_at Ask from e s = sym (some_eq s)
-  leaves_at AskStarved from e s = absurd (cc e)
-  leaves_at _ from e s = absurd (cc e)
+      leaves_at : (x from : Place) → course_of x ≡ course.waiting false → start_of LockCall.Cancel x ≡ Some from → from ≡ CancelLeave
+      leaves_at Ask from e s = sym (some_eq s)
+      leaves_at AskStarved from e s = absurd (cc e)
+      leaves_at _ from e s = absurd (cc e)
 
-  left : (f : Found) → OnParties p (action_of CancelLeave) f l.entries k.entries → Finds memory (action_of CancelLeave) f l → k.entries ≡ list_after p leaves l.entries
-  left Done o e = o
-  left _ o e = absurd e
+      left : (f : Found) → OnParties p (action_of CancelLeave) f l.entries k.entries → Finds memory (action_of CancelLeave) f l → k.entries ≡ list_after p leaves l.entries
+      left Done o e = o
+      left _ o e = absurd e

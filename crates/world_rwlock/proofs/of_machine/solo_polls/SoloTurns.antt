@@ -129,18 +129,18 @@ module _ (memory : Bool) (p : ℕ) (e : End) (new : RwLock) where
   releases_full m known here (last old starving to a) =
       let acts : Acts memory starving p (Place.ReleaseTurn Ending.RefuseReaders) (Next.End e to) m new = rw here at a in
       by_last to acts.found acts.next_is where
-    by_last : (to : Place) (f : Found) → Next.End e to ≡ next_of (Place.ReleaseTurn Ending.RefuseReaders) f → e ≡ Refused Readers
-    by_last to (Turn TurnStep.More) h = absurd (cc h)
-    by_last to (Turn (TurnStep.End x)) h = (end_eq e (Refused Readers) to (Place.Made Wanted.UpgradableRead) h).0
-    by_last to _ h = (end_eq e (Refused Readers) to (Place.Made Wanted.UpgradableRead) h).0
+        by_last : (to : Place) (f : Found) → Next.End e to ≡ next_of (Place.ReleaseTurn Ending.RefuseReaders) f → e ≡ Refused Readers
+        by_last to (Turn TurnStep.More) h = absurd (cc h)
+        by_last to (Turn (TurnStep.End x)) h = (end_eq e (Refused Readers) to (Place.Made Wanted.UpgradableRead) h).0
+        by_last to _ h = (end_eq e (Refused Readers) to (Place.Made Wanted.UpgradableRead) h).0
   releases_full m known here (step old mid starving a to b on) =
       let acts : Acts memory starving p (Place.ReleaseTurn Ending.RefuseReaders) (Next.Do a to) m mid = rw here at b in
       let there = lands starving (Place.ReleaseTurn Ending.RefuseReaders) (Next.Do a to) m mid known acts in
       by_step a to acts.found acts.next_is there.1 where
-    by_step : (a : Action) (to : Place) (f : Found) → Next.Do a to ≡ next_of (Place.ReleaseTurn Ending.RefuseReaders) f → place_at mid.places p ≡ to → e ≡ Refused Readers
-    by_step a to (Turn TurnStep.More) h at = releases_last mid (at ∙ cc h) on
-    by_step a to (Turn (TurnStep.End x)) h at = never a (Refused Readers) to (Place.Made Wanted.UpgradableRead) h
-    by_step a to _ h at = never a (Refused Readers) to (Place.Made Wanted.UpgradableRead) h
+        by_step : (a : Action) (to : Place) (f : Found) → Next.Do a to ≡ next_of (Place.ReleaseTurn Ending.RefuseReaders) f → place_at mid.places p ≡ to → e ≡ Refused Readers
+        by_step a to (Turn TurnStep.More) h at = releases_last mid (at ∙ cc h) on
+        by_step a to (Turn (TurnStep.End x)) h at = never a (Refused Readers) to (Place.Made Wanted.UpgradableRead) h
+        by_step a to _ h at = never a (Refused Readers) to (Place.Made Wanted.UpgradableRead) h
 
   meets_readers : (m : RwLock) → p < length m.places → place_at m.places p ≡ Add false → m.limit ≤ readers m → GoesOnAlone memory p e new m → e ≡ Refused Readers
   meets_readers m known here full (last old starving to a) =
@@ -151,8 +151,8 @@ module _ (memory : Bool) (p : ℕ) (e : End) (new : RwLock) where
       let there = lands starving (Add false) (Next.Do a to) m mid known acts in
       let h = acts.next_is ∙ fills memory m acts.found acts.finds full in
       releases_full mid there.0 (there.1 ∙ to_is a to h) on where
-    to_is : (a : Action) (to : Place) → Next.Do a to ≡ go_to (Place.ReleaseTurn Ending.RefuseReaders) → to ≡ Place.ReleaseTurn Ending.RefuseReaders
-    to_is a to h = cc h
+        to_is : (a : Action) (to : Place) → Next.Do a to ≡ go_to (Place.ReleaseTurn Ending.RefuseReaders) → to ≡ Place.ReleaseTurn Ending.RefuseReaders
+        to_is a to h = cc h
 
   marks_it : (m : RwLock) → p < length m.places → place_at m.places p ≡ Mark → readers m ≡ 0 → GoesOnAlone memory p e new m → TookTurn p e new
   marks_it m known here none (last old starving to a) =

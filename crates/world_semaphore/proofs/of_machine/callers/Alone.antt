@@ -115,7 +115,13 @@ never_tells = opened NeverTells (record {
 module _ {memory : Bool} {p : ℕ} {s : Step} {old new : Permits} where
   abbrev pub begun_acted : (c : SemaphoreCall) → HasBegun c memory p s old new → Acted memory p s old new
   begun_acted c h = record {
-    before = h.before; after = h.after; old_is = h.old_is; new_is = h.new_is; kept_then = h.kept_then; from = h.from; next = h.next;
+    before = h.before;
+    after = h.after;
+    old_is = h.old_is;
+    new_is = h.new_is;
+    kept_then = h.kept_then;
+    from = h.from;
+    next = h.next;
     did = record { acts = h.acts; laws = h.laws; laws_then = h.laws_then; kept = h.kept; known = h.known; stands = stands c (position_at h.before.positions p) h.from h.starts_at };
     step = h.step;
     tells = λ a e. absurd (never_tells c (position_at h.before.positions p) h.from h.starts_at a e);
@@ -125,7 +131,13 @@ module _ {memory : Bool} {p : ℕ} {s : Step} {old new : Permits} where
   gone_acted h =
       let at : position_at h.before.positions p ≡ At h.from = went_at (position_at h.before.positions p) h.from h.starts_at in
       record {
-        before = h.before; after = h.after; old_is = h.old_is; new_is = h.new_is; kept_then = h.kept_then; from = h.from; next = h.next;
+        before = h.before;
+        after = h.after;
+        old_is = h.old_is;
+        new_is = h.new_is;
+        kept_then = h.kept_then;
+        from = h.from;
+        next = h.next;
         did = record { acts = h.acts; laws = h.laws; laws_then = h.laws_then; kept = h.kept; known = h.known; stands = at_place (position_at h.before.positions p) h.from at };
         step = h.step;
         tells = λ a e. at;
@@ -192,10 +204,10 @@ module _ (memory : Bool) (p k : ℕ) where
 
   led : (s : Step) (m : Permits) → Polls k s (course_at m.courses p) → decided_then s (course_at m.courses p) ≡ Some Got → On memory p Taking Taken s m
   led s m leads got = (
-      (λ e. (let P : Step → Type 0 = λ z. Polls k z (course_at m.courses p) × (decided_then z (course_at m.courses p) ≡ Some Got) in let so = subst P e (leads, got) in (so.0.0, so.0.1, so.1))),
-      (λ d e. (let P : Step → Type 0 = λ z. Polls k z (course_at m.courses p) × (decided_then z (course_at m.courses p) ≡ Some Got) in let so : P (step.End d) = subst P e (leads, got) in
-          let is : d ≡ Got = some_eq so.1 in let Q : End → Type 0 = λ z. Polls k (step.End z) (course_at m.courses p) in (is, subst Q is so.0))),
-    )
+    (λ e. (let P : Step → Type 0 = λ z. Polls k z (course_at m.courses p) × (decided_then z (course_at m.courses p) ≡ Some Got) in let so = subst P e (leads, got) in (so.0.0, so.0.1, so.1))),
+    (λ d e. (let P : Step → Type 0 = λ z. Polls k z (course_at m.courses p) × (decided_then z (course_at m.courses p) ≡ Some Got) in let so : P (step.End d) = subst P e (leads, got) in
+        let is : d ≡ Got = some_eq so.1 in let Q : End → Type 0 = λ z. Polls k (step.End z) (course_at m.courses p) in (is, subst Q is so.0))),
+  )
 
   took : (s : Step) (old new : Permits) → HasGoneOn memory p s old new → Taking old → On memory p Taking Taken s new
   took s old new h g =
@@ -309,9 +321,9 @@ module _ (memory : Bool) (p : ℕ) where
 
     pub passed : IsCovered old → On memory p IsCovered (λ e m. MarksWanted m) s new
     passed c = (
-        (λ e. (let z = more_at n (sym next_step ∙ e) in seen_then IsCovered (on_then c z.0 z.1))),
-        (λ e is. seen_then MarksWanted (marks_then c e is)),
-      )
+      (λ e. (let z = more_at n (sym next_step ∙ e) in seen_then IsCovered (on_then c z.0 z.1))),
+      (λ e is. seen_then MarksWanted (marks_then c e is)),
+    )
 
     -- ---- a party that took no notification
 

@@ -95,9 +95,10 @@ module _ (memory : Bool) (p : ℕ) (from : Place) (next : Next) (s t : Semaphore
 
     pub at_once : ActsAtOnce c p k (step_of next) (seen s) (seen t)
     at_once = record {
-      takes = λ h. (let so = look h in
-          ((λ e. (let few = so.2.shares.0 (sym (clauses.share_new memory p from next s t did) ∙ (e ∙ ap guard_of so.1)) in omega (arith, few, so.1))),
-          (λ few. clauses.share_new memory p from next s t did ∙ (so.2.shares.1 (omega (arith, few, so.1)) ∙ ap guard_of (sym so.1)))));
+      takes = λ h. (let so = look h in (
+        (λ e. (let few = so.2.shares.0 (sym (clauses.share_new memory p from next s t did) ∙ (e ∙ ap guard_of so.1)) in omega (arith, few, so.1))),
+        (λ few. clauses.share_new memory p from next s t did ∙ (so.2.shares.1 (omega (arith, few, so.1)) ∙ ap guard_of (sym so.1))),
+      ));
       looks = λ h. (let so = look h in clauses.entries_seen memory p from next s t did ∙ so.2.same (size_of (seen s)) p s.entries);
       decides = λ h few. clauses.then_decided memory p from next s t did ∙ decided_as h few;
       ends = λ h few. step_is ∙ ended_as h few;
@@ -137,9 +138,9 @@ module _ (memory : Bool) (p : ℕ) (from : Place) (next : Next) (s t : Semaphore
             | inl got ↦ got.1 ∙ ap step.End (sym (b.gets so.0 (inl got.0)))
             | inr tried ↦ tried.1 ∙ ap step.End (sym (b.ends so.0 tried.0))
           ] where
-        either : {n : ℕ} → (from ≡ Take n false false) ⊎ (from ≡ Try n) → (from ≡ Take n false false) ⊎ ((from ≡ Retake n) ⊎ (from ≡ Try n))
-        either (inl e) = inl e
-        either (inr e) = inr (inr e)
+            either : {n : ℕ} → (from ≡ Take n false false) ⊎ (from ≡ Try n) → (from ≡ Take n false false) ⊎ ((from ≡ Retake n) ⊎ (from ≡ Try n))
+            either (inl e) = inl e
+            either (inr e) = inr (inr e)
 
 -- ---- what is told in turn
 

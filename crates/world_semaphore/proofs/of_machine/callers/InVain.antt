@@ -131,15 +131,15 @@ hands_over m few_marked p e new called short call =
     let size = length m.entries in
     let done = whole true p (GoesInVain k a size short p m.words) (HasHanded k a size short p m.words) go SemaphoreCall.Poll e new m first call in
     record { pending = done.pending; words = done.words; as_long = done.as_long; enough = λ q marked. omega (arith, done.enough q marked, ap (λ (v : Words). v.available) done.words) } where
-  go : (s : Step) (old new : Permits) (h : HasGoneOn true p s old new) → GoesInVain (size_of m p) m.words.available (length m.entries) short p m.words old → On true p (GoesInVain (size_of m p) m.words.available (length m.entries) short p m.words) (HasHanded (size_of m p) m.words.available (length m.entries) short p m.words) s new
-  go s old new h g = let P : Place → Type 0 = λ y. IsHandingOver (size_of m p) m.words.available (length m.entries) short p y old in handing (size_of m p) m.words.available (length m.entries) short p m.words s old new (gone_acted h) g.0 (subst P (going_at h) g.1)
+      go : (s : Step) (old new : Permits) (h : HasGoneOn true p s old new) → GoesInVain (size_of m p) m.words.available (length m.entries) short p m.words old → On true p (GoesInVain (size_of m p) m.words.available (length m.entries) short p m.words) (HasHanded (size_of m p) m.words.available (length m.entries) short p m.words) s new
+      go s old new h g = let P : Place → Type 0 = λ y. IsHandingOver (size_of m p) m.words.available (length m.entries) short p y old in handing (size_of m p) m.words.available (length m.entries) short p m.words s old new (gone_acted h) g.0 (subst P (going_at h) g.1)
 
-  first : (s : Step) (mid : Permits) (h : HasBegun SemaphoreCall.Poll true p s m mid) → On true p (GoesInVain (size_of m p) m.words.available (length m.entries) short p m.words) (HasHanded (size_of m p) m.words.available (length m.entries) short p m.words) s mid
-  first s mid h =
-      let is : course_of (position_at h.before.positions p) ≡ waiting (size_of m p) = sym (seen_at h.before.positions p) ∙ (ap (λ (z : Permits). course_at z.courses p) (sym h.old_is) ∙ called.0) in
-      let from : Retake (size_of m p) ≡ h.from = sym (waiting_retakes SemaphoreCall.Poll (position_at h.before.positions p) h.from h.starts_at refl (size_of m p) is) in
-      let P : Place → Type 0 = λ y. IsHandingOver (size_of m p) m.words.available (length m.entries) short p y m in
-      handing (size_of m p) m.words.available (length m.entries) short p m.words s m mid (begun_acted SemaphoreCall.Poll h) refl (subst P from (record { few = refl; vain = (refl, refl, called.1, one_marked p m.entries called.1 few_marked) }))
+      first : (s : Step) (mid : Permits) (h : HasBegun SemaphoreCall.Poll true p s m mid) → On true p (GoesInVain (size_of m p) m.words.available (length m.entries) short p m.words) (HasHanded (size_of m p) m.words.available (length m.entries) short p m.words) s mid
+      first s mid h =
+          let is : course_of (position_at h.before.positions p) ≡ waiting (size_of m p) = sym (seen_at h.before.positions p) ∙ (ap (λ (z : Permits). course_at z.courses p) (sym h.old_is) ∙ called.0) in
+          let from : Retake (size_of m p) ≡ h.from = sym (waiting_retakes SemaphoreCall.Poll (position_at h.before.positions p) h.from h.starts_at refl (size_of m p) is) in
+          let P : Place → Type 0 = λ y. IsHandingOver (size_of m p) m.words.available (length m.entries) short p y m in
+          handing (size_of m p) m.words.available (length m.entries) short p m.words s m mid (begun_acted SemaphoreCall.Poll h) refl (subst P from (record { few = refl; vain = (refl, refl, called.1, one_marked p m.entries called.1 few_marked) }))
 
 -- ---- polls in turn
 

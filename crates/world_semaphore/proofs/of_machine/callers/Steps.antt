@@ -72,11 +72,11 @@ module _ (memory : Bool) (p : ℕ) (from : Place) (next : Next) (s t : Semaphore
         bounded = (let few = b.few (is_marked_at (is_party p) s.entries) in omega (arith, less, few));
         done = has_acted (start_of c) starts;
       }) where
-    leads_so : (c : SemaphoreCall) (k : ℕ) → IsBegun c x from → Begins c (wanted_by c (course_of x)) (step_of next) (course_at (seen t).courses p)
-    leads_so c k b =
-        let A : Step → Type 0 = λ z. Begins c (wanted_by c (course_of x)) z (course_at (seen t).courses p) in
-        let B : Course → Type 0 = λ z. Begins c (wanted_by c (course_of x)) (step_of (next_of from did.acts.found)) z in
-        subst A (sym (ap step_of did.acts.next_is)) (subst B (sym (clauses.course_new memory p from next s t did)) (b.leads did.acts.found))
+        leads_so : (c : SemaphoreCall) (k : ℕ) → IsBegun c x from → Begins c (wanted_by c (course_of x)) (step_of next) (course_at (seen t).courses p)
+        leads_so c k b =
+            let A : Step → Type 0 = λ z. Begins c (wanted_by c (course_of x)) z (course_at (seen t).courses p) in
+            let B : Course → Type 0 = λ z. Begins c (wanted_by c (course_of x)) (step_of (next_of from did.acts.found)) z in
+            subst A (sym (ap step_of did.acts.next_is)) (subst B (sym (clauses.course_new memory p from next s t did)) (b.leads did.acts.found))
 
   module _ (at : x ≡ At from) where
     begun_there : is_begun from ≡ true
