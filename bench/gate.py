@@ -10,8 +10,9 @@ Run it at the top of a clean checkout. One after the other:
 What earlier runs on this machine passed is kept, and proved and tried again only with --anew. The last line is 'N passed, M failed', and
 the status is 1 if any failed.
 
---minutes appends what each crate took of a processor. --record writes all of that file as the table of docs/GATE.md. Every half second a
-look at the processes of `rt ci` tells what they took, so that what one takes after the last look is missing: some seconds in all.
+--minutes appends what each crate took of a processor. --record writes all of that file to the table of docs/GATE.md, in which what was
+kept stays as it was. Every half second a look at the processes of `rt ci` tells what they took, so that what one takes after the last look
+is missing: some seconds in all.
 """
 
 import argparse
@@ -95,12 +96,16 @@ def prove(anew, minutes):
     return passed, failed + (status != 0 and not failed)
 
 
-def table(minutes):
-    """The lines of the table, the most costly crate first."""
+def table(minutes, before):
+    """The lines of the table, the most costly crate first. What this run had no need to do is as it was before."""
     took = defaultdict(lambda: dict.fromkeys(KINDS, 0.0))
     for line in text_of(minutes).splitlines():
         crate, kind, seconds = line.split('\t')
         took[crate][kind] += float(seconds) / 60
+    for crate, *cells in re.findall(r'(?m)^\| `(\w+)` \|([^|]*)\|([^|]*)\|([^|]*)\|', before):
+        if os.path.isdir(f'crates/{crate}') or os.path.isdir(f'tests/{crate}') or crate in took:
+            for kind, cell in zip(KINDS, cells):
+                took[crate][kind] = took[crate][kind] or float(cell.strip() or 0)
     yield f'| Crate | {" | ".join(KINDS.values())} | all |'
     yield f'|---|{"--:|" * (len(KINDS) + 1)}'
     for crate, cells in sorted(took.items(), key=lambda it: -sum(it[1].values())):
@@ -113,9 +118,10 @@ def table(minutes):
 def record(minutes, last):
     """Writes the table to its page."""
     head, _, rest = text_of(PAGE).partition(BEGIN)
-    said = f'The last run ended with `{last}`, on {len(os.sched_getaffinity(0))} processors. Minutes of a processor:'
+    before, _, rest = rest.partition(END)
+    said = f'The last run ended with `{last}`, on {len(os.sched_getaffinity(0))} processors. Minutes of a processor, each as it was last done:'
     with open(PAGE, 'w', encoding='utf-8') as file:
-        file.write('\n'.join([head + BEGIN, '', said, '', *table(minutes), '', END]) + rest.partition(END)[2])
+        file.write('\n'.join([head + BEGIN, '', said, '', *table(minutes, before), '', END]) + rest)
 
 
 def main():
