@@ -1,25 +1,17 @@
 //! A barrier and its future.
 
-use crate::moved::{AMPLE, moved, shared};
-use async_lock::{Barrier, Runtime};
-use std::process::Abort;
+use crate::moved::{moved, shared};
+use async_lock::{Barrier, Refusal, Runtime};
 use std::thread::Threads;
 
-fn borrowed<R>(rt: &R, barrier: &Barrier<R>)
-where
-    R: Runtime + Abort + Threads + Send + Sync,
-{
-    shared(rt, barrier);
-    moved(rt, barrier.wait());
+fn borrowed<R: Runtime + Threads + Send + Sync>(rt: &R, barrier: &Barrier<R>) -> bool {
+    shared(rt, barrier) && moved(rt, barrier.wait())
 }
 
-/// Shares the lock, and moves each.
-pub(crate) fn all<R>(rt: R)
-where
-    R: Runtime + Abort + Threads + Send + Sync + Copy,
-{
-    let barrier = Barrier::new(rt, 1).expect(&rt, AMPLE);
-    borrowed(&rt, &barrier);
-    moved(&rt, barrier.wait_blocking().expect(&rt, AMPLE));
-    moved(&rt, barrier);
+/// Shares the barrier, and moves each.
+pub(crate) fn all<R: Runtime + Threads + Send + Sync + Copy>(rt: R) -> Result<bool, Refusal> {
+    let barrier = Barrier::new(rt, 1)?;
+    let is_done = borrowed(&rt, &barrier);
+    let result = barrier.wait_blocking()?;
+    Ok(is_done && moved(&rt, result) && moved(&rt, barrier))
 }

@@ -9,13 +9,23 @@ mod once_cell;
 mod rwlock;
 mod semaphore;
 
+use async_lock::{Refusal, Runtime};
 use std::process::ExitCode;
+use std::thread::Threads;
+
+fn all<R: Runtime + Threads + Send + Sync + Copy>(rt: R) -> Result<bool, Refusal> {
+    Ok(
+        mutex::all(rt)?
+            && rwlock::all(rt)?
+            && semaphore::all(rt)?
+            && once_cell::all(rt)?
+            && barrier::all(rt)?,
+    )
+}
 
 fn main(rt: HostRuntime) -> ExitCode {
-    mutex::all(rt);
-    rwlock::all(rt);
-    semaphore::all(rt);
-    once_cell::all(rt);
-    barrier::all(rt);
-    ExitCode::SUCCESS
+    match all(rt) {
+        Ok(is_done) if println!(rt; "{is_done}").is_ok() => ExitCode::SUCCESS,
+        _ => ExitCode::FAILURE,
+    }
 }

@@ -1,42 +1,33 @@
 //! A semaphore, its guards and its futures.
 
-use crate::moved::{AMPLE, moved, shared};
-use async_lock::{Runtime, Semaphore};
-use std::process::Abort;
+use crate::moved::{moved, shared};
+use async_lock::{Refusal, Runtime, Semaphore};
 use std::sync::Arc;
 use std::thread::Threads;
 
 // Those that borrow the semaphore.
-fn borrowed<R>(rt: &R, semaphore: &Semaphore<R>)
-where
-    R: Runtime + Abort + Threads + Send + Sync,
-{
-    shared(rt, semaphore);
-    moved(rt, semaphore.acquire());
-    moved(rt, semaphore.try_acquire().expect(rt, "one is available"));
+fn borrowed<R: Runtime + Threads + Send + Sync>(rt: &R, semaphore: &Semaphore<R>) -> bool {
+    let is_done = shared(rt, semaphore) && moved(rt, semaphore.acquire());
+    let Some(guard) = semaphore.try_acquire() else {
+        return false;
+    };
+    is_done && moved(rt, guard)
 }
 
 // Those that own a share of it.
-fn owned<R>(rt: &R, semaphore: &Arc<Semaphore<R>>)
-where
-    R: Runtime + Abort + Threads + Send + Sync,
-{
-    moved(rt, Semaphore::acquire_arc(semaphore));
-    moved(
-        rt,
-        Semaphore::try_acquire_arc(semaphore).expect(rt, "one is available"),
-    );
+fn owned<R: Runtime + Threads + Send + Sync>(rt: &R, semaphore: &Arc<Semaphore<R>>) -> bool {
+    let is_done = moved(rt, Semaphore::acquire_arc(semaphore));
+    let Some(guard) = Semaphore::try_acquire_arc(semaphore) else {
+        return false;
+    };
+    is_done && moved(rt, guard)
 }
 
-/// Shares the lock, and moves each.
-pub(crate) fn all<R>(rt: R)
-where
-    R: Runtime + Abort + Threads + Send + Sync + Copy,
-{
-    let semaphore = Semaphore::new(rt, 1).expect(&rt, AMPLE);
-    borrowed(&rt, &semaphore);
-    let semaphore = Arc::new(rt.alloc(), semaphore).expect(&rt, AMPLE);
-    owned(&rt, &semaphore);
-    moved(&rt, semaphore);
-    moved(&rt, Semaphore::new(rt, 1).expect(&rt, AMPLE));
+/// Shares the semaphore, and moves each.
+pub(crate) fn all<R: Runtime + Threads + Send + Sync + Copy>(rt: R) -> Result<bool, Refusal> {
+    let semaphore = Semaphore::new(rt, 1)?;
+    let is_done = borrowed(&rt, &semaphore);
+    let semaphore = Arc::new(rt.alloc(), semaphore)?;
+    let is_done = is_done && owned(&rt, &semaphore) && moved(&rt, semaphore);
+    Ok(is_done && moved(&rt, Semaphore::new(rt, 1)?))
 }
