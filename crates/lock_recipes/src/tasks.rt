@@ -1,8 +1,9 @@
 //! Tasks on one thread, each of which waits for the same mutex.
 
 use async_lock::{Mutex, MutexGuard, Refusal, Runtime, Settled};
-use futures::executor::run_all;
-use futures::{FutureExt, StreamExt, stream};
+use futures::FutureExt;
+use futures::executor::LocalPool;
+use std::io;
 
 // What a task does once it has the lock.
 fn add<R: Runtime>(locked: Result<MutexGuard<'_, u64, R>, Refusal>) {
@@ -12,16 +13,21 @@ fn add<R: Runtime>(locked: Result<MutexGuard<'_, u64, R>, Refusal>) {
 }
 
 // Three tasks. `Settled` makes a future of the lock's, to which the combinators of `futures` can be applied.
-fn run_three<R: Runtime>(rt: &R, mutex: &Mutex<u64, R>) -> Result<(), Refusal> {
-    let tasks = stream::iter(0..3_u64).map(|_| Settled(mutex.lock()).map(add));
-    match run_all(rt, tasks) {
-        Ok(()) => Ok(()),
-        Err(_) => Err(Refusal::Memory),
+fn run_three<R: Runtime>(rt: &R, mutex: &Mutex<u64, R>) -> io::Result<()> {
+    let mut pool = LocalPool::new(rt)?;
+    let spawner = pool.spawner()?;
+    for _ in 0..3_u64 {
+        if spawner.spawn(Settled(mutex.lock()).map(add)).is_err() {
+            return Err(io::Error::from(Refusal::Memory));
+        }
     }
+    drop(spawner);
+    pool.run(rt);
+    Ok(())
 }
 
 /// What three tasks left in the mutex.
-pub(crate) fn run<R>(rt: R) -> Result<u64, Refusal>
+pub(crate) fn run<R>(rt: R) -> io::Result<u64>
 where
     R: Runtime + Copy,
 {
