@@ -2,8 +2,8 @@
 //!
 //! [`Mutex`] guards a value for one task at a time. It is made with a runtime, which it keeps, and its guards and
 //! futures reach the runtime through it. A future is polled for a [`Turn`]; [`Settled`] makes it a `Future` of the
-//! kit's `futures`, and the blocking forms wait in the calling thread. The crate `async_lock` hands it on, beside the
-//! crates of which all interleavings are proved.
+//! kit's `futures`, and the blocking forms wait in the calling thread. It stands on `mutex_core`, where no
+//! wake-up is lost by a law of its table, and the crate `async_lock` hands it on.
 //!
 //! The guard and the future are one type each for both kinds of user: one that borrows the mutex, and one that has a share of it
 //! ([`Owns`]). The names of the Rust crate stand for the two.

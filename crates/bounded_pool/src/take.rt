@@ -59,7 +59,7 @@ impl<'a, T: Drop, R: Wait + Clock> Take<'a, T, R> {
     ///
     /// It is refused as [`Refusal::Memory`] or as [`Refusal::Starved`] of the list's lock; the future is then as when it was made, and may
     /// be polled again. Once it was ready it is refused as [`Refusal::Finished`], and nothing changes (`turn`). Pending, the task has registered
-    /// with the semaphore's source or the mutex's (`registered`).
+    /// somewhere (`registered`).
     pub fn poll(&mut self, cx: &mut Context<'_>) -> Turn<Lease<'a, T, R>>
         ensures pool { self.new.pool ≡ self.old.pool }
         ensures turn { IsTurn (λ lease. lease.pool ≡ self.old.pool) self.old.is_over result self.new.is_over }
