@@ -7,7 +7,6 @@ mod deadline;
 mod phases;
 mod pool;
 mod requests;
-mod tasks;
 
 use async_lock::Runtime;
 use std::io;
@@ -24,7 +23,6 @@ where
     println!(rt; "configuration: {}", configuration::run(rt)?)?;
     println!(rt; "phases: {}", phases::run(rt)?)?;
     println!(rt; "deadline: {}", deadline::run(rt)?)?;
-    println!(rt; "tasks: {}", tasks::run(rt)?)?;
     println!(rt; "requests: {}", requests::run(rt)?)
 }
 
