@@ -2,16 +2,11 @@
 //!
 //! [`Mutex`] guards a value for one task at a time, [`RwLock`] for many that read it or one that writes it; a [`Semaphore`] has
 //! permits, of which a task acquires one or several; a [`OnceCell`] gets a value once; at a [`Barrier`] tasks wait for each other.
-//! Each is made with a runtime, which it keeps, and its guards and futures reach the runtime through it. A future is polled for a
-//! [`Turn`]; [`Settled`] makes it a `Future` of the kit's `futures`, and the blocking forms wait in the calling thread.
+//! Each is made with a runtime ([`Runtime`]), which it keeps. A future is polled for a [`Turn`]; [`Settled`] makes it a `Future` of the
+//! kit's `futures`, [`wait_for`] waits for it in the calling thread, and so do the blocking forms.
 //!
-//! The types stand in `async_mutex`, `async_rwlock`, `async_semaphore`, `async_once_cell` and `async_barrier`, and this crate hands them on: who
-//! wants one lock alone names its crate. [`Runtime`] has what they ask of the runtime, and [`wait_for`] waits for any of their
-//! futures in the calling thread.
-//!
-//! Each lock carries out a program, a table of single actions, and the theorems about all interleavings are proved
-//! of the same table: `lock_core` has the Worlds in which parties move by it, and `lock_audit` a book of one. No type here
-//! stands on them.
+//! This crate hands the types on: who wants one lock alone names `async_mutex`, `async_rwlock`, `async_semaphore`,
+//! `async_once_cell` or `async_barrier`. None stands on the models of which all interleavings are proved (`lock_core`).
 #![tactic(auto)]
 
 /// The futures of the locks.

@@ -43,9 +43,11 @@ impl<'a, T: Drop, R: Wait> Give<'a, T, R> {
         }
     }
 
-    /// Ends the future, and returns the lease of one that wasn't ready.
-    pub fn into_lease(self) -> Option<Lease<'a, T, R>> {
-        let Self { lease, lock } = self;
+    /// Ends the future, and returns the lease that it keeps: that of one that wasn't ready.
+    pub fn into_lease(self) -> Option<Lease<'a, T, R>>
+        ensures { result ≡ self.entry.lease }
+    {
+        let Self { lock, lease } = self;
         drop(lock);
         lease
     }

@@ -3,6 +3,7 @@ pub mod Barrier
 pub mod Cell
 pub mod Mutex
 pub mod ReadWrite
+pub mod ReadWriteWakes
 pub mod Semaphore
 pub mod Tables
 pub mod MutexTable

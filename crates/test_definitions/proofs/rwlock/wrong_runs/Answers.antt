@@ -24,7 +24,8 @@ use Rattle.world_rwlock.specs.Changes.{Change, takes_turn, leaves_turn, starves,
 use Rattle.world_rwlock.specs.Bound.{IsToldOfTurn}
 use Rattle.world_rwlock.specs.Legal.{DecidesOn, HasItsOwn, HasNothing, MayMeet, IsCause, may_read}
 use Rattle.world_rwlock.specs.State.{ListName, Turn, nobody, passes, waits_to_write, is_marked, HasTurn, State, World, standing_of, sought_by, how_many_read, is_upgrader}
-use Rattle.test_definitions.specs.ReadWrite.{Step, IsLegal, Meanwhile}
+use Rattle.test_definitions.specs.ReadWrite.{Step, IsLegal}
+use Rattle.test_definitions.specs.ReadWriteWakes.{Meanwhile}
 use Rattle.test_definitions.proofs.rwlock.wrong_runs.Goals as goal
 use Rattle.world_base.specs.Standings.{IsUndecided}
 use Rattle.world_base.specs.Steps.{notifies, notifies_additionally}
