@@ -4,7 +4,7 @@
 # (refuse-allocations.sh). Each goes to its end, whatever the others find. The last line sums up their figures: runs, allocations refused,
 # and differences. Status 1 where there is one, or where a check ends without figures.
 #
-# Run it at the top of the repository, with `rt` on the PATH: bench/refuse-all.sh. It takes some five minutes of a processor.
+# Run it at the top of the repository, with `rt` on the PATH: bench/refuse-all.sh. It takes some eight minutes of a processor.
 set -u
 
 work=$(mktemp)

@@ -21,22 +21,27 @@ bench/run-tests.py --into "$work/copy" refused_memory
 crate=$work/copy/crates/refused_memory
 cd "$crate"
 python3 "$bench/kept-program.py" "$work/program" $((2 * most)) </dev/null >/dev/null 2>&1
-# The run of a number throws away so many allocations first that the one that is refused is of this number.
-count=1
-while [ "$count" -le "$most" ]; do
-    "$work/program" $((2 * most - count)) >"$work/printed" 2>>"$work/log" && cmp -s stdout "$work/printed" || {
-        echo "allocation $count:" >&2
-        cat "$work/printed" >&2
-        exit 1
-    }
-    count=$((count + 1))
+# The run of a number throws away so many allocations first that the one that is refused is of this number. Which call of a thread that is hangs
+# on the machine's load: so all runs are made again, up to three times, until each call was refused once.
+runs=0
+missing=all
+while [ -n "$missing" ] && [ "$runs" -lt $((3 * most)) ]; do
+    count=1
+    while [ "$count" -le "$most" ]; do
+        "$work/program" $((2 * most - count)) >"$work/printed" 2>>"$work/log" && cmp -s stdout "$work/printed" || {
+            echo "allocation $count:" >&2
+            cat "$work/printed" >&2
+            exit 1
+        }
+        count=$((count + 1))
+    done
+    runs=$((runs + most))
+    missing=$(grep -v '^#\|^$' "$calls" | while read -r call; do grep -qxF "refused: $call" "$work/log" || echo "$call"; done)
 done
 sed -n 's/^refused: //p' "$work/log" | sort | uniq -c
-grep -v '^#\|^$' "$calls" | while read -r call; do
-    grep -qxF "refused: $call" "$work/log" || {
-        echo "never refused: $call" >&2
-        exit 1
-    }
-done
+if [ -n "$missing" ]; then
+    echo "never refused: $missing" >&2
+    exit 1
+fi
 refused=$(grep -c '^refused: ' "$work/log") || true
-echo "$most runs of calls and threads, $refused allocations refused, 0 differences"
+echo "$runs runs of calls and threads, $refused allocations refused, 0 differences"

@@ -34,7 +34,7 @@ impl<R: Runtime + Copy> Channel<R> {
         Ok(())
     }
 
-    // Waits for an item. If it is refused, nothing was taken.
+    // Waits for an item. If it is refused, nothing was taken. None stands for an item that wasn't sent, since its sender was refused.
     fn receive(&self) -> Result<Option<u64>, Refusal> {
         let permit = self.items.acquire_blocking()?;
         let mut queue = self.queue.lock_blocking()?;
@@ -46,19 +46,28 @@ impl<R: Runtime + Copy> Channel<R> {
     }
 }
 
+// Sends the numbers from 1 to 100. Refused, it gives the receivers the permits of what it doesn't send, so that nobody waits for that.
 fn send_hundred<R: Runtime + Copy>(channel: &Channel<R>) -> Result<(), Refusal> {
-    for item in 1..101_u64 {
-        channel.send(item)?;
+    for sent in 0..100_usize {
+        if let Err(refusal) = channel.send(sent as u64 + 1) {
+            channel.items.add_permits(100 - sent)?;
+            return Err(refusal);
+        }
     }
     Ok(())
 }
 
-// The sum of the hundred items that it received.
+// The sum of the hundred items that it received. Refused, it gives the senders the places of what it doesn't receive.
 fn receive_hundred<R: Runtime + Copy>(channel: &Channel<R>) -> Result<u64, Refusal> {
     let mut sum = 0_u64;
-    for _ in 0..100_u64 {
-        let item = channel.receive()?;
-        sum = sum.saturating_add(item.unwrap_or(0));
+    for received in 0..100_usize {
+        match channel.receive() {
+            Ok(item) => sum = sum.saturating_add(item.unwrap_or(0)),
+            Err(refusal) => {
+                channel.free.add_permits(100 - received)?;
+                return Err(refusal);
+            }
+        }
     }
     Ok(sum)
 }
