@@ -1,14 +1,11 @@
 -- At rest a notified party that isn't starved doesn't take the lock while somebody is starved: it hands its notification on first, is counted, and waits behind.
 use Rattle.world_mutex.proofs.Prelude.{◌≡◌, ◌≢◌, ℕ, zero, suc, ◌+◌, ◌-◌, ◌<◌, ◌≤◌, ◌==◌, ◌⊎◌, inl, inr, Bool, true, false, List, [], ◌∷◌, length, get_or, Some, refl, sym, ap, ◌∙◌, subst, arith, get_or-set_same, true≢false, sum_by-set, set, sum_by, some_listed, joined_unmarked, notified_marked, Entry, notified, mark_waiting, Notified, marked_count, is_marked_at, is_party, entries_of, Answer, Call, Inputs, What, Begin, Go, Rest, Outside, Inside, Account, accounts_after, how_many, going_on, moves_of, answers_of, some_eq, beginning, along, Onward, stage_at, End, Found, Done, Free, Held, SomeStarved, AtLimit, NoMemory, Yes, No, Next, Place, Ask, Retry, PassOn, Count, JoinStarved, LookAlone, PassOnListed, AskStarved, RefuseUncount, RefuseNotifyMemory, RefuseNotifyStarved, action_of, next_of, place_after, holds, counted, listed, Finds, starved, is_waiting, Lock, place_at, OnParties, IsNotified, IsAwake, is_at_rest, place_of, answer_by, Runs, HoldsWell, World, is_starved, Stands, Steps, view_of}
-use Rattle.lock_event.proofs.Marks.{marked_count-joined, mark_waiting-none}
+use Rattle.lock_event.proofs.Marks.{marked_count-joined}
+use Rattle.world_mutex.proofs.of_machine.solo_polls.Marked.{same_marks}
 use Rattle.world_mutex.proofs.laws.Sound.{awake}
 use Rattle.world_mutex.proofs.of_machine.laws.Seen as sees
 use Rattle.world_mutex.proofs.bound.Alone.{later, Does, still_inside, going, beginning_so}
 use Rattle.world_mutex.proofs.bound.Sure.{told_yes, asks_from, at_stage, waits}
-
--- a list in which some entry is marked is left as it is by one more notification
-same_marks : (l : List (Entry ℕ)) → 0 < marked_count l → notified l 1 ≡ l
-same_marks l some = let none : 1 - marked_count l ≡ 0 = omega (arith, some) in ap (λ n. mark_waiting Notified n l) none ∙ mark_waiting-none Notified l
 
 -- ---- the places that such a poll comes by
 

@@ -92,3 +92,5 @@ pub record SoloPolls (m : Mutex) : Type 0 where
   pub some_called : IsAtRest m.courses → 0 < length m.entries → (p : ℕ) × IsCalled m p
   -- And fewer polls in a row give way than the list has entries: so among as many polls one takes the lock.
   pub one_takes : IsAtRest m.courses → 0 < length m.entries → (n : ℕ) (new : Mutex) → PollsInTurn n m new → n < length m.entries
+  -- At rest a party that isn't starved gives way where another is.
+  pub behind : IsAtRest m.courses → (p : ℕ) (e : End) (new : Mutex) → IsCalled m p → counted (course_at m.courses p) ≡ 0 → 0 < starved m → PollsAlone true p e new m → GaveWay p m e new

@@ -79,3 +79,5 @@ pub record SoloPolls (l : Lock) : Type 0 where
   pub some_called : IsAtRest l.places → 0 < length l.entries → (p : ℕ) × IsCalled l p
   -- And fewer polls in a row give way than the list has entries: so among as many polls one takes the lock.
   pub one_takes : IsAtRest l.places → 0 < length l.entries → (n : ℕ) (new : Lock) → PollsInTurn n l new → n < length l.entries
+  -- At rest a party that isn't starved gives way where another is.
+  pub behind : IsAtRest l.places → (p : ℕ) (e : End) (new : Lock) → IsCalled l p → counted (place_at l.places p) ≡ 0 → 0 < starved l → PollsAlone true p e new l → GaveWay p l e new

@@ -3,7 +3,7 @@ use Rattle.world_mutex.proofs.Prelude.{◌≡◌, ℕ, zero, suc, ◌<◌, ◌�
 use Rattle.world_base.proofs.of_table.Resting.{one_at_rest}
 use Rattle.world_mutex.specs.machine.Acts as acts
 use Rattle.world_mutex.specs.machine.Solo as by
-use Rattle.world_mutex.specs.machine.Course.{listed, is_resting, is_waiting}
+use Rattle.world_mutex.specs.machine.Course.{counted, listed, is_resting, is_waiting}
 use Rattle.world_mutex.specs.machine.Mutex.{holders, starved, IsStarved, IsAtRest, IsMutex}
 use Rattle.world_mutex.specs.machine.Alone.{GoesOnAlone, last, PollsAlone, at_once, begun, IsCalled, unstarved, Took, StandsBack, GaveWay, PollsInTurn, SoloPolls}
 use Rattle.world_mutex.proofs.of_machine.legal.Clauses.{was_mutex, all_rest, counted_here}
@@ -118,6 +118,15 @@ module _ (m : Mutex) (laws : IsMutex m) (free : holders m ≡ 0) where
         let C : Mutex → Type 0 = λ x. Came x (seen (behind new)) in
         subst (Came m) (sym d.after) (subst C (sym d.before) it)
 
+    -- at rest
+    waits_behind : IsAtRest m.courses → counted (course_at m.courses p) ≡ 0 → 0 < starved m → GaveWay p m e new
+    waits_behind rest plain some =
+        let R : Mutex → Type 0 = λ x. IsAtRest x.courses × (counted (course_at x.courses p) ≡ 0) × (0 < starved x) in
+        let so : R (seen (behind m)) = subst R d.before (rest, plain, some) in
+        let there = (law_there d.before).behind (all_rest (behind m) (behind m).places d.kept so.0) p e (behind new) (called_there m p d.before called) (sym (counted_here (behind m) p) ∙ so.1) (rw (starved_seen (behind m).places) at so.2) d.polls in
+        let G : Mutex → Type 0 = λ x. GaveWay p x e (seen (behind new)) in
+        subst (GaveWay p m e) (sym d.after) (subst G (sym d.before) (gave_way p (behind m) (behind new) e there))
+
   module _ (memory : Bool) (p : ℕ) (e : End) (new : Mutex) (called : IsCalled m p) (polls : PollsAlone memory p e new m) where
     abbrev Took_there : Mutex → Type 0
     Took_there y = Took p e y
@@ -145,4 +154,5 @@ solo_polls m laws free = record {
       let there : 0 < listed (course_at m.courses found.0) = omega (arith, laws.owners found.0, found.2) in
       (found.0, (pending_at (course_at m.courses found.0) (one_at_rest is_resting out refl m.courses rest found.0) there, found.1));
   one_takes = fewer_than_listed m laws free;
+  behind = λ rest p e new called plain some polls. waits_behind m laws free p e new called polls rest plain some;
 }

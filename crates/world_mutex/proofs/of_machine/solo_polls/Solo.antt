@@ -1,5 +1,5 @@
 -- Where a poll leads that is carried out alone while the lock is free.
-use Rattle.world_mutex.proofs.Prelude.{◌≡◌, ◌≢◌, ℕ, ◌+◌, ◌<◌, ◌⊎◌, inl, inr, Bool, true, false, List, length, get_or, refl, ap, arith, subst, ◌∙◌, get_or-set_same, get_or-set_other, length-set, set, sum_by, sum_by-set, Entry, is_marked_at, joined, notified, without, is_party, Starved, Place, Out, Ask, Retry, PassOn, Count, JoinStarved, LookAlone, PassOnListed, AskStarved, Seize, Uncount, RefuseNotifyStarved, Action, Next, End, Got, Pending, Refused, Found, Done, Free, Held, SomeStarved, AtLimit, NoMemory, Yes, No, next_of, place_after, go_to, ends, holds, counted, OnParties, Lock, place_at, Acts, Finds, holders, starved, GoesOnAlone, last, step, Took}
+use Rattle.world_mutex.proofs.Prelude.{◌≡◌, ◌≢◌, ℕ, ◌+◌, ◌<◌, ◌⊎◌, inl, inr, Bool, true, false, List, length, get_or, refl, ap, arith, subst, sym, ◌∙◌, get_or-set_same, get_or-set_other, length-set, set, sum_by, sum_by-set, Entry, is_marked_at, joined, notified, without, is_party, Starved, Place, Out, Ask, Retry, PassOn, Count, JoinStarved, LookAlone, PassOnListed, AskStarved, Seize, Uncount, RefuseNotifyStarved, Action, Next, End, Got, Pending, Refused, Found, Done, Free, Held, SomeStarved, AtLimit, NoMemory, Yes, No, next_of, place_after, go_to, ends, holds, counted, OnParties, Lock, place_at, Acts, Finds, holders, starved, GoesOnAlone, last, step, Took}
 
 module _ (p : ℕ) (l : Lock) where
   -- since l only this party has moved, and it stands at x
@@ -61,8 +61,8 @@ sets memory Free m e h = refl
 sets memory (Held b) m e h = absurd (omega arith)
 sets memory _ m e h = absurd e
 
-retakes : (memory : Bool) (f : Found) (m : Lock) → Finds memory Action.Take f m → holders m ≡ 0 → (next_of Retry f ≡ ends Got) ⊎ ((next_of Retry f ≡ go_to PassOn) × (0 < starved m))
-retakes memory Free m e h = inl refl
+retakes : (memory : Bool) (f : Found) (m : Lock) → Finds memory Action.Take f m → holders m ≡ 0 → ((next_of Retry f ≡ ends Got) × (starved m ≡ 0)) ⊎ ((next_of Retry f ≡ go_to PassOn) × (0 < starved m))
+retakes memory Free m e h = inl (refl, e.1)
 retakes memory (Held b) m e h = absurd (omega arith)
 retakes memory SomeStarved m e h = inr (refl, e)
 retakes memory _ m e h = absurd e
@@ -86,8 +86,8 @@ module _ (p : ℕ) (es fs : List (Entry ℕ)) where
 
   -- a party that asks, and what it is told
   asks : (memory : Bool) (f : Found) (m : Lock) → Finds memory Action.Ask f m → OnParties p Action.Ask f es fs
-      → ((f ≡ Yes) × (fs ≡ without (is_party p) es)) ⊎ ((f ≡ No) × (is_marked_at (is_party p) es ≡ false) × (fs ≡ es))
-  asks memory Yes m e o = inl (refl, o.1)
+      → ((f ≡ Yes) × (is_marked_at (is_party p) es ≡ true) × (fs ≡ without (is_party p) es)) ⊎ ((f ≡ No) × (is_marked_at (is_party p) es ≡ false) × (fs ≡ es))
+  asks memory Yes m e o = inl (refl, o.0, o.1)
   asks memory No m e o = inr (refl, o.0, o.1)
   asks memory _ m e o = absurd e
 
@@ -112,33 +112,37 @@ module _ (memory : Bool) (p : ℕ) (l : Lock) (open_lock : holders l ≡ 0) (out
       uncounts u.mid on.1 on.0
 
   asks_so : (m : Lock) (u : Unfolded p l memory e new AskStarved m)
-      → ((u.acts.found ≡ Yes) × (u.mid.entries ≡ without (is_party p) m.entries)) ⊎ ((u.acts.found ≡ No) × (is_marked_at (is_party p) m.entries ≡ false) × (u.mid.entries ≡ m.entries))
-      → Took p e new ⊎ ((is_marked_at (is_party p) m.entries ≡ false) × Waits m.entries)
+      → ((u.acts.found ≡ Yes) × (is_marked_at (is_party p) m.entries ≡ true) × (u.mid.entries ≡ without (is_party p) m.entries)) ⊎ ((u.acts.found ≡ No) × (is_marked_at (is_party p) m.entries ≡ false) × (u.mid.entries ≡ m.entries))
+      → (Took p e new × (is_marked_at (is_party p) m.entries ≡ true)) ⊎ ((is_marked_at (is_party p) m.entries ≡ false) × Waits m.entries)
   asks_so m u (inl told) =
       let on = along p l memory e new AskStarved m u (go_to Seize) (u.acts.next_is ∙ ap (next_of AskStarved) told.0) in
-      inl (seizes u.mid on.1 on.0)
+      inl (seizes u.mid on.1 on.0, told.1)
   asks_so m u (inr not_told) =
       let on = along p l memory e new AskStarved m u (ends Pending) (u.acts.next_is ∙ ap (next_of AskStarved) not_told.0) in
       inr (not_told.1, (on.0.0, rw on.0.1 not_told.2, rw on.0.1 on.1))
 
   -- a starved party asks
-  pub asks_starved : (m : Lock) → Reached p l AskStarved m → GoesOnAlone memory p e new m → Took p e new ⊎ ((is_marked_at (is_party p) m.entries ≡ false) × Waits m.entries)
+  pub asks_starved : (m : Lock) → Reached p l AskStarved m → GoesOnAlone memory p e new m → (Took p e new × (is_marked_at (is_party p) m.entries ≡ true)) ⊎ ((is_marked_at (is_party p) m.entries ≡ false) × Waits m.entries)
   asks_starved m r g =
       let u = unfolds p l memory e new AskStarved m r g in
       asks_so m u (asks p m.entries u.mid.entries memory u.acts.found m u.acts.finds u.acts.list)
 
-  waits_so : (m mid : Lock) → mid.entries ≡ notified m.entries 1 → Took p e new ⊎ ((is_marked_at (is_party p) mid.entries ≡ false) × Waits mid.entries) → Took p e new ⊎ Waits (notified m.entries 1)
-  waits_so m mid told (inl took) = inl took
+  -- it took the lock, notified in this list, or it is back
+  abbrev pub Asked : List (Entry ℕ) → Type 0
+  Asked es = (Took p e new × (is_marked_at (is_party p) es ≡ true)) ⊎ Waits es
+
+  waits_so : (m mid : Lock) → mid.entries ≡ notified m.entries 1 → (Took p e new × (is_marked_at (is_party p) mid.entries ≡ true)) ⊎ ((is_marked_at (is_party p) mid.entries ≡ false) × Waits mid.entries) → Asked (notified m.entries 1)
+  waits_so m mid told (inl took) = inl (took.0, sym (ap (is_marked_at (is_party p)) told) ∙ took.1)
   waits_so m mid told (inr waits) = inr (waits.1.0, waits.1.1 ∙ told, waits.1.2)
 
-  passes_on_listed : (m : Lock) → Reached p l PassOnListed m → GoesOnAlone memory p e new m → Took p e new ⊎ Waits (notified m.entries 1)
+  passes_on_listed : (m : Lock) → Reached p l PassOnListed m → GoesOnAlone memory p e new m → Asked (notified m.entries 1)
   passes_on_listed m r g =
       let u = unfolds p l memory e new PassOnListed m r g in
       let on = along p l memory e new PassOnListed m u (go_to AskStarved) u.acts.next_is in
       waits_so m u.mid u.acts.list (asks_starved u.mid on.1 on.0)
 
   module _ (has : memory ≡ true) (unstarved : counted (place_at l.places p) ≡ 0) where
-    looks_alone : (m : Lock) → 0 < starved l → Reached p l LookAlone m → GoesOnAlone memory p e new m → Took p e new ⊎ Waits (notified m.entries 1)
+    looks_alone : (m : Lock) → 0 < starved l → Reached p l LookAlone m → GoesOnAlone memory p e new m → Asked (notified m.entries 1)
     looks_alone m some r g =
         let u = unfolds p l memory e new LookAlone m r g in
         let more : 1 < starved m = omega (arith, r.sums counted) in
@@ -146,7 +150,7 @@ module _ (memory : Bool) (p : ℕ) (l : Lock) (open_lock : holders l ≡ 0) (out
         let same : u.mid.entries ≡ m.entries = u.acts.list in
         rw (← same) (passes_on_listed u.mid on.1 on.0)
 
-    joins_starved : (m : Lock) → 0 < starved l → Reached p l JoinStarved m → GoesOnAlone memory p e new m → Took p e new ⊎ Waits (notified (joined m.entries p) 1)
+    joins_starved : (m : Lock) → 0 < starved l → Reached p l JoinStarved m → GoesOnAlone memory p e new m → Asked (notified (joined m.entries p) 1)
     joins_starved m some r g =
         let u = unfolds p l memory e new JoinStarved m r g in
         let did = rejoins p m.entries u.mid.entries memory has u.acts.found m u.acts.finds u.acts.list in
@@ -159,6 +163,10 @@ module _ (memory : Bool) (p : ℕ) (l : Lock) (open_lock : holders l ≡ 0) (out
     Gives (Refused Starved) es = (new.entries ≡ notified es 1) × Reached p l Out new × (starved l ≡ l.limit)
     Gives _ es = ⊥
 
+    -- the poll took the lock, and was the first in its list though it had joined last; or it gave way
+    abbrev pub Ended : List (Entry ℕ) → Type 0
+    Ended es = (Took p e new × (is_marked_at (is_party p) (notified (joined es p) 1) ≡ true)) ⊎ Gives e es
+
     refuses : (m : Lock) → starved l ≡ l.limit → Reached p l RefuseNotifyStarved m → GoesOnAlone memory p e new m → Gives e m.entries
     refuses m full r g =
         let u = unfolds p l memory e new RefuseNotifyStarved m r g in
@@ -166,13 +174,13 @@ module _ (memory : Bool) (p : ℕ) (l : Lock) (open_lock : holders l ≡ 0) (out
         let told : u.mid.entries ≡ notified m.entries 1 = u.acts.list in
         rw on.0.0 (rw on.0.1 told, rw on.0.1 on.1, full)
 
-    gives_so : (es : List (Entry ℕ)) → Took p e new ⊎ Waits (notified (joined es p) 1) → Took p e new ⊎ Gives e es
+    gives_so : (es : List (Entry ℕ)) → Asked (notified (joined es p) 1) → Ended es
     gives_so es (inl took) = inl took
     gives_so es (inr waits) = inr (rw waits.0 (waits.1, waits.2))
 
     counts_so : (m : Lock) → 0 < starved l → Reached p l (Count false true) m → (u : Unfolded p l memory e new (Count false true) m) →
         (next_of (Count false true) u.acts.found ≡ go_to JoinStarved) ⊎ ((next_of (Count false true) u.acts.found ≡ go_to RefuseNotifyStarved) × (starved m ≡ m.limit))
-        → Took p e new ⊎ Gives e m.entries
+        → Ended m.entries
     counts_so m some r u (inl counted_so) =
         let on = along p l memory e new (Count false true) m u (go_to JoinStarved) (u.acts.next_is ∙ counted_so) in
         let same : u.mid.entries ≡ m.entries = u.acts.list in
@@ -183,30 +191,30 @@ module _ (memory : Bool) (p : ℕ) (l : Lock) (open_lock : holders l ≡ 0) (out
         let as_many : starved l ≡ l.limit = omega (arith, r.sums counted, full.1, r.limit) in
         rw (← same) (inr (refuses u.mid as_many on.1 on.0))
 
-    counts_itself : (m : Lock) → 0 < starved l → Reached p l (Count false true) m → GoesOnAlone memory p e new m → Took p e new ⊎ Gives e m.entries
+    counts_itself : (m : Lock) → 0 < starved l → Reached p l (Count false true) m → GoesOnAlone memory p e new m → Ended m.entries
     counts_itself m some r g =
         let u = unfolds p l memory e new (Count false true) m r g in
         counts_so m some r u (counts memory u.acts.found m u.acts.finds)
 
-    passes_on : (m : Lock) → 0 < starved l → Reached p l PassOn m → GoesOnAlone memory p e new m → Took p e new ⊎ Gives e (notified m.entries 1)
+    passes_on : (m : Lock) → 0 < starved l → Reached p l PassOn m → GoesOnAlone memory p e new m → Ended (notified m.entries 1)
     passes_on m some r g =
         let u = unfolds p l memory e new PassOn m r g in
         let on = along p l memory e new PassOn m u (go_to (Count false true)) u.acts.next_is in
         let told : u.mid.entries ≡ notified m.entries 1 = u.acts.list in
         rw (← told) (counts_itself u.mid some on.1 on.0)
 
-    -- the poll takes the lock, or gives way to a starved party
+    -- the poll takes the lock, where nobody is starved or nobody else stood in the list, or gives way to a starved party
     abbrev pub Ends : List (Entry ℕ) → Type 0
-    Ends es = Took p e new ⊎ ((0 < starved l) × Gives e (notified es 1))
+    Ends es = (Took p e new × ((starved l ≡ 0) ⊎ (is_marked_at (is_party p) (notified (joined (notified es 1) p) 1) ≡ true))) ⊎ ((0 < starved l) × Gives e (notified es 1))
 
-    with_some : (es : List (Entry ℕ)) → 0 < starved l → Took p e new ⊎ Gives e (notified es 1) → Ends es
-    with_some es some (inl took) = inl took
+    with_some : (es : List (Entry ℕ)) → 0 < starved l → Ended (notified es 1) → Ends es
+    with_some es some (inl took) = inl (took.0, inr took.1)
     with_some es some (inr gives) = inr (some, gives)
 
-    retries_so : (m : Lock) → Reached p l Retry m → (u : Unfolded p l memory e new Retry m) → (next_of Retry u.acts.found ≡ ends Got) ⊎ ((next_of Retry u.acts.found ≡ go_to PassOn) × (0 < starved m)) → Ends m.entries
+    retries_so : (m : Lock) → Reached p l Retry m → (u : Unfolded p l memory e new Retry m) → ((next_of Retry u.acts.found ≡ ends Got) × (starved m ≡ 0)) ⊎ ((next_of Retry u.acts.found ≡ go_to PassOn) × (0 < starved m)) → Ends m.entries
     retries_so m r u (inl got) =
-        let on = along p l memory e new Retry m u (ends Got) (u.acts.next_is ∙ got) in
-        inl (on.0.0, rw on.0.1 on.1.here)
+        let on = along p l memory e new Retry m u (ends Got) (u.acts.next_is ∙ got.0) in
+        inl ((on.0.0, rw on.0.1 on.1.here), inl (omega (arith, r.sums counted, got.1)))
     retries_so m r u (inr others) =
         let on = along p l memory e new Retry m u (go_to PassOn) (u.acts.next_is ∙ others.0) in
         let same : u.mid.entries ≡ m.entries = u.acts.list in
@@ -219,11 +227,11 @@ module _ (memory : Bool) (p : ℕ) (l : Lock) (open_lock : holders l ≡ 0) (out
         retries_so m r u (retakes memory u.acts.found m u.acts.finds (free_at Retry m refl r))
 
     first_so : is_marked_at (is_party p) l.entries ≡ true → (u : Unfolded p l memory e new Ask l)
-        → ((u.acts.found ≡ Yes) × (u.mid.entries ≡ without (is_party p) l.entries)) ⊎ ((u.acts.found ≡ No) × (is_marked_at (is_party p) l.entries ≡ false) × (u.mid.entries ≡ l.entries))
+        → ((u.acts.found ≡ Yes) × (is_marked_at (is_party p) l.entries ≡ true) × (u.mid.entries ≡ without (is_party p) l.entries)) ⊎ ((u.acts.found ≡ No) × (is_marked_at (is_party p) l.entries ≡ false) × (u.mid.entries ≡ l.entries))
         → Ends (without (is_party p) l.entries)
     first_so marked u (inl told) =
         let on = along p l memory e new Ask l u (go_to Retry) (u.acts.next_is ∙ ap (next_of Ask) told.0) in
-        rw (← told.1) (retries u.mid on.1 on.0)
+        rw (← told.2) (retries u.mid on.1 on.0)
     first_so marked u (inr not_told) = absurd (cc)
 
     -- the poll of a party that isn't starved
@@ -234,9 +242,9 @@ module _ (memory : Bool) (p : ℕ) (l : Lock) (open_lock : holders l ≡ 0) (out
 
   -- the poll of a party that isn't starved, where nobody is, takes the lock at its second action, whether or not there is memory
   module _ (unstarved : counted (place_at l.places p) ≡ 0) (none : starved l ≡ 0) where
-    takes_so : (m : Lock) → Reached p l Retry m → (u : Unfolded p l memory e new Retry m) → (next_of Retry u.acts.found ≡ ends Got) ⊎ ((next_of Retry u.acts.found ≡ go_to PassOn) × (0 < starved m)) → Took p e new
+    takes_so : (m : Lock) → Reached p l Retry m → (u : Unfolded p l memory e new Retry m) → ((next_of Retry u.acts.found ≡ ends Got) × (starved m ≡ 0)) ⊎ ((next_of Retry u.acts.found ≡ go_to PassOn) × (0 < starved m)) → Took p e new
     takes_so m r u (inl got) =
-        let on = along p l memory e new Retry m u (ends Got) (u.acts.next_is ∙ got) in
+        let on = along p l memory e new Retry m u (ends Got) (u.acts.next_is ∙ got.0) in
         (on.0.0, rw on.0.1 on.1.here)
     takes_so m r u (inr others) = absurd (omega (arith, r.sums counted, others.1, unstarved, none))
 
@@ -246,7 +254,7 @@ module _ (memory : Bool) (p : ℕ) (l : Lock) (open_lock : holders l ≡ 0) (out
         takes_so m r u (retakes memory u.acts.found m u.acts.finds (free_at Retry m refl r))
 
     goes_so : is_marked_at (is_party p) l.entries ≡ true → (u : Unfolded p l memory e new Ask l)
-        → ((u.acts.found ≡ Yes) × (u.mid.entries ≡ without (is_party p) l.entries)) ⊎ ((u.acts.found ≡ No) × (is_marked_at (is_party p) l.entries ≡ false) × (u.mid.entries ≡ l.entries)) → Took p e new
+        → ((u.acts.found ≡ Yes) × (is_marked_at (is_party p) l.entries ≡ true) × (u.mid.entries ≡ without (is_party p) l.entries)) ⊎ ((u.acts.found ≡ No) × (is_marked_at (is_party p) l.entries ≡ false) × (u.mid.entries ≡ l.entries)) → Took p e new
     goes_so marked u (inl told) =
         let on = along p l memory e new Ask l u (go_to Retry) (u.acts.next_is ∙ ap (next_of Ask) told.0) in
         takes_at_once u.mid on.1 on.0
@@ -257,8 +265,8 @@ module _ (memory : Bool) (p : ℕ) (l : Lock) (open_lock : holders l ≡ 0) (out
         let u = unfolds p l memory e new Ask l (at_start p l Ask known here) g in
         goes_so marked u (asks p l.entries u.mid.entries memory u.acts.found l u.acts.finds u.acts.list)
 
-  took_so : is_marked_at (is_party p) l.entries ≡ true → Took p e new ⊎ ((is_marked_at (is_party p) l.entries ≡ false) × Waits l.entries) → Took p e new
-  took_so marked (inl took) = took
+  took_so : is_marked_at (is_party p) l.entries ≡ true → (Took p e new × (is_marked_at (is_party p) l.entries ≡ true)) ⊎ ((is_marked_at (is_party p) l.entries ≡ false) × Waits l.entries) → Took p e new
+  took_so marked (inl took) = took.0
   took_so marked (inr waits) = absurd (cc)
 
   -- the poll of a starved party takes the lock

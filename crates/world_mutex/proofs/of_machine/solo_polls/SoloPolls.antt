@@ -1,8 +1,10 @@
 -- Polls in a row, each carried out alone while the lock is free.
-use Rattle.world_mutex.proofs.Prelude.{◌≡◌, ◌≢◌, ℕ, zero, suc, ◌+◌, ◌-◌, ◌<◌, ◌≤◌, ◌⊎◌, inl, inr, Bool, true, IsSomeAnd, List, [], ◌∷◌, length, refl, sym, ap, arith, subst, ◌∙◌, ℕ_discrete, sum_by, sum_by-cons, nat_tests, Entry, Waiting, Notified, entry, joined, notified, without, marked_count, mark_waiting, is_party, entries_of, Refusal, is_there, Place, Out, Holding, Ask, AskStarved, LockCall, Next, End, Got, Pending, Refused, start_of, holds, counted, listed, is_resting, is_waiting, Lock, place_at, Acts, IsMutex, IsAtRest, IsStarved, holders, starved, GoesOnAlone, last, step, PollsAlone, at_once, begun, IsCalled, unstarved, unstarved_listed, Took, GaveWay, PollsInTurn, SoloPolls}
+use Rattle.world_mutex.proofs.Prelude.{◌≡◌, ◌≢◌, ℕ, zero, suc, ◌+◌, ◌-◌, ◌<◌, ◌≤◌, ◌⊎◌, inl, inr, Bool, true, IsSomeAnd, List, [], ◌∷◌, length, refl, sym, ap, arith, subst, ◌∙◌, ℕ_discrete, sum_by, sum_by-cons, nat_tests, Entry, Waiting, Notified, entry, joined, notified, without, marked_count, mark_waiting, is_party, entries_of, Refusal, is_there, some_listed, joined_unmarked, is_marked_at, false, Place, Out, Holding, Ask, AskStarved, LockCall, Next, End, Got, Pending, Refused, start_of, holds, counted, listed, is_resting, is_waiting, Lock, place_at, Acts, IsMutex, IsAtRest, IsStarved, holders, starved, GoesOnAlone, last, step, PollsAlone, at_once, begun, IsCalled, unstarved, unstarved_listed, Took, GaveWay, PollsInTurn, SoloPolls}
 use Rattle.lock_event.specs.declared.event.Mark.{Mark}
 use Rattle.lock_event.proofs.Marks.{length-mark_waiting}
 use Rattle.lock_event.proofs.Counts.{length-joined, length-without, marked_count-notified}
+use Rattle.lock_event.proofs.Marks.{marked_count-joined}
+use Rattle.world_mutex.proofs.of_machine.solo_polls.Marked.{same_marks}
 use Rattle.world_base.proofs.of_queue.Rekeyed.{entries_of-joined, entries_of-mark_waiting, entries_of-without_own, entries_of-without_other}
 use Rattle.world_base.proofs.of_queue.Queues.{own_one, other_one}
 pub use Rattle.world_base.proofs.Bounds.{first_marked}
@@ -164,15 +166,52 @@ module _ (p : ℕ) (l new : Lock) (own : entries_of p l.entries ≡ 1) where
         (λ q apart. told_entries q (told gone) ∙ (told_entries q gone ∙ entries_of-without_other q p l.entries apart))
     still_owned _ owned g = absurd g
 
+-- a starved party that rests is listed
+rests_so : (x : Place) → is_resting x ≡ true → (counted x ≡ 0) ⊎ ((counted x ≡ 1) × (listed x ≡ 1))
+rests_so Out h = inl refl
+rests_so Holding h = inl refl
+rests_so Ask h = inl refl
+rests_so AskStarved h = inr (refl, refl)
+rests_so _ h = absurd (cc)
+
+abbrev ListedStarved : List Place → Type 0
+ListedStarved ps = (q : ℕ) × (counted (place_at ps q) ≡ 1) × (listed (place_at ps q) ≡ 1)
+
+one_more : (x : Place) (xs : List Place) → 0 < sum_by counted (x ∷ xs) → (0 < sum_by counted xs → ListedStarved xs) → (counted x ≡ 0) ⊎ ((counted x ≡ 1) × (listed x ≡ 1)) → ListedStarved (x ∷ xs)
+one_more x xs some more (inl none) = let found = more (omega (arith, sum_by-cons counted x xs)) in (suc found.0, found.1, found.2)
+one_more x xs some more (inr here) = (0, here.0, here.1)
+
+listed_starved : (ps : List Place) → IsAtRest ps → 0 < sum_by counted ps → ListedStarved ps
+listed_starved [] rest some = absurd (omega arith)
+listed_starved (x ∷ xs) rest some = one_more x xs some (listed_starved xs rest.1) (rests_so x rest.0)
+
+-- a party that waits stands in the list
+listed_waiting : (x : Place) → is_waiting x ≡ true → listed x ≡ 1
+listed_waiting Ask h = refl
+listed_waiting AskStarved h = refl
+listed_waiting _ h = absurd (cc)
+
 -- a poll takes the lock or gives way
 module _ (l : Lock) (owned : Owned l) (open_lock : holders l ≡ 0) (p : ℕ) (e : End) (new : Lock) (called : IsCalled l p) (polls : PollsAlone true p e new l) where
+  -- it took the lock past starved parties, and was the first in the list though it had joined last
+  abbrev Last : Type 0
+  Last = is_marked_at (is_party p) (notified (joined (notified (without (is_party p) l.entries) 1) p) 1) ≡ true
+
+  -- it takes it where nobody else is starved, where it is starved itself, or where it was the last
+  abbrev Why : Type 0
+  Why = (starved l ≡ 0) ⊎ (IsStarved l p ⊎ Last)
+
+  why : (starved l ≡ 0) ⊎ Last → Why
+  why (inl none) = inl none
+  why (inr end) = inr (inr end)
+
   outcome : (own : entries_of p l.entries ≡ 1) (here : place_at l.places p ≡ Ask) (out : holds (place_at l.places p) ≡ 0) (counts_not : counted (place_at l.places p) ≡ 0)
-      → Ends true p l open_lock out e new refl counts_not (without (is_party p) l.entries) → Took p e new ⊎ (GaveWay p l e new × Owned new)
-  outcome own here out counts_not (inl took) = inl took
+      → Ends true p l open_lock out e new refl counts_not (without (is_party p) l.entries) → (Took p e new × Why) ⊎ (GaveWay p l e new × Owned new)
+  outcome own here out counts_not (inl took) = inl (took.0, why took.1)
   outcome own here out counts_not (inr gives) =
       inr (gave p l new own open_lock here out counts_not e gives.0 gives.1, still_owned p l new own open_lock here out counts_not e owned gives.1)
 
-  by_place : (place_at l.places p ≡ Ask) ⊎ (place_at l.places p ≡ AskStarved) → Took p e new ⊎ (GaveWay p l e new × Owned new)
+  by_place : (place_at l.places p ≡ Ask) ⊎ (place_at l.places p ≡ AskStarved) → (Took p e new × Why) ⊎ (GaveWay p l e new × Owned new)
   by_place (inl here) =
       let out : holds (place_at l.places p) ≡ 0 = ap holds here in
       let counts_not : counted (place_at l.places p) ≡ 0 = ap counted here in
@@ -180,14 +219,42 @@ module _ (l : Lock) (owned : Owned l) (open_lock : holders l ≡ 0) (p : ℕ) (e
       (polls_unstarved true p l open_lock out e new refl counts_not (known_party l.places p called.0) here called.1 (goes_on_here true p e new l called.0 polls))
   by_place (inr here) =
       let out : holds (place_at l.places p) ≡ 0 = ap holds here in
-      inl (polls_starved true p l open_lock out e new (known_party l.places p called.0) here called.1 (goes_on_here true p e new l called.0 polls))
+      inl (polls_starved true p l open_lock out e new (known_party l.places p called.0) here called.1 (goes_on_here true p e new l called.0 polls), inr (inl (ap counted here)))
+
+  either_why : (Took p e new × Why) ⊎ (GaveWay p l e new × Owned new)
+  either_why = by_place (waiting_at (place_at l.places p) called.0)
+
+  without_why : (Took p e new × Why) ⊎ (GaveWay p l e new × Owned new) → Took p e new ⊎ (GaveWay p l e new × Owned new)
+  without_why (inl took) = inl took.0
+  without_why (inr gives) = inr gives
 
   either : Took p e new ⊎ (GaveWay p l e new × Owned new)
-  either = by_place (waiting_at (place_at l.places p) called.0)
+  either = without_why either_why
 
   takes_or_gives : Took p e new ⊎ (GaveWay p l e new × Owned new) → Took p e new ⊎ GaveWay p l e new
   takes_or_gives (inl took) = inl took
   takes_or_gives (inr gives) = inr gives.0
+
+  -- where another stands in the list, it isn't the last: the notification that it handed on is there
+  not_last : (q : ℕ) → q ≢ p → 0 < entries_of q l.entries → Last → ⊥
+  not_last q apart there end =
+      let gone = without (is_party p) l.entries in
+      let told = notified gone 1 in
+      let mine : entries_of p told ≡ 0 = entries_of-mark_waiting p Notified (1 - marked_count gone) gone ∙ none_of_it p l new (owned p ∙ listed_waiting (place_at l.places p) called.0) in
+      let other : entries_of q gone ≡ entries_of q l.entries = entries_of-without_other q p l.entries apart in
+      let many : 0 < length gone = some_listed q gone (omega (arith, other, there)) in
+      let marked : 0 < marked_count (joined told p) = omega (arith, marked_count-notified gone many, marked_count-joined told p) in
+      let quiet : is_marked_at (is_party p) (notified (joined told p) 1) ≡ false = ap (is_marked_at (is_party p)) (same_marks (joined told p) marked) ∙ joined_unmarked p told mine in
+      absurd (cc (end, quiet))
+
+  -- so at rest one that isn't starved gives way beside one that is
+  gives_way : IsAtRest l.places → counted (place_at l.places p) ≡ 0 → 0 < starved l → (Took p e new × Why) ⊎ (GaveWay p l e new × Owned new) → GaveWay p l e new
+  gives_way rest plain some (inr gives) = gives.0
+  gives_way rest plain some (inl (took, inl none)) = absurd (omega (arith, some, none))
+  gives_way rest plain some (inl (took, inr (inl starving))) = absurd (omega (arith, plain, starving))
+  gives_way rest plain some (inl (took, inr (inr end))) =
+      let other = listed_starved l.places rest some in
+      absurd (not_last other.0 (λ is. (let mine : counted (place_at l.places p) ≡ 1 = ap (λ k. counted (place_at l.places k)) (sym is) ∙ other.1 in omega (arith, mine, plain))) (omega (arith, owned other.0, other.2)) end)
 
 -- a starved party gives way to nobody, and nobody gives way where none is starved; and neither needs memory
 module _ (l : Lock) (open_lock : holders l ≡ 0) (memory : Bool) (p : ℕ) (e : End) (new : Lock) (called : IsCalled l p) (polls : PollsAlone memory p e new l) where
@@ -215,25 +282,6 @@ in_turn (suc n) l new owned open_lock t =
     (gave_one n t.0 t.1 l t.2 t.4 (λ owned_then open_then. in_turn n t.2 new owned_then open_then t.6) (either l owned open_lock t.0 t.1 t.2 t.3 t.5)).0
 
 -- ---- At rest
-
--- a starved party that rests is listed
-rests_so : (x : Place) → is_resting x ≡ true → (counted x ≡ 0) ⊎ ((counted x ≡ 1) × (listed x ≡ 1))
-rests_so Out h = inl refl
-rests_so Holding h = inl refl
-rests_so Ask h = inl refl
-rests_so AskStarved h = inr (refl, refl)
-rests_so _ h = absurd (cc)
-
-abbrev ListedStarved : List Place → Type 0
-ListedStarved ps = (q : ℕ) × (counted (place_at ps q) ≡ 1) × (listed (place_at ps q) ≡ 1)
-
-one_more : (x : Place) (xs : List Place) → 0 < sum_by counted (x ∷ xs) → (0 < sum_by counted xs → ListedStarved xs) → (counted x ≡ 0) ⊎ ((counted x ≡ 1) × (listed x ≡ 1)) → ListedStarved (x ∷ xs)
-one_more x xs some more (inl none) = let found = more (omega (arith, sum_by-cons counted x xs)) in (suc found.0, found.1, found.2)
-one_more x xs some more (inr here) = (0, here.0, here.1)
-
-listed_starved : (ps : List Place) → IsAtRest ps → 0 < sum_by counted ps → ListedStarved ps
-listed_starved [] rest some = absurd (omega arith)
-listed_starved (x ∷ xs) rest some = one_more x xs some (listed_starved xs rest.1) (rests_so x rest.0)
 
 at_most_one : (l : Lock) (k : ℕ) → unstarved l k ≤ 1
 at_most_one l k = omega arith
@@ -271,4 +319,5 @@ solo_polls l mutex open_lock = record {
       let there : 0 < listed (place_at l.places found.0) = omega (arith, mutex.owners found.0, found.2) in
       (found.0, (pending_at (place_at l.places found.0) (one_at_rest is_resting Out refl l.places rest found.0) there, found.1));
   one_takes = fewer_than_listed l mutex open_lock;
+  behind = λ rest p e new called plain some polls. gives_way l mutex.owners open_lock p e new called polls rest plain some (either_why l mutex.owners open_lock p e new called polls);
 }
