@@ -92,6 +92,8 @@ pub record GivesWay (w : World) (p : ℕ) (a : Answer) (v : World) : Type 0 wher
 -- What a solo poll does to a free inner lock: it takes it or gives way, unless it is refused as one too many of the starved, and that only where as many are as may be, of which it is none; and whatever the limit, it takes it if its party is starved, or if nobody is.
 pub record SoloPoll (w : World) (p : ℕ) (a : Answer) (v : World) : Type 0 where
   pub takes_or_gives_way : a ≢ refused refusal.Starved → Takes w p (wait_of w p) a v ⊎ GivesWay w p a v
+  -- At rest it gives way if its party isn't starved, and another is.
+  pub behind : is_at_rest w ≡ true → is_starved w.lock p ≡ false → 0 < how_many w.lock.starved → a ≢ refused refusal.Starved → GivesWay w p a v
   pub refused : a ≡ refused refusal.Starved → (how_many w.lock.starved ≡ w.starved_limit) × (is_starved w.lock p ≡ false)
   pub takes : (is_starved w.lock p ≡ true) ⊎ (how_many w.lock.starved ≡ 0) → Takes w p (wait_of w p) a v
 

@@ -71,6 +71,8 @@ pub record SoloPollForTurn (w : World) (p : ℕ) (a : Answer) (v : World) : Type
   pub takes_or_gives_way : is_refusal a ≡ false → TakesTurn w p a v ⊎ GivesTurnWay w p a v
   pub refused : is_refusal a ≡ true → ((how_many w.state.starved ≡ w.starved_limit) × (is_starved w p ≡ false)) ⊎ MeetsReaders w p
   pub takes : (is_starved w p ≡ true) ⊎ (how_many w.state.starved ≡ 0) → TakesTurn w p a v ⊎ (MeetsReaders w p × (is_refusal a ≡ true))
+  -- At rest it gives way if its party isn't starved, and another is.
+  pub behind : is_at_rest w ≡ true → is_starved w p ≡ false → 0 < how_many w.state.starved → is_refusal a ≡ false → GivesTurnWay w p a v
 
 -- The poll is ready with the value as it was, and its party reads.
 pub record TakesToRead (w : World) (p : ℕ) (a : Answer) (v : World) : Type 0 where

@@ -364,7 +364,7 @@ module _ (t : Table Barrier) (laws : IsBarrier t.machine) (fits : IsBarrierTable
     positions_rest : IsAtRest xs
     positions_rest = all_at_rest is_resting Out xs (λ q j. resting (stage_at t.stages q) (x_of q) (fits.stands q (omega (arith, j, fits.as_many))) (outside_at t.stages stages_rest q))
 
-    courses_rest : LockAtRest t.machine.lock.courses
+    pub courses_rest : LockAtRest t.machine.lock.courses
     courses_rest = all_at_rest rests_there out_of_lock t.machine.lock.courses (λ q j. rests_in_lock (x_of q) (c_of q) (one_at_rest is_resting Out refl xs positions_rest q) (laws.links q))
 
     waits_there : (q : ℕ) → 0 < entries_of q t.machine.entries → x_of q ≡ Waiting

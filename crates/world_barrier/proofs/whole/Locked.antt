@@ -65,43 +65,45 @@ module _ (p : ℕ) (b : Aim) (s : Barrier) where
     pub same : Same p b s y
     pub entries : y.entries ≡ s.entries
 
-  abbrev pub Goes : Bool → Position → Barrier → Type 0
-  Goes memory (At (TakeLock a)) x = (a ≡ b) × IsTaking memory x
-  Goes memory z x = Serves p b s z x
+  -- what is so where such a poll has taken the lock
+  module _ (May : Type 0) where
+    abbrev pub Goes : Bool → Position → Barrier → Type 0
+    Goes memory (At (TakeLock a)) x = (a ≡ b) × IsTaking memory x
+    Goes memory z x = Serves p b s z x × May
 
-  abbrev pub Ends : Bool → Answer → Position → Barrier → Type 0
-  Ends memory a at y = Came p b s a at y ⊎ GaveUp memory a at y
+    abbrev pub Ends : Bool → Answer → Position → Barrier → Type 0
+    Ends memory a at y = (Came p b s a at y × May) ⊎ GaveUp memory a at y
 
-  abbrev pub SoloThen : Bool → Next → Barrier → Type 0
-  SoloThen memory = Then (Goes memory) (Ends memory)
+    abbrev pub SoloThen : Bool → Next → Barrier → Type 0
+    SoloThen memory = Then (Goes memory) (Ends memory)
 
-  goes_served : (memory : Bool) (z : Place) (y : Barrier) → Serves p b s (At z) y → Goes memory (At z) y
-  goes_served memory (TakeLock a) y h = absurd h
-  goes_served memory _ y h = h
+    goes_served : (memory : Bool) (z : Place) (y : Barrier) → Serves p b s (At z) y → May → Goes memory (At z) y
+    goes_served memory (TakeLock a) y h may = absurd h
+    goes_served memory _ y h may = (h, may)
 
-  pub then_served : (memory : Bool) (n : Next) (y : Barrier) → ServesThen p b s n y → SoloThen memory n y
-  then_served memory (next.Do z) y h = goes_served memory z y h
-  then_served memory (next.End e x) y h = inl h
+    pub then_served : (memory : Bool) (n : Next) (y : Barrier) → ServesThen p b s n y → May → SoloThen memory n y
+    then_served memory (next.Do z) y h may = goes_served memory z y h may
+    then_served memory (next.End e x) y h may = inl (h, may)
 
-  gets_there : (memory : Bool) (a : Aim) (y : Barrier) → a ≡ b → Same p b s y → SoloThen memory (next.Do (with_lock a)) y
-  gets_there memory Aim.Arrive y e same = (sym e, same)
-  gets_there memory Aim.Check y e same = (sym e, same)
+    gets_there : (memory : Bool) (a : Aim) (y : Barrier) → a ≡ b → Same p b s y → May → SoloThen memory (next.Do (with_lock a)) y
+    gets_there memory Aim.Arrive y e same may = ((sym e, same), may)
+    gets_there memory Aim.Check y e same may = ((sym e, same), may)
 
-  -- whoever polls there takes the lock or gives way, with this memory
-  abbrev pub Settles : Bool → Type 0
-  Settles memory = (e : LockEnd) (new : Mutex) → PollsAlone memory p e new s.lock → Took p e new ⊎ GaveWay p s.lock e new
+    -- whoever polls there takes the lock, where it may, or gives way, with this memory
+    abbrev pub Settles : Bool → Type 0
+    Settles memory = (e : LockEnd) (new : Mutex) → PollsAlone memory p e new s.lock → (Took p e new × May) ⊎ GaveWay p s.lock e new
 
-  module _ (i : Inputs) (settles : Settles i.memory) (y : Barrier) where
+  module _ (May : Type 0) (i : Inputs) (settles : Settles May i.memory) (y : Barrier) where
     abbrev Leads : Next → Barrier → Type 0
-    Leads = SoloThen i.memory
+    Leads = SoloThen May i.memory
 
     gives_up : (e : LockEnd) → PollsAlone i.memory p e y.lock s.lock → Same p b s y → y.entries ≡ s.entries → GaveWay p s.lock e y.lock → StandsBack p s.lock e y.lock → Leads (after_lock b (Found.Lock (LockStep.End e))) y
     gives_up LockEnd.Pending polls same entries g back = inr (record { to = LockEnd.Pending; polls = polls; gave = g; answer = refl; place = refl; same = same; entries = entries })
     gives_up (LockEnd.Refused Starved) polls same entries g back = inr (record { to = LockEnd.Refused Starved; polls = polls; gave = g; answer = refl; place = refl; same = same; entries = entries })
     gives_up _ polls same entries g back = absurd back
 
-    by_end : (e : LockEnd) → PollsAlone i.memory p e y.lock s.lock → Same p b s y → y.entries ≡ s.entries → Took p e y.lock ⊎ GaveWay p s.lock e y.lock → Leads (after_lock b (Found.Lock (LockStep.End e))) y
-    by_end e polls same entries (inl took) = let P : LockEnd → Type 0 = λ z. Leads (after_lock b (Found.Lock (LockStep.End z))) y in subst P (sym took.0) (gets_there i.memory b y refl same)
+    by_end : (e : LockEnd) → PollsAlone i.memory p e y.lock s.lock → Same p b s y → y.entries ≡ s.entries → (Took p e y.lock × May) ⊎ GaveWay p s.lock e y.lock → Leads (after_lock b (Found.Lock (LockStep.End e))) y
+    by_end e polls same entries (inl took) = let P : LockEnd → Type 0 = λ z. Leads (after_lock b (Found.Lock (LockStep.End z))) y in subst P (sym took.0.0) (gets_there May i.memory b y refl same took.1)
     by_end e polls same entries (inr g) = gives_up e polls same entries g g.stands_back
 
     ends : (e : LockEnd) → PollsAlone i.memory p e y.lock s.lock → Same p b s y → y.entries ≡ s.entries → Leads (after_lock b (Found.Lock (LockStep.End e))) y

@@ -3,6 +3,11 @@ use Rattle.world_barrier.proofs.Prelude.{Refusal, ◌≡◌, ◌≢◌, ℕ, ◌
 use Rattle.std.specs.Prelude.{is_none}
 use Rattle.world_base.proofs.Bounds.{marked_listed}
 use Rattle.world_mutex.proofs.of_machine.callers.AloneSeen.{solo_polls as lock_law}
+use Rattle.world_mutex.specs.machine.Alone.{Took, GaveWay}
+use Rattle.world_mutex.specs.machine.Course.{counted as counted_there}
+use Rattle.world_mutex.specs.machine.Mutex.{IsAtRest as LockAtRest}
+use Rattle.world_barrier.specs.Laws.{is_at_rest}
+use Rattle.world_barrier.proofs.laws.Sound.{courses_rest}
 use Rattle.world_mutex.proofs.of_machine.callers.Holders as sees
 use Rattle.world_barrier.specs.machine.Machine.{is_out}
 use Rattle.world_barrier.specs.Bound.{Takes}
@@ -165,9 +170,9 @@ module _ (known : ℕ → Account) (w : World) (p : ℕ) (i : Inputs) (n : ℕ) 
   notified_comes runs k memory checks marked free unstarved = (whole t p i (Enters p k.its_aim s) (Came p k.its_aim s) (enters_inside p k.its_aim s) (λ x y from f laws later here so step. enters_on p k.its_aim s i memory x y from f laws later here so step)
       known w Call.Poll n a v k.stage k.within Ask refl k.at k.called k.first k.starts (λ f y laws step. asks p k.its_aim s i f y marked free unstarved checks step) runs ended).ended
 
-  lock_comes : IsRun Call.Poll → (k : Begins t p Call.Poll i WaitLock) → IsSupplied p k.its_aim s i → Settles p k.its_aim s i.memory → EndsAt t p i (Goes p k.its_aim s i.memory) (Ends p k.its_aim s i.memory) a v
-  lock_comes runs k memory settles = whole t p i (Goes p k.its_aim s i.memory) (Ends p k.its_aim s i.memory) (goes_inside p k.its_aim s i.memory) (λ x y from f laws later here so step. takes_on p k.its_aim s i memory x y settles from f laws later here so step)
-      known w Call.Poll n a v k.stage k.within (WaitLock k.its_aim) refl k.at k.called k.first k.starts (λ f y laws step. begins p k.its_aim s i settles y f step) runs ended
+  lock_comes : (May : Type 0) → IsRun Call.Poll → (k : Begins t p Call.Poll i WaitLock) → IsSupplied p k.its_aim s i → Settles p k.its_aim s May i.memory → EndsAt t p i (Goes p k.its_aim s May i.memory) (Ends p k.its_aim s May i.memory) a v
+  lock_comes May runs k memory settles = whole t p i (Goes p k.its_aim s May i.memory) (Ends p k.its_aim s May i.memory) (goes_inside p k.its_aim s May i.memory) (λ x y from f laws later here so step. takes_on p k.its_aim s May i memory x y settles from f laws later here so step)
+      known w Call.Poll n a v k.stage k.within (WaitLock k.its_aim) refl k.at k.called k.first k.starts (λ f y laws step. begins p k.its_aim s May i settles y f step) runs ended
 
   -- as callers see it
   as_seen : (P : World → World → Type 0) → P (view_of t) (view_of v.behind) → P w v
@@ -204,9 +209,9 @@ module _ (known : ℕ → Account) (w : World) (p : ℕ) (i : Inputs) (n : ℕ) 
     why_seen (inl starving) = inl (sym (sees.counted_bit (course_at s.lock.courses p)) ∙ ap bit (sym (sees.starved_at s.lock.courses p) ∙ starving))
     why_seen (inr none) = inr (nobody_starved t none)
 
-    takes_back : (e : LockEnd) → e ≡ LockEnd.Got → StandsBack p s.lock e v.behind.machine.lock → ⊥
-    takes_back LockEnd.Got is back = back
-    takes_back _ is back = absurd (cc is)
+    got_not : (e : LockEnd) (new : Mutex) → e ≡ LockEnd.Got → StandsBack p s.lock e new → ⊥
+    got_not LockEnd.Got new is back = back
+    got_not _ new is back = absurd (cc is)
 
     -- a poll that has had the inner lock
     came_seen : (k : Begins t p Call.Poll i WaitLock) → Came p k.its_aim s a (position_at v.behind.machine.positions p) v.behind.machine → Takes (view_of t) p (wait_of (view_of t) p) a (view_of v.behind)
@@ -214,18 +219,38 @@ module _ (known : ℕ → Account) (w : World) (p : ℕ) (i : Inputs) (n : ℕ) 
 
     -- it has had it, where it is starved or nobody is
     must_come : (k : Begins t p Call.Poll i WaitLock) → (law : SoloPolls s.lock) → IsCalled s.lock p → (is_starved (view_of t).lock p ≡ true) ⊎ (how_many (view_of t).lock.starved ≡ 0)
-        → Came p k.its_aim s a (position_at v.behind.machine.positions p) v.behind.machine ⊎ GaveUp p k.its_aim s i.memory a (position_at v.behind.machine.positions p) v.behind.machine → Takes (view_of t) p (wait_of (view_of t) p) a (view_of v.behind)
-    must_come k law called why (inl came) = came_seen k came
-    must_come k law called why (inr gave) = absurd (takes_back gave.to (law.takes i.memory p gave.to v.behind.machine.lock called (why_seen why) gave.polls).0 gave.gave.stands_back)
+        → (Came p k.its_aim s a (position_at v.behind.machine.positions p) v.behind.machine × Unit {0}) ⊎ GaveUp p k.its_aim s i.memory a (position_at v.behind.machine.positions p) v.behind.machine → Takes (view_of t) p (wait_of (view_of t) p) a (view_of v.behind)
+    must_come k law called why (inl came) = came_seen k came.0
+    must_come k law called why (inr gave) = absurd (got_not gave.to v.behind.machine.lock (law.takes i.memory p gave.to v.behind.machine.lock called (why_seen why) gave.polls).0 gave.gave.stands_back)
 
-    solo_by : (k : Begins t p Call.Poll i WaitLock) → position_at s.positions p ≡ Locking k.its_aim → (law : SoloPolls s.lock) → IsCalled s.lock p → 0 < entries_of p s.lock.entries → EndsAt t p i (Goes p k.its_aim s i.memory) (Ends p k.its_aim s i.memory) a v
-        → Came p k.its_aim s a (position_at v.behind.machine.positions p) v.behind.machine ⊎ GaveUp p k.its_aim s i.memory a (position_at v.behind.machine.positions p) v.behind.machine → SoloPoll (view_of t) p a (view_of v.behind)
-    solo_by k here law called there end (inl came) = record { takes_or_gives_way = λ below. inl (came_seen k came); refused = λ is. absurd (never_starved (wait_of (view_of t) p) (view_of t) p a (view_of v.behind) (came_seen k came).comes_to is); takes = λ why. came_seen k came }
+    -- it isn't so at rest that its party isn't starved and another is
+    abbrev May : Type 0
+    May = LockAtRest s.lock.courses → counted_there (course_at s.lock.courses p) ≡ 0 → 0 < starved s.lock → ⊥
+
+    -- what a rest of the World is there
+    behind_there : May → is_at_rest (view_of t) ≡ true → is_starved (view_of t).lock p ≡ false → 0 < how_many (view_of t).lock.starved → ⊥
+    behind_there may rest plain others = may (courses_rest t stood.laws stood.fits rest) (sym (sees.counted_bit (course_at s.lock.courses p)) ∙ ap bit (sym (sees.starved_at s.lock.courses p) ∙ plain)) (omega (arith, others, sees.how_many_counted s.lock.courses))
+
+    solo_by : (k : Begins t p Call.Poll i WaitLock) → position_at s.positions p ≡ Locking k.its_aim → (law : SoloPolls s.lock) → IsCalled s.lock p → 0 < entries_of p s.lock.entries → EndsAt t p i (Goes p k.its_aim s May i.memory) (Ends p k.its_aim s May i.memory) a v
+        → (Came p k.its_aim s a (position_at v.behind.machine.positions p) v.behind.machine × May) ⊎ GaveUp p k.its_aim s i.memory a (position_at v.behind.machine.positions p) v.behind.machine → SoloPoll (view_of t) p a (view_of v.behind)
+    solo_by k here law called there end (inl came) = record {
+      takes_or_gives_way = λ below. inl (came_seen k came.0);
+      refused = λ is. absurd (never_starved (wait_of (view_of t) p) (view_of t) p a (view_of v.behind) (came_seen k came.0).comes_to is);
+      takes = λ why. came_seen k came.0;
+      behind = λ rest plain others below. absurd (behind_there came.1 rest plain others);
+    }
     solo_by k here law called there end (inr gave) = record {
       takes_or_gives_way = λ below. inr (gives_seen p k.its_aim t v.behind a end.elsewhere end.outside here i.memory gave there below);
       refused = refused_seen p k.its_aim t v.behind a end.elsewhere end.outside here i.memory gave;
       takes = λ why. must_come k law called why (inr gave);
+      behind = λ rest plain others below. gives_seen p k.its_aim t v.behind a end.elsewhere end.outside here i.memory gave there below;
     }
+
+    takes_where_it_may : (e : LockEnd) (new : Mutex) → SoloPolls s.lock → IsCalled s.lock p → PollsAlone true p e new s.lock → (Took p e new × May) ⊎ GaveWay p s.lock e new
+    takes_where_it_may e new law called polls = elim (law.takes_or_gives_way p e new called polls) as (λ _. (Took p e new × May) ⊎ GaveWay p s.lock e new) [
+      | inl took ↦ inl (took, λ rest plain others. got_not e new took.0 (law.behind rest p e new called plain others polls).stands_back)
+      | inr gave ↦ inr gave
+    ]
 
     pub solo : IsSolo w p i → w.lock.holder ≡ None → SoloPoll w p a v
     solo polls free =
@@ -237,7 +262,7 @@ module _ (known : ℕ → Account) (w : World) (p : ℕ) (i : Inputs) (n : ℕ) 
         let law = lock_law s.lock stood.laws.lock free' in
         let called : IsCalled s.lock p = (found.2, solo'.marked) in
         let M : LockEnd → Mutex → Bool → Type 0 = λ e new m. PollsAlone m p e new s.lock in
-        let end = lock_comes runs found.0 (λ must. solo'.memory) (λ e new polls. law.takes_or_gives_way p e new called (subst (M e new) solo'.memory polls)) in
+        let end = lock_comes May runs found.0 (λ must. solo'.memory) (λ e new polls. takes_where_it_may e new law called (subst (M e new) solo'.memory polls)) in
         as_seen (λ x y. SoloPoll x p a y) (solo_by found.0 found.1 law called there end end.ended)
 
     -- whether or not it finds memory, unless it has to wait
@@ -253,5 +278,5 @@ module _ (known : ℕ → Account) (w : World) (p : ℕ) (i : Inputs) (n : ℕ) 
         let law = lock_law s.lock stood.laws.lock free' in
         let called : IsCalled s.lock p = (found.2, told'.marked) in
         let some = supplied Call.Poll WaitLock k (subst (λ z. HasToWait (view_of t) z → i.memory ≡ true) k.wait told'.memory) in
-        let end = lock_comes runs k some (λ e new polls. inl (law.takes i.memory p e new called (why_seen why') polls)) in
+        let end = lock_comes (Unit {0}) runs k some (λ e new polls. inl (law.takes i.memory p e new called (why_seen why') polls, tt)) in
         as_seen (λ x y. Takes x p (wait_of x p) a y) (must_come k law called why' end.ended)

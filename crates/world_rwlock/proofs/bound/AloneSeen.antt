@@ -2,13 +2,13 @@
 use Rattle.world_rwlock.proofs.Prelude.{◌≡◌, ◌≢◌, ℕ, ◌<◌, ◌⊎◌, inl, inr, true, false, length, map, Option, refl, sym, ap, ◌∙◌, subst, arith, set, set-get_or, false≢true, list_all, is_marked_at, is_party, entries_of, Answer, Call, Value, Inputs, Refusal, Rest, Outside, Forgotten, how_many, outside, is_outside_stage, TurnCourse, listed, turn_at, IsStarved, holders, starved, holder_of, out_unlisted, holding_unlisted, gave_way, End, Next, Place, has_turn, in_no_writer, in_no_readers, fits_turn, place_at, IsRwLock, readers, PollsAlone, waits_to_read, looks_for_readers, waits_for_turn, IsCalledToTurn, Took, TookTurn, StandsBack, GaveTurnWay, HasEnough, SoloPolls, stage_at, is_future, goes_with, sought_at, Table, Guarded, answer_by, Account, moves_of, answers_of, Runs, IsRwLockTable, Stands, nobody, is_upgradable, waits_to_write as waits, World, standing_of, is_starved, is_upgrader, how_many_read, is_marked, is_at_rest, upgrading, waiting, writing, turn_as, share_of, turn_by, is_reading, is_upgrade, verdict, standing_at, view_of, IsSoloForTurn, IsToldOfTurn, IsToldToRead, IsSoloToWrite, TakesTurn, GivesTurnWay, SoloPollForTurn, TakesToRead, TakesToWrite, rest_seen, outside_stage, inside_or_past}
 use Rattle.world_base.proofs.Bounds.{marked_listed}
 use Rattle.world_base.proofs.Rests.{still_outside}
-use Rattle.world_mutex.specs.machine.Course.{bit}
+use Rattle.world_mutex.specs.machine.Course.{bit, counted}
 use Rattle.world_mutex.proofs.of_machine.callers.Holders as sees
 use Rattle.world_rwlock.proofs.of_machine.solo_polls.Solo.{writer_at, solo_polls}
 use Rattle.world_rwlock.specs.State.{writes}
 use Rattle.world_rwlock.proofs.table.Begun.{at_future}
 use Rattle.world_rwlock.proofs.bound.Alone.{Ended, polls_alone}
-use Rattle.world_rwlock.proofs.laws.Sound.{nobody_holds, bit_seen}
+use Rattle.world_rwlock.proofs.laws.Sound.{nobody_holds, bit_seen, all_rest}
 use Rattle.world_rwlock.proofs.step.Idle.{sought_is}
 use Rattle.world_rwlock.proofs.step.Owns as owns
 use Rattle.world_rwlock.proofs.table.Views as view
@@ -217,6 +217,13 @@ module _ (w : World) (p : ℕ) (i : Inputs) (laws : IsRwLock w.behind.machine.lo
           takes_or_gives_way = λ under. either_seen c.some under (law.takes_turn_or_gives_way c.nobody_there p e v.behind.machine.lock c.called with_memory);
           refused = λ is. refused_seen is (law.takes_turn_or_gives_way c.nobody_there p e v.behind.machine.lock c.called with_memory);
           takes = λ why. took_or_met (law.takes_turn c.nobody_there true p e v.behind.machine.lock c.called (λ is_write some. refl) (why_seen why) with_memory);
+          behind = λ resting plain others under.
+              let out : list_all is_outside_stage t.stages ≡ true = sym (rest_seen (verdicts t) t.stages) ∙ resting in
+              let quiet = all_rest t.machine.lock t.stages t.machine.value tf out in
+              let unstarved : counted (turn_at t.machine.lock.turn.courses p) ≡ 0 = sym (sees.counted_bit (turn_at t.machine.lock.turn.courses p)) ∙ ap bit (sym (sees.starved_at t.machine.lock.turn.courses p) ∙ plain) in
+              let many : 0 < starved t.machine.lock.turn = omega (arith, others, sees.how_many_counted t.machine.lock.turn.courses) in
+              let gave = law.behind quiet c.nobody_there p e v.behind.machine.lock c.called unstarved many with_memory in
+              gives_way_seen w v p a e tf c.some under gave gave.stands_back k;
         }
 
     told_polled : IsToldOfTurn (shown w) p i → (shown w).state.turn ≡ nobody → (Meets (shown w) p → ⊥) → (is_starved (shown w) p ≡ true) ⊎ (how_many (shown w).state.starved ≡ 0) → TakesTurn (shown w) p a (shown v)

@@ -5,7 +5,8 @@ use Rattle.world_base.specs.queue.Parties.{is_party}
 use Rattle.world_base.specs.declared.moves.Call.TheVariants as call
 use Rattle.lock_program.specs.declared.refusal.Refusal.TheVariants.{Readers, Starved}
 use Rattle.lock_program.specs.declared.end.End.TheVariants as turn_end
-use Rattle.world_mutex.specs.machine.Mutex.{IsStarved, holders, starved}
+use Rattle.world_mutex.specs.machine.Course.{counted}
+use Rattle.world_mutex.specs.machine.Mutex.{IsStarved, course_at, holders, starved}
 use Rattle.world_mutex.specs.machine.Alone.{GaveWay}
 use Rattle.lock_program.specs.declared.rwlock.Purpose.TheVariants.{Write, UpgradableRead}
 use Rattle.lock_program.specs.declared.rwlock.Place.{Place}
@@ -111,6 +112,8 @@ pub record SoloPolls (v : RwLock) : Type 0 where
   pub takes_turn_or_gives_way : holders v.turn ≡ 0 → (p : ℕ) (e : End) (new : RwLock) → IsCalledToTurn v p → PollsAlone true p e new v → TookTurn p e new ⊎ (GaveTurnWay p v e new ⊎ MeetsReaders p v e)
   -- and doesn't give way if its party is starved, or if nobody is, and it has memory enough.
   pub takes_turn : holders v.turn ≡ 0 → (memory : Bool) (p : ℕ) (e : End) (new : RwLock) → IsCalledToTurn v p → HasEnough memory v p → IsStarved v.turn p ⊎ (starved v.turn ≡ 0) → PollsAlone memory p e new v → TookTurn p e new ⊎ MeetsReaders p v e
+  -- At rest it gives way if its party isn't starved, and another is.
+  pub behind : IsAtRest v → holders v.turn ≡ 0 → (p : ℕ) (e : End) (new : RwLock) → IsCalledToTurn v p → counted (course_at v.turn.courses p) ≡ 0 → 0 < starved v.turn → PollsAlone true p e new v → GaveTurnWay p v e new
   -- At rest, where somebody waits in a list for something free, some party there has been notified.
   pub some_reader_called : IsAtRest v → marked v ≡ 0 → 0 < length v.no_writer → (p : ℕ) × IsCalledToRead v p
   pub some_writer_called : IsAtRest v → readers v ≡ 0 → 0 < length v.no_readers → (p : ℕ) × IsCalledToWrite v p

@@ -1,7 +1,7 @@
 -- Where a poll leads that is carried out alone while the lock is free for it.
 use Rattle.world_rwlock.proofs.Prelude.{◌≡◌, ℕ, ◌+◌, ◌<◌, ◌⊎◌, inl, inr, zero, suc, Bool, true, List, [], ◌∷◌, length, get_or, refl, ap, arith, subst, ◌∙◌, get_or-set_same, length-set, set, sum_by, sum_by-set, Entry, is_marked_at, is_party, TurnCourse, listed, turn_at, out_unlisted, holding_unlisted, first_marked, Place, Out, Made, Reading, Upgradable, Writing, EnterRead, AskNoWriter, PassOn, WaitTurn, AwaitNoReaders, LookUnlisted, LeaveNoReaders, Action, Found, Done, Writer, Full, NoneLeft, SomeLeft, Yes, No, End, Got, Next, next_of, place_after, go_to, ends, reads, marks, in_no_writer, in_no_readers, fits_turn, is_resting, OnNoWriter, RwLock, place_at, Acts, Finds, IsRwLock, readers, marked, GoesOnAlone, last, step, PollsAlone, at_once, begun, waits_to_read, looks_for_readers, waits_for_turn, Took, SoloPolls}
 use Rattle.world_rwlock.specs.machine.Solo.{waits_to_write}
-use Rattle.world_rwlock.proofs.of_machine.solo_polls.SoloTurns.{either, must_take}
+use Rattle.world_rwlock.proofs.of_machine.solo_polls.SoloTurns.{either, must_take, must_give_way}
 
 module _ (memory : Bool) (p : ℕ) (v : RwLock) where
   -- since v only this party has moved, and it stands at x
@@ -203,6 +203,7 @@ solo_polls v laws = record {
   writes = λ none memory p e new looks polls. writer_polls memory p e new v none looks polls;
   takes_turn_or_gives_way = λ free p e new called polls. either true p e new v laws free called refl polls;
   takes_turn = λ free memory p e new called enough why polls. must_take memory p e new v laws free called enough why polls;
+  behind = λ rest free p e new called plain some polls. must_give_way true p e new v laws free called refl rest plain some polls;
   some_reader_called = λ rest free some.
       let found = first_marked v.no_writer laws.in_order_no_writer (laws.wakes_no_writer rest free some) in
       let there : 0 < in_no_writer (place_at v.places found.0) = omega (arith, laws.owners_no_writer found.0, found.2) in

@@ -1,6 +1,8 @@
 -- Where a poll leads that is carried out alone by a party that waits for the turn, while nobody has it.
-use Rattle.world_rwlock.proofs.Prelude.{Ending, ◌≡◌, ℕ, ◌<◌, ◌≤◌, ◌⊎◌, zero, suc, inl, inr, Bool, true, false, List, [], ◌∷◌, length, refl, sym, ap, arith, subst, ◌∙◌, get_or-set_same, length-set, set-set, set, sum_by, sum_by-set, LockCall, TurnStep, End as TurnEnd, Mutex, IsStarved, holders, starved, Purpose, Place, Out, Upgradable, Writing, WaitTurn, TakeTurn, Add, Mark, JoinNoReaders, LookNoReaders, AskNoReaders, LookUnlisted, LeaveNoReaders, Action, Found, Done, Full, NoneLeft, SomeLeft, NoMemory, Yes, Turn, End, Got, Pending, Refused, Next, action_of, next_of, after_lock, with_turn, place_after, go_to, ends, reads, OnTurn, RwLock, place_at, Acts, Finds, IsRwLock, readers, GoesOnAlone, last, step, PollsAlone, at_once, begun, waits_for_turn, IsCalledToTurn, TookTurn, GaveTurnWay, HasEnough}
+use Rattle.world_rwlock.proofs.Prelude.{Ending, ◌≡◌, ℕ, ◌<◌, ◌≤◌, ◌⊎◌, zero, suc, inl, inr, Bool, true, false, List, [], ◌∷◌, length, refl, sym, ap, arith, subst, ◌∙◌, get_or-set_same, length-set, set-set, set, sum_by, sum_by-set, LockCall, TurnStep, End as TurnEnd, Mutex, IsStarved, holders, starved, Purpose, Place, Out, Upgradable, Writing, WaitTurn, TakeTurn, Add, Mark, JoinNoReaders, LookNoReaders, AskNoReaders, LookUnlisted, LeaveNoReaders, Action, Found, Done, Full, NoneLeft, SomeLeft, NoMemory, Yes, Turn, End, Got, Pending, Refused, Next, action_of, next_of, after_lock, with_turn, place_after, go_to, ends, reads, OnTurn, RwLock, place_at, Acts, Finds, IsRwLock, readers, GoesOnAlone, last, step, PollsAlone, at_once, begun, waits_for_turn, IsCalledToTurn, TookTurn, GaveTurnWay, HasEnough, IsAtRest, counted, turn_at, rests_in_turn, out as turn_out}
+use Rattle.world_rwlock.proofs.of_machine.laws.Laws.{rests_t}
 use Rattle.lock_program.specs.declared.refusal.Refusal.TheVariants.{Readers, Starved}
+use Rattle.world_base.proofs.of_table.Resting.{all_at_rest}
 use Rattle.world_mutex.specs.machine.Alone as turn
 use Rattle.world_mutex.proofs.of_machine.callers.AloneSeen.{solo_polls as turn_law}
 use Rattle.lock_program.specs.declared.rwlock.Wanted.{Wanted}
@@ -365,6 +367,14 @@ module _ (memory : Bool) (p : ℕ) (e : End) (new v : RwLock) (laws : IsRwLock v
   either found polls =
       let k = turn_polls memory p e new waiter.0 v known waiter.1 polls in
       by_turn (λ is_write some. found) k (law.takes_or_gives_way p k.turn_end k.mid.turn called_there (subst (λ b. turn.PollsAlone b p k.turn_end k.mid.turn v.turn) found k.polls))
+
+  -- at rest one that isn't starved gives way where another is
+  pub must_give_way : memory ≡ true → IsAtRest v → counted (turn_at v.turn.courses p) ≡ 0 → 0 < starved v.turn → PollsAlone memory p e new v → GaveTurnWay p v e new
+  must_give_way found rest plain some polls =
+      let k = turn_polls memory p e new waiter.0 v known waiter.1 polls in
+      let quiet = all_at_rest rests_in_turn turn_out v.turn.courses (λ q i. rests_t (place_at v.places q) (turn_at v.turn.courses q) (rest q) (laws.in_turn q)) in
+      let g = law.behind quiet p k.turn_end k.mid.turn called_there plain some (subst (λ b. turn.PollsAlone b p k.turn_end k.mid.turn v.turn) found k.polls) in
+      gave k.turn_end k.mid g g.stands_back k.rest k.places (k.no_writer, k.no_readers) k.limit
 
   -- that of a starved party gives way to nobody, and nobody gives way where none is starved
   pub must_take : HasEnough memory v p → IsStarved v.turn p ⊎ (starved v.turn ≡ 0) → PollsAlone memory p e new v → TookTurn p e new ⊎ MeetsReaders p v e
