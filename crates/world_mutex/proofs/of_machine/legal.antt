@@ -8,5 +8,6 @@ pub mod Sights
 pub mod Asked
 pub mod Untold
 pub mod Long
+pub mod InTurn
 pub mod Clauses
 pub mod Told

@@ -1,7 +1,8 @@
 -- What a step of a party's call does to a mutex.
-use Rattle.std.specs.Prelude.{◌≡◌, ◌≢◌, ℕ, ◌<◌, ◌⊎◌, ◌↔◌, Bool, true, false, List, length, Option, Some, None}
+use Rattle.std.specs.Prelude.{◌≡◌, ◌≢◌, ℕ, ◌+◌, ◌-◌, ◌<◌, ◌≤◌, ◌⊎◌, ◌↔◌, Bool, true, false, List, length, Option, Some, None}
 use Rattle.std.specs.Prelude.{◌||◌}
-use Rattle.world_mutex.specs.machine.Course.{holds, is_long}
+use Rattle.world_base.specs.Overtaking.{before}
+use Rattle.world_mutex.specs.machine.Course.{heard, holds, is_long}
 use Rattle.lock_event.specs.declared.event.Entry.{Entry}
 use Rattle.lock_event.specs.declared.event.Mark.TheVariants.{Waiting}
 use Rattle.lock_event.specs.Lists.{mark_at, marked_count}
@@ -134,6 +135,10 @@ abbrev pub StaysLong : Bool → ℕ → Step → Mutex → Type 0
 StaysLong starving p step.More m = IsLong starving p m
 StaysLong starving p (step.End Pending) m = course_at m.courses p ≡ waiting true
 StaysLong starving p (step.End e) m = ⊥
+
+-- A step of a party leaves a starved one in the list in its turn: whoever takes the lock has heard its notification before, once for each time that it takes it, and hears it by leaving the list, where it stood before the starved one.
+abbrev pub ServesInTurn : ℕ → Mutex → Mutex → Type 0
+ServesInTurn p old new = (q : ℕ) → p ≢ q → IsStarved old q → 0 < entries_of q old.entries → heard (course_at new.courses p) + before q new.entries + (holds (course_at new.courses p) - holds (course_at old.courses p)) ≤ heard (course_at old.courses p) + before q old.entries
 
 -- So it begins, of a party that waits for the lock and was notified.
 pub record BeginsLong (starving : Bool) (p : ℕ) (m : Mutex) : Type 0 where

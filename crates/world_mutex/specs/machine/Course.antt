@@ -129,6 +129,13 @@ listed (taking progress starved stands told) = bit stands
 listed (cancelling starved) = 1
 listed _ = 0
 
+-- It has taken its notification out of the list in this poll, and isn't decided yet: the lock may be taken for that, once. As 1 or 0.
+abbrev pub heard : Course → ℕ
+heard (taking undecided starved false true) = 1
+heard (taking called starved false true) = 1
+heard (taking counting starved false told) = 1
+heard _ = 0
+
 -- The end on which its call is decided.
 abbrev pub decision : Course → Option End
 decision out = Some GivenBack

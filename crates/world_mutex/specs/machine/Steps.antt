@@ -1,6 +1,6 @@
 -- A step of a party's call on a mutex, and all that those may know of it who build on one.
 use Rattle.std.specs.Prelude.{◌≡◌, ℕ, ◌<◌, ◌⊎◌, Bool, true, false}
-use Rattle.world_mutex.specs.machine.Conduct.{IsLong, StaysLong, BeginsLong}
+use Rattle.world_mutex.specs.machine.Conduct.{IsLong, StaysLong, BeginsLong, ServesInTurn}
 use Rattle.world_mutex.specs.machine.Course.{waiting}
 use Rattle.world_base.specs.Steps.{leaves, list_after}
 use Rattle.lock_program.specs.declared.end.End.TheVariants.{GivenBack}
@@ -31,6 +31,7 @@ pub record LockBegins (memory starving : Bool) (p : ℕ) (c : LockCall) (s : Ste
   pub releases : c ≡ call.Release → s ≡ step.More
   pub untold : is_fresh c (entries_of p old.entries) ≡ true → StaysUntold p (is_some_starved old) s new
   pub long : memory ≡ true → c ≡ call.Poll → BeginsLong starving p old → StaysLong starving p s new
+  pub in_turn : ServesInTurn p old new
   pub abandons : c ≡ call.Cancel → course_at old.courses p ≡ waiting false → (s ≡ step.End GivenBack) × (new.entries ≡ list_after p leaves old.entries)
   pub done : HasBegun memory p c s old new
 
@@ -45,4 +46,5 @@ pub record LockGoesOn (memory starving : Bool) (p : ℕ) (s : Step) (old new : M
   pub hands_on : is_told (course_at old.courses p) ≡ true → HandsOn s (course_at new.courses p) new.entries
   pub untold : IsUntold p (is_some_starved old) old → StaysUntold p (is_some_starved old) s new
   pub long : memory ≡ true → IsLong starving p old → StaysLong starving p s new
+  pub in_turn : ServesInTurn p old new
   pub done : HasGoneOn memory p s old new

@@ -8,6 +8,7 @@ use Rattle.world_mutex.proofs.of_machine.laws.Starts.{start_same}
 use Rattle.world_mutex.proofs.of_machine.legal.Legal.{begins_fresh}
 use Rattle.world_mutex.proofs.of_machine.legal.Untold.{begins_untold}
 use Rattle.world_mutex.proofs.of_machine.legal.Long.{begins_long, abandons}
+use Rattle.world_mutex.proofs.of_machine.legal.InTurn.{serves_in_turn, heard_at_start}
 use Rattle.world_mutex.proofs.machine.mutex.Mutex.begin.Goals as goal
 
 pub begin-requires-clause-known : goal.begin-requires-clause-known
@@ -41,6 +42,7 @@ returns c =
       releases = λ is. release_goes c.args.memory p (step_of c.begin.result) (seen l) (seen k) (subst D is done);
       untold = λ fresh. begins_untold l k c.args.memory p b.0 c.begin.result known (invariant_of-self c) b.2 (start_same c.args.call (place_at l.places p) b.0 b.1) (c.laws.ensures.owners p) (begins_fresh c.args.call (place_at l.places p) b.0 (entries_of p l.entries) (c.laws.ensures.owners p) b.1 fresh);
       long = λ found polls b'. begins_long l k c.args.memory p b.0 c.begin.result known b.2 c.args.call b.1 c.args.starving found polls b';
+      in_turn = serves_in_turn l k c.args.memory p b.0 c.begin.result known b.2 c.laws.ensures (start_same c.args.call (place_at l.places p) b.0 b.1).starving (heard_at_start c.args.call (place_at l.places p) b.0 b.1) (start_same c.args.call (place_at l.places p) b.0 b.1).holding;
       abandons = λ is waits. abandons l k c.args.memory p b.0 c.begin.result b.2 c.args.call b.1 is waits;
       done = done;
     }))

@@ -6,6 +6,7 @@ use Rattle.world_mutex.proofs.of_machine.legal.Clauses.{known_there, is_legal, f
 use Rattle.world_mutex.proofs.of_machine.legal.Sights.{acts_kept, steps_seen}
 use Rattle.world_mutex.proofs.of_machine.legal.Untold.{stays_untold}
 use Rattle.world_mutex.proofs.of_machine.legal.Long.{stays_long, long_held, long_free}
+use Rattle.world_mutex.proofs.of_machine.legal.InTurn.{serves_in_turn}
 use Rattle.world_mutex.proofs.machine.mutex.Mutex.go.Goals as goal
 
 pub invariant_of-self : goal.invariant_of-self
@@ -28,5 +29,6 @@ returns c =
       hands_on = λ told. hands_on l k c.args.memory p (place_at l.places p) c.go.result known c.go.ensures.acts (told_here l p told);
       untold = λ untold. stays_untold l k c.args.memory p (place_at l.places p) c.go.result known (invariant_of-self c) c.go.ensures.acts (same_place (place_at l.places p)) (c.laws.ensures.owners p) refl untold;
       long = λ found is. (let A : Bool → Type 0 = λ m. Acts m p (place_at l.places p) c.go.result l k in stays_long l k p (place_at l.places p) c.go.result known (subst A found c.go.ensures.acts) (same_place (place_at l.places p)) c.args.starving (long_held l p c.args.starving is) (long_free l p c.args.starving is) refl c.go.ensures.clock is);
+      in_turn = serves_in_turn l k c.args.memory p (place_at l.places p) c.go.result known c.go.ensures.acts c.laws.ensures refl refl refl;
       done = is_done l k _ c.go.result c.self.invariant c.go.ensures.acts;
     }))
