@@ -1,6 +1,12 @@
 -- A starved party is overtaken at most as often as entries stand before its own, where each call that gets what they wait for took an entry out that stood before it.
-use Rattle.world_base.proofs.Prelude.{◌≡◌, ◌≢◌, ℕ, zero, suc, ◌+◌, ◌-◌, ◌<◌, ◌≤◌, inl, inr, if◌then◌else◌, Bool, true, false, List, [], ◌∷◌, get_or, Option, Some, None, refl, arith, nat_tests, Entry, Mark, Waiting, Notified, Additional, joined, mark_waiting, passed_on, without, marked_count, is_marked_at, mark_at, IsMarkedFirst, is_party, entries_of, Answer, Call, Inputs}
-use Rattle.world_base.specs.Overtaking.{before, Passes, Gets, Overtaken}
+use Rattle.world_base.proofs.Prelude.{◌≡◌, ◌≢◌, ℕ, zero, suc, ◌+◌, ◌-◌, ◌<◌, ◌≤◌, inl, inr, if◌then◌else◌, Bool, true, false, List, [], ◌∷◌, length, sum_by, sum_by-cons, get_or, Option, Some, None, refl, arith, nat_tests, Entry, Mark, Waiting, Notified, Additional, joined, mark_waiting, passed_on, without, marked_count, is_marked_at, mark_at, IsMarkedFirst, is_party, entries_of, Answer, Call, Inputs}
+use Rattle.world_base.specs.Overtaking.{before, Passes, Gets, Overtaken, how_many_inside, StepsPast, OvertakenInSteps}
+use Rattle.world_base.specs.declared.moves.Move.{Move}
+use Rattle.world_base.specs.Standings.{Standing, is_outside, is_outside_stage}
+use Rattle.world_base.specs.declared.standing.Stage.{Stage}
+use Rattle.world_base.specs.declared.standing.Stage.TheVariants.{Outside, Inside, Forgotten}
+use Rattle.world_base.specs.table.Stages.{stage_at, stands_as}
+use Rattle.world_base.specs.table.Views.{standings_from}
 use Rattle.world_base.specs.Rosters.{how_many}
 use Rattle.world_base.specs.Steps.{joins, asks, leaves, notifies, notifies_additionally, asked, list_after}
 
@@ -80,3 +86,45 @@ module _ {W : Type 0} (Whole : W → ℕ → Call → Inputs → Answer → W �
         | inl same ↦ omega (arith, same, later, kept)
         | inr got ↦ (let less = fewer q w p c i a mid by g got.1 in omega (arith, got.0, later, less))
       ]
+
+-- ---- steps as they come
+
+-- Parties have heard what they have not used up yet, at most one each, and only inside calls. No step of another makes this and the entries before the party more, and each that gets what they wait for makes it less.
+module _ {W : Type 0} (Steps : W → Move → Answer → W → Type 0) (list : W → List (Entry ℕ)) (is_starved : W → ℕ → Bool) (Has : W → ℕ → Type 0) (standings : W → List Standing) (heard : W → ℕ)
+    (inside : (q : ℕ) (w : W) (m : Move) (a : Answer) (v : W) → StepsPast Steps list is_starved Has standings q w m a v → heard w ≤ how_many_inside (standings w))
+    (never_more : (q : ℕ) (w : W) (m : Move) (a : Answer) (v : W) → StepsPast Steps list is_starved Has standings q w m a v → heard v + before q (list v) ≤ heard w + before q (list w))
+    (fewer : (q : ℕ) (w : W) (m : Move) (a : Answer) (v : W) → StepsPast Steps list is_starved Has standings q w m a v → (Has w m.party → ⊥) → Has v m.party → heard v + before q (list v) + 1 ≤ heard w + before q (list w)) where
+  seldom_heard : (q steps n : ℕ) (w v : W) → OvertakenInSteps Steps list is_starved Has standings q steps n w v → n ≤ heard w + before q (list w)
+  seldom_heard q zero n w v h = omega (arith, h.0)
+  seldom_heard q (suc steps) n w v h =
+      let m = h.0 in
+      let a = h.1 in
+      let mid : W = h.2 in
+      let by = h.3 in
+      let k = h.4 in
+      let later : k ≤ heard mid + before q (list mid) = seldom_heard q steps k mid v h.5 in
+      let kept : heard mid + before q (list mid) ≤ heard w + before q (list w) = never_more q w m a mid by in
+      elim h.6 as (λ _. n ≤ heard w + before q (list w)) [
+        | inl same ↦ omega (arith, same, later, kept)
+        | inr got ↦ (let less = fewer q w m a mid by got.1 got.2 in omega (arith, got.0, later, less))
+      ]
+
+  pub seldom_in_steps : (q steps n : ℕ) (w v : W) → OvertakenInSteps Steps list is_starved Has standings q steps n w v → n ≤ before q (list w) + how_many_inside (standings w)
+  seldom_in_steps q zero n w v h = omega (arith, h.0)
+  seldom_in_steps q (suc steps) n w v h =
+      let most : n ≤ heard w + before q (list w) = seldom_heard q (suc steps) n w v h in
+      omega (arith, most, inside q w h.0 h.1 h.2 h.3)
+
+one_inside : (d : Option Answer) (s : Stage) (k : ℕ) → k ≤ (if is_outside_stage s then 0 else 1) → k ≤ (if is_outside (stands_as d s) then 0 else 1)
+one_inside d (Outside r) k h = h
+one_inside d (Inside w) k h = h
+one_inside d Forgotten k h = h
+
+-- what each party has once at most that is inside a call, and nobody else has, is had by no more than are inside
+pub few_inside : {A : Type 0} (f : A → ℕ) (verdict : ℕ → Option Answer) (n : ℕ) (xs : List A) (ss : List Stage) (d : A) → length ss ≡ length xs → ((p : ℕ) → p < length ss → f (get_or xs p d) ≤ (if is_outside_stage (stage_at ss p) then 0 else 1)) → sum_by f xs ≤ how_many_inside (standings_from n verdict ss)
+few_inside f verdict n [] ss d e each = omega arith
+few_inside f verdict n (x ∷ xs) [] d e each = absurd (omega (arith, e))
+few_inside f verdict n (x ∷ xs) (s ∷ ss) d e each =
+    let here = one_inside (verdict n) s (f x) (each 0 (omega arith)) in
+    let more : sum_by f xs ≤ how_many_inside (standings_from (n + 1) verdict ss) = few_inside f verdict (n + 1) xs ss d (omega (arith, e)) (λ p there. each (suc p) (omega (arith, there))) in
+    omega (arith, here, more, sum_by-cons f x xs)

@@ -5,4 +5,5 @@ pub mod Sure
 pub mod Bound
 pub mod Counted
 pub mod Behind
+pub mod InTurn
 pub mod Overtaking

@@ -11,7 +11,7 @@ ghost use Rattle.world_mutex.specs.State.{new_world};
 ghost use Rattle.world_mutex.specs.Steps.{Steps};
 ghost use Rattle.world_mutex.specs.Laws.{IsSound, IsAwake, IsFreeAndWanted, is_at_rest};
 ghost use Rattle.world_mutex.specs.Bound.{IsBounded};
-ghost use Rattle.world_mutex.specs.Overtaking.{IsOvertakenSeldom};
+ghost use Rattle.world_mutex.specs.Overtaking.{IsOvertakenSeldom, IsOvertakenSeldomInSteps};
 
 use crate::guarded::Guarded;
 use lock_event::Entry;
@@ -139,9 +139,11 @@ impl World {
     }
 
     /// How often a starved party that waits in the list may be overtaken: by whole calls of others, however many and however
-    /// long, at most as often as entries stand before its own. It does nothing.
+    /// long, at most as often as entries stand before its own (`seldom`); where their calls interleave, by single steps, at most as
+    /// often as entries stand before its own and parties are inside calls (`in_steps`). It does nothing.
     pub fn overtakings(&self)
         ensures seldom { IsOvertakenSeldom self.now }
+        ensures in_steps { IsOvertakenSeldomInSteps self.now }
     {
         self.laws();
     }
