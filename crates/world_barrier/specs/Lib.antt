@@ -11,4 +11,5 @@ pub mod Steps
 pub mod Runs
 pub mod Whole
 pub mod Bound
+pub mod Overtaking
 pub mod Openings

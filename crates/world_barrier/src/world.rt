@@ -19,6 +19,7 @@ ghost use Rattle.world_barrier.specs.Steps.{Steps};
 ghost use Rattle.world_barrier.specs.Laws.{IsSound, IsAwake, IsWanted, is_at_rest};
 ghost use Rattle.world_barrier.specs.Runs.{Runs, leaders};
 ghost use Rattle.world_barrier.specs.Bound.{IsBounded};
+ghost use Rattle.world_barrier.specs.Overtaking.{IsOvertakenSeldomInSteps};
 
 use crate::machine::Barrier;
 use lock_event::Entry;
@@ -167,6 +168,14 @@ impl World {
     /// allows. The clause `bounded` also says that some entry is marked.
     pub fn solo_polls(&self)
         ensures bounded { is_at_rest self.now ≡ true → IsWanted self.now → IsBounded self.now }
+    {
+        self.laws();
+    }
+
+    /// How often a party that is starved for the inner lock and waits in its list may be overtaken, however the calls of others
+    /// interleave: at most as often as entries stand before its own and parties are inside calls. It does nothing.
+    pub fn overtakings(&self)
+        ensures { IsOvertakenSeldomInSteps self.now }
     {
         self.laws();
     }

@@ -121,10 +121,12 @@ one_inside d (Inside w) k h = h
 one_inside d Forgotten k h = h
 
 -- what each party has once at most that is inside a call, and nobody else has, is had by no more than are inside
-pub few_inside : {A : Type 0} (f : A → ℕ) (verdict : ℕ → Option Answer) (n : ℕ) (xs : List A) (ss : List Stage) (d : A) → length ss ≡ length xs → ((p : ℕ) → p < length ss → f (get_or xs p d) ≤ (if is_outside_stage (stage_at ss p) then 0 else 1)) → sum_by f xs ≤ how_many_inside (standings_from n verdict ss)
-few_inside f verdict n [] ss d e each = omega arith
-few_inside f verdict n (x ∷ xs) [] d e each = absurd (omega (arith, e))
-few_inside f verdict n (x ∷ xs) (s ∷ ss) d e each =
-    let here = one_inside (verdict n) s (f x) (each 0 (omega arith)) in
-    let more : sum_by f xs ≤ how_many_inside (standings_from (n + 1) verdict ss) = few_inside f verdict (n + 1) xs ss d (omega (arith, e)) (λ p there. each (suc p) (omega (arith, there))) in
+pub few_inside : {A : Type 0} (f : A → ℕ) (verdict : ℕ → Option Answer) (n : ℕ) (xs : List A) (ss : List Stage) (d : A) → ((p : ℕ) → f (get_or xs p d) ≤ (if is_outside_stage (stage_at ss p) then 0 else 1)) → sum_by f xs ≤ how_many_inside (standings_from n verdict ss)
+few_inside f verdict n [] ss d each = omega arith
+few_inside f verdict n (x ∷ xs) [] d each =
+    let more : sum_by f xs ≤ how_many_inside (standings_from n verdict []) = few_inside f verdict n xs [] d (λ p. each (suc p)) in
+    omega (arith, each 0, more, sum_by-cons f x xs)
+few_inside f verdict n (x ∷ xs) (s ∷ ss) d each =
+    let here = one_inside (verdict n) s (f x) (each 0) in
+    let more : sum_by f xs ≤ how_many_inside (standings_from (n + 1) verdict ss) = few_inside f verdict (n + 1) xs ss d (λ p. each (suc p)) in
     omega (arith, here, more, sum_by-cons f x xs)

@@ -2,4 +2,5 @@
 pub mod Alone
 pub mod AloneSeen
 pub mod Bound
+pub mod InTurn
 pub mod Overtaking

@@ -12,7 +12,7 @@ ghost use Rattle.world_mutex.specs.machine.Behind.{place_behind};
 ghost use Rattle.world_rwlock.specs.Steps.{Steps};
 ghost use Rattle.world_rwlock.specs.Laws.{IsSound, IsAwake, IsTurnWanted, IsReadingWanted, IsWritingWanted, is_at_rest};
 ghost use Rattle.world_rwlock.specs.Bound.{IsTurnBounded, IsReadingBounded, IsWritingBounded};
-ghost use Rattle.world_rwlock.specs.Overtaking.{IsOvertakenSeldom};
+ghost use Rattle.world_rwlock.specs.Overtaking.{IsOvertakenSeldom, IsOvertakenSeldomInSteps};
 
 use crate::guarded::Guarded;
 use lock_event::Entry;
@@ -176,6 +176,7 @@ impl World {
     /// many and however long, at most as often as entries stand before its own. It does nothing.
     pub fn overtakings(&self)
         ensures seldom { IsOvertakenSeldom self.now }
+        ensures in_steps { IsOvertakenSeldomInSteps self.now }
     {
         self.laws();
     }

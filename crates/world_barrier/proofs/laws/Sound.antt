@@ -99,7 +99,7 @@ listed_follows _ n a e some = absurd (omega arith)
 
 -- ---- outside every call
 
-resting : (s : Stage) (x : Position) → goes_with s x ≡ true → is_outside_stage s ≡ true → is_resting x ≡ true
+pub resting : (s : Stage) (x : Position) → goes_with s x ≡ true → is_outside_stage s ≡ true → is_resting x ≡ true
 resting (Outside r) Out g o = refl
 resting (Outside r) (Made a) g o = refl
 resting (Outside r) (Locking a) g o = refl
@@ -111,7 +111,7 @@ resting (Outside Rest.Finished) (At y) g o = absurd (cc g)
 resting (Inside w) x g o = absurd (cc o)
 resting Forgotten x g o = g
 
-rests_in_lock : (x : Position) (c : Course) → is_resting x ≡ true → fits_lock (in_lock x) c ≡ true → rests_there c ≡ true
+pub rests_in_lock : (x : Position) (c : Course) → is_resting x ≡ true → fits_lock (in_lock x) c ≡ true → rests_there c ≡ true
 rests_in_lock (At y) c h link = absurd (cc h)
 rests_in_lock (Locking a) c h link = waiting_rests c link
 rests_in_lock Out c h link = out_rests c link

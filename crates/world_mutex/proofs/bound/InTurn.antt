@@ -3,6 +3,8 @@ use Rattle.world_mutex.proofs.Prelude.{◌≡◌, ◌≢◌, ℕ, zero, suc, Lis
 use Rattle.world_base.specs.Overtaking.{before, how_many_inside, StepsPast}
 use Rattle.world_base.specs.table.Tables.{Does}
 use Rattle.world_base.proofs.Overtaking.{few_inside, seldom_in_steps}
+use Rattle.world_base.proofs.of_table.Mapped.{past_last}
+use Rattle.world_base.proofs.of_table.Past.{inside_or_past}
 use Rattle.world_mutex.specs.Guarded.{Moves, lock_call_of, start_by, place_for}
 use Rattle.world_mutex.specs.Overtaking.{starved_in, Holds, IsOvertakenSeldomInSteps}
 use Rattle.world_mutex.specs.View.{verdict}
@@ -74,7 +76,11 @@ inside_only s x fits = by_stage (is_outside_stage s) refl where
 few_hear : (w : World) → Stands w → hearing w ≤ how_many_inside w.standings
 few_hear w stood =
     let t = w.behind in
-    let few : hearing w ≤ how_many_inside _ = few_inside heard (verdict t.machine) 0 t.machine.lock.places t.stages Place.Out stood.fits.as_many (λ p there. inside_only (stage_at t.stages p) (place_at t.machine.lock.places p) (stood.fits.stands p there)) in
+    let each : (p : ℕ) → heard (place_at t.machine.lock.places p) ≤ (if is_outside_stage (stage_at t.stages p) then 0 else 1) = λ p. elim (inside_or_past t.stages p) as (λ _. heard (place_at t.machine.lock.places p) ≤ (if is_outside_stage (stage_at t.stages p) then 0 else 1)) [
+      | inl known ↦ inside_only (stage_at t.stages p) (place_at t.machine.lock.places p) (stood.fits.stands p known)
+      | inr past ↦ (let none : heard (place_at t.machine.lock.places p) ≡ 0 = ap heard (past_last t.machine.lock.places p Place.Out (omega (arith, past.0, stood.fits.as_many))) in omega (arith, none))
+    ] in
+    let few : hearing w ≤ how_many_inside _ = few_inside heard (verdict t.machine) 0 t.machine.lock.places t.stages Place.Out each in
     rw (ap (λ x. x.standings) stood.seen) few
 
 -- ---- a step of another

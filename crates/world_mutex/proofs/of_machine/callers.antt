@@ -6,3 +6,4 @@ pub mod AloneSeen
 pub mod Released
 pub mod Begun
 pub mod Silent
+pub mod Hearing

@@ -217,7 +217,7 @@ nobody_holds (Some p) xs e = absurd (by_share (share_of (place_at xs p)) e) wher
   by_share writing e = cc
 
 -- a party that is outside every call rests
-rests : (s : Stage) (x : Place) → goes_with s x ≡ true → is_outside_stage s ≡ true → is_resting x ≡ true
+pub rests : (s : Stage) (x : Place) → goes_with s x ≡ true → is_outside_stage s ≡ true → is_resting x ≡ true
 rests (Outside Rest.Idle) x g o = at_out (λ x. is_resting x ≡ true) refl x g
 rests (Outside Rest.Pending) x g o = future_rests x g
 rests (Outside Rest.Holding) x g o = guard_rests x g

@@ -18,7 +18,7 @@ share_has q p upgrading h = h
 share_has q p waiting h = h
 share_has q p writing h = h
 
-holder_has : (h : Option ℕ) (xs : List Place) (p : ℕ) → HasTurn (turn_by h xs) p → h ≡ Some p
+pub holder_has : (h : Option ℕ) (xs : List Place) (p : ℕ) → HasTurn (turn_by h xs) p → h ≡ Some p
 holder_has None xs p k = absurd k
 holder_has (Some q) xs p k = ap Some (share_has q p (share_of (place_at xs q)) k)
 
