@@ -1,5 +1,5 @@
 -- However the others step, a party that is starved for the inner lock and waits in its list is overtaken at most as often as entries stand before its own and parties are inside calls.
-use Rattle.world_barrier.proofs.Prelude.{◌≡◌, ◌≢◌, ℕ, ◌+◌, ◌-◌, ◌<◌, ◌≤◌, ◌⊎◌, inl, inr, if◌then◌else◌, Bool, true, false, List, length, Option, Some, None, refl, sym, ap, ◌∙◌, arith, entries_of, Answer, Call, Inputs, What, Move, Rest, Stage, Within, stage_at, call_at, polls_again, is_outside_stage, Table, Action, Found, Mutex, Course, holds, holder_of, course_at, OnLock, Position, position_at, in_lock, fits_lock, Barrier, Out, is_resting, knows, Moves, goes_with, verdict_in, World, Stands}
+use Rattle.world_barrier.proofs.Prelude.{◌≡◌, ◌≢◌, ℕ, ◌+◌, ◌-◌, ◌<◌, ◌≤◌, ◌⊎◌, inl, inr, if◌then◌else◌, Bool, true, false, List, length, Option, Some, None, refl, sym, ap, ◌∙◌, arith, entries_of, Answer, Call, Inputs, inputs_of, action_of, What, Move, Rest, Stage, Within, stage_at, call_at, polls_again, is_outside_stage, Table, Action, Found, Mutex, Course, holds, holder_of, course_at, OnLock, Position, position_at, in_lock, fits_lock, Barrier, Out, is_resting, knows, Moves, goes_with, verdict_in, World, Stands}
 use Rattle.world_base.specs.Overtaking.{before, how_many_inside, StepsPast}
 use Rattle.world_base.specs.table.Tables.{Does}
 use Rattle.world_base.proofs.Overtaking.{few_inside, seldom_in_steps}
@@ -33,7 +33,7 @@ IsMoved p t u = (u.machine.lock ≡ t.machine.lock) ⊎ mutex.Moves p t.machine.
 acts_or_not : (o : Option Within) (again : Bool) (t : Table Barrier) (m : Move) (a : Answer) (u : Table Barrier) → Does known_calls Rest.Finished Moves o again t m a u → IsMoved m.party t u
 acts_or_not None again t m a u d = inl (ap (λ x. x.machine.lock) d.1)
 acts_or_not (Some w) true t m a u d = inl (ap (λ x. x.machine.lock) d.1)
-acts_or_not (Some w) false t m a u d = on_lock _ m.party _ d.acts.found t.machine.lock u.machine.lock d.acts.acts.lock
+acts_or_not (Some w) false t m a u d = on_lock (inputs_of m.what) m.party (action_of d.acts.from) d.acts.found t.machine.lock u.machine.lock d.acts.acts.lock
 
 -- ---- who has heard a notification for it, and hasn't used it
 
