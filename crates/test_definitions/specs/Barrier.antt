@@ -21,7 +21,11 @@ use Rattle.world_barrier.specs.declared.world.ListName.TheVariants.{Lock}
 use Rattle.world_barrier.specs.AtOnce.{AnswersAtOnce, is_first_poll, is_later_poll, entries_in}
 use Rattle.world_barrier.specs.Bound.{IsSolo, Promises}
 use Rattle.world_barrier.specs.Changes.{wait_then}
-use Rattle.world_barrier.specs.Laws.{IsSound, IsAwake}
+use Rattle.world_base.specs.Overtaking as overtaking
+use Rattle.world_base.specs.Overtaking.{before, how_many_inside}
+use Rattle.world_barrier.specs.Overtaking.{starved_in, HoldsLock, IsOvertakenSeldomInSteps}
+use Rattle.world_barrier.specs.Steps.{Steps}
+use Rattle.world_barrier.specs.Laws.{IsSound, IsAwake, is_at_rest}
 use Rattle.world_barrier.specs.Legal.{Legal, DecidesOn, HasToWait, next_arrival}
 use Rattle.world_barrier.specs.Numbers.{Leads, IsFinished, generations_of}
 use Rattle.world_barrier.specs.State.{World, standing_of, wait_of, told_in, is_free}
@@ -411,6 +415,30 @@ pub record OvertakesStarved : Type 0 where
   pub some_starved : 0 < how_many whole.old.lock.starved
   pub ready : whole.answer ≡ answer.Ready (got.Leader true)
   pub kept : Keeps whole
+
+-- At rest a notified party that isn't starved has the inner lock before a starved one: it isn't starved afterwards.
+pub record PassesTheStarved : Type 0 where
+  pub whole : Whole
+  pub polls : whole.call ≡ call.Poll
+  pub solo : IsSolo whole.old whole.party whole.inputs
+  pub free : whole.old.lock.holder ≡ None
+  pub at_rest : is_at_rest whole.old ≡ true
+  pub patient : is_starved whole.old.lock whole.party ≡ false
+  pub some_starved : 0 < how_many whole.old.lock.starved
+  pub unrefused : whole.answer ≢ refused refusal.Starved
+  pub still_patient : is_starved whole.new.lock whole.party ≡ false
+  pub kept : Keeps whole
+
+-- A party that is starved for the inner lock and stands first in its list, while nobody is inside a call, is overtaken by steps of others, in whatever order they come.
+pub record OvertakenInTheMidst : Type 0 where
+  pub party : ℕ
+  pub steps : ℕ
+  pub old : World
+  pub new : World
+  pub first : before party old.lock_list ≡ 0
+  pub idle : how_many_inside old.standings ≡ 0
+  pub overtaken : overtaking.OvertakenInSteps Steps (λ w. w.lock_list) starved_in HoldsLock (λ w. w.standings) party steps 1 old new
+  pub seldom : IsOvertakenSeldomInSteps old
 
 -- A notified party that has waited for too long finds the inner lock held, and room for one more starved party, and it isn't counted as one: newcomers may overtake it for ever.
 pub record NeverStarved : Type 0 where

@@ -28,8 +28,9 @@ use Rattle.world_base.specs.Steps.{notifies}
 use Rattle.world_mutex.specs.Legal.{for_the_lock}
 use Rattle.world_mutex.specs.Laws.{IsSound, IsDue, is_at_rest}
 use Rattle.world_base.specs.Overtaking as overtaking
-use Rattle.world_base.specs.Overtaking.{before}
-use Rattle.world_mutex.specs.Overtaking.{starved_in, Holds, IsOvertakenSeldom}
+use Rattle.world_base.specs.Overtaking.{before, how_many_inside}
+use Rattle.world_mutex.specs.Overtaking.{starved_in, Holds, IsOvertakenSeldom, IsOvertakenSeldomInSteps}
+use Rattle.world_mutex.specs.Steps.{Steps}
 use Rattle.world_mutex.specs.Steps.{Steps}
 use Rattle.world_mutex.specs.Whole.{IsWholeCall, steps_left_of}
 use Rattle.world_base.specs.Whole.{going_on}
@@ -420,6 +421,17 @@ pub record OvertakenTwice : Type 0 where
   pub one_before : before party old.entries ≡ 1
   pub overtaken : Overtaken party calls 2 old new
   pub seldom : IsOvertakenSeldom old
+
+-- A starved party that stands first in the list, while nobody is inside a call, is overtaken by steps of others, in whatever order they come.
+pub record OvertakenInTheMidst : Type 0 where
+  pub party : ℕ
+  pub steps : ℕ
+  pub old : World
+  pub new : World
+  pub first : before party old.entries ≡ 0
+  pub idle : how_many_inside old.standings ≡ 0
+  pub overtaken : overtaking.OvertakenInSteps Steps (λ w. w.entries) starved_in Holds (λ w. w.standings) party steps 1 old new
+  pub seldom : IsOvertakenSeldomInSteps old
 
 -- A starved party stands in the list while another polls, takes the lock, and drops its guard.
 pub record StandsBy : Type 0 where

@@ -9,7 +9,7 @@ use Rattle.world_base.specs.declared.moves.What.TheVariants.{Begin}
 use Rattle.lock_program.specs.declared.refusal.Refusal.TheVariants.{Memory, Starved}
 use Rattle.world_base.specs.declared.standing.Rest.TheVariants.{Pending}
 use Rattle.world_base.specs.declared.standing.Within.{Within}
-use Rattle.world_base.specs.Frame.{is_drop}
+use Rattle.world_base.specs.Frame.{is_drop, is_refusal}
 use Rattle.world_base.specs.Rights.{read, upgradable, write}
 use Rattle.world_base.specs.Standings.{outside, inside, is_possible, refused}
 use Rattle.world_base.specs.Rosters.{how_many}
@@ -18,7 +18,7 @@ use Rattle.world_rwlock.specs.Legal.{may_read, is_first}
 use Rattle.world_rwlock.specs.State.{ListName, list_of, nobody, is_marked, HasTurn, World, standing_of, sought_by, reads, how_many_read, is_starved}
 use Rattle.world_base.specs.Standings.{is_outside, is_decided}
 use Rattle.world_base.specs.Steps.{does, notifies, notifies_additionally}
-use Rattle.world_rwlock.specs.Laws.{IsSound, IsDueForTurn, IsDueToReaders, IsDueToWriter, is_due_for_turn, is_due_to_readers, is_refused}
+use Rattle.world_rwlock.specs.Laws.{is_at_rest, IsSound, IsDueForTurn, IsDueToReaders, IsDueToWriter, is_due_for_turn, is_due_to_readers, is_refused}
 use Rattle.world_rwlock.specs.Legal.{LeavesLists, is_try_for_turn}
 use Rattle.world_rwlock.specs.State.{is_for_turn, for_the_turn, for_no_readers, for_no_writer, has_to_tell}
 use Rattle.world_rwlock.specs.Changes.{starves}
@@ -26,8 +26,9 @@ use Rattle.world_base.specs.declared.moves.Got.{Got}
 use Rattle.world_base.specs.Steps.{changes}
 use Rattle.world_rwlock.specs.Bound.{IsFirstForTurn}
 use Rattle.world_base.specs.Overtaking as overtaking
-use Rattle.world_base.specs.Overtaking.{before}
-use Rattle.world_rwlock.specs.Overtaking.{HasItsTurn, IsOvertakenSeldom}
+use Rattle.world_base.specs.Overtaking.{before, how_many_inside}
+use Rattle.world_rwlock.specs.Overtaking.{HasItsTurn, IsOvertakenSeldom, IsOvertakenSeldomInSteps}
+use Rattle.world_rwlock.specs.Steps.{Steps}
 use Rattle.world_rwlock.specs.Whole.{IsWholeCall}
 use Rattle.world_base.specs.queue.Parties.{is_party}
 use Rattle.lock_event.specs.Lists.{is_marked_at, notified}
@@ -410,6 +411,19 @@ pub record TakesTurnUntold : Type 0 where
   pub takes : HasTurn whole.new.state.turn whole.party
   pub kept : Keeps whole
 
+-- At rest a notified party that isn't starved takes the turn before a starved one.
+pub record TakesTurnBeforeStarved : Type 0 where
+  pub whole : Whole
+  pub polls : whole.call ≡ call.Poll
+  pub solo : IsSoloForTurn whole.old whole.party whole.inputs
+  pub free : whole.old.state.turn ≡ nobody
+  pub at_rest : is_at_rest whole.old ≡ true
+  pub patient : is_starved whole.old whole.party ≡ false
+  pub some_starved : 0 < how_many whole.old.state.starved
+  pub unrefused : is_refusal whole.answer ≡ false
+  pub takes : HasTurn whole.new.state.turn whole.party
+  pub kept : Keeps whole
+
 -- A notified party that has waited for too long finds the turn taken, and room for one more starved party, and it isn't counted as one: newcomers may overtake it for ever.
 pub record NeverStarved : Type 0 where
   pub whole : Whole
@@ -476,3 +490,14 @@ pub record OvertakenTwice : Type 0 where
   pub one_before : before party old.turn_list ≡ 1
   pub overtaken : overtaking.Overtaken IsWholeCall (λ w. w.turn_list) is_starved HasItsTurn party calls 2 old new
   pub seldom : IsOvertakenSeldom old
+
+-- One that stands first in the list, while nobody is inside a call, is overtaken by steps of others, in whatever order they come.
+pub record OvertakenInTheMidst : Type 0 where
+  pub party : ℕ
+  pub steps : ℕ
+  pub old : World
+  pub new : World
+  pub first : before party old.turn_list ≡ 0
+  pub idle : how_many_inside old.standings ≡ 0
+  pub overtaken : overtaking.OvertakenInSteps Steps (λ w. w.turn_list) is_starved HasItsTurn (λ w. w.standings) party steps 1 old new
+  pub seldom : IsOvertakenSeldomInSteps old

@@ -4,7 +4,7 @@ ghost use Rattle.test_definitions.specs.Tables.{AreRowsOf, AreRowsOfTwo};
 ghost use Rattle.test_definitions.specs.MutexTable.{beginnings, actions, followings};
 ghost use Rattle.lock_program.specs.Mutex.{start_of, action_of, next_of};
 ghost use Rattle.test_definitions.specs.Never.{Never};
-ghost use Rattle.test_definitions.specs.Mutex.{TriesInVain, PollsUnready, WaitsUnlisted, WaitsUnmarked, PendsTooEarly, RefusedAtFirst, RefusedHavingTaken, LetsGoUndecided, DropsUndecided, DecidesInVain, StarvedHavingTaken, StarvedTwice, StarvedAtFirst, StarvesUnlisted, HoldsRefused, ReadyWithout, TellsMore, TriesAndTells, StarvesAtFirst, PollsUntold, ReleasesLate, ReleasesSilently, PassesOverInVain, RefusedInVain, StarvesUnasked, StarvedAmongNone, KeepsItsTold, WakesTheNext, SleepsThoughFree, WakesInARing, StarvedUnwaited, RefusedSilently, NeverStarved, OvertakesStarved, TakesUntold, TakesBeforeStarved, CountsUnwaited, TwoTold, OvertakenTwice, TakesPastStarved, RefusedBesideMemory, NeverPossible, LeavesCounted, DropDawdles, GoesOnForEver, StandsBy, IsOvertakenOnce};
+ghost use Rattle.test_definitions.specs.Mutex.{TriesInVain, PollsUnready, WaitsUnlisted, WaitsUnmarked, PendsTooEarly, RefusedAtFirst, RefusedHavingTaken, LetsGoUndecided, DropsUndecided, DecidesInVain, StarvedHavingTaken, StarvedTwice, StarvedAtFirst, StarvesUnlisted, HoldsRefused, ReadyWithout, TellsMore, TriesAndTells, StarvesAtFirst, PollsUntold, ReleasesLate, ReleasesSilently, PassesOverInVain, RefusedInVain, StarvesUnasked, StarvedAmongNone, KeepsItsTold, WakesTheNext, SleepsThoughFree, WakesInARing, StarvedUnwaited, RefusedSilently, NeverStarved, OvertakesStarved, TakesUntold, TakesBeforeStarved, CountsUnwaited, TwoTold, OvertakenTwice, OvertakenInTheMidst, TakesPastStarved, RefusedBesideMemory, NeverPossible, LeavesCounted, DropDawdles, GoesOnForEver, StandsBy, IsOvertakenOnce};
 
 /// Each clause says of one wrong run that it isn't legal.
 fn wrong_runs()
@@ -47,6 +47,7 @@ fn wrong_runs()
     ensures counts_unwaited { Never (CountsUnwaited) }
     ensures two_told { Never (TwoTold) }
     ensures overtaken_twice { Never (OvertakenTwice) }
+    ensures overtaken_in_the_midst { Never (OvertakenInTheMidst) }
     ensures takes_past_starved { Never (TakesPastStarved) }
     ensures refused_beside_memory { Never (RefusedBesideMemory) }
     ensures never_possible { Never (NeverPossible) }

@@ -6,7 +6,7 @@ ghost use Rattle.lock_program.specs.ReadWrite.{action_of, next_of};
 ghost use Rattle.world_rwlock.specs.program.Program.{start_of};
 ghost use Rattle.test_definitions.specs.Never.{Never};
 ghost use Rattle.test_definitions.specs.ReadWrite.{TriesInVain, ReadsUnready, WaitsUnlisted, PendsTooEarly, RefusedAtFirst, RefusedHavingMoved, ReadsWithTheBit, LetsGoUndecided, UnmarksUndecided, StopsReadingUndecided, DowngradesUndecided, DropsUndecided, DowngradesThroughNothing, OtherIsUpgrade, IdleHasTurn, TriesOn, WriteMeetsReaders, ReadMeetsStarved, LacksMemoryWithTurn, ReadMeetsReadersBesideWriter, MeetsReadersWithoutTurn, MeetsStarvedWithTurn, PassesTurnInVain, PassesReadingInVain, PassesWritingInVain, UpgradeWaitsForNobody, UpgradableUnready, WriteUnready, StarvesUnasked, KeepsItsTold, TriesTurnInVain, StarvedHavingTaken, StarvedTwice, StarvedAtFirst, DecidesInVain};
-ghost use Rattle.test_definitions.specs.ReadWriteWakes.{TellsMany, TellsMore, WakesAWriter, WakesAReader, WakesForTheTurn, NotTheLast, WakesTheNext, SleepsThoughFree, SleepsThoughReadable, SleepsThoughWritable, SleepsBesideADrop, ReadsBesideADrop, WritesBesideADrop, StarvedForNothing, WakesInARing, PollsUntold, PollsUntoldToRead, TriesAndTells, RefusedSilently, RefusedToReadSilently, DropsLastSilently, EndsWithoutTurn, EndsWithoutBit, ReleasesUntold, LastReaderUntold, RefusedToReadUnneeded, RefusedToWriteUnneeded, RefusedTurnUnneeded, TriesTurnAndTells, EntersTurnAndTells, StopsLastSilently, ReadStarves, ReaderLost, StarvedUnwaited, CountsUnwaited, OvertakesStarved, TakesTurnUntold, NeverStarved, LeavesCounted, DropDawdles, ReadersDropDawdles, WritePassesOver, TwoTold, OvertakenTwice};
+ghost use Rattle.test_definitions.specs.ReadWriteWakes.{TellsMany, TellsMore, WakesAWriter, WakesAReader, WakesForTheTurn, NotTheLast, WakesTheNext, SleepsThoughFree, SleepsThoughReadable, SleepsThoughWritable, SleepsBesideADrop, ReadsBesideADrop, WritesBesideADrop, StarvedForNothing, WakesInARing, PollsUntold, PollsUntoldToRead, TriesAndTells, RefusedSilently, RefusedToReadSilently, DropsLastSilently, EndsWithoutTurn, EndsWithoutBit, ReleasesUntold, LastReaderUntold, RefusedToReadUnneeded, RefusedToWriteUnneeded, RefusedTurnUnneeded, TriesTurnAndTells, EntersTurnAndTells, StopsLastSilently, ReadStarves, ReaderLost, StarvedUnwaited, CountsUnwaited, OvertakesStarved, TakesTurnUntold, NeverStarved, LeavesCounted, DropDawdles, ReadersDropDawdles, WritePassesOver, TwoTold, OvertakenTwice, OvertakenInTheMidst, TakesTurnBeforeStarved};
 
 /// Each clause says of one wrong run that it isn't legal.
 fn wrong_runs()
@@ -89,6 +89,8 @@ fn wrong_runs()
     ensures write_passes_over { Never (WritePassesOver) }
     ensures two_told { Never (TwoTold) }
     ensures overtaken_twice { Never (OvertakenTwice) }
+    ensures overtaken_in_the_midst { Never (OvertakenInTheMidst) }
+    ensures takes_turn_before_starved { Never (TakesTurnBeforeStarved) }
 {}
 
 /// The programs' places, each with its action and what follows what it finds, as docs/PROGRAMS.md lists them.

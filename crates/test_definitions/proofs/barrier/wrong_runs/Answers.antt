@@ -324,3 +324,9 @@ returns-clause-leaves_counted c = λ r. (
 
 pub returns-clause-drop_dawdles : goal.returns-clause-drop_dawdles
 returns-clause-drop_dawdles c = λ r. (let ended = (r.legal.abandons r.drops r.pending r.listed r.unstarved).0 in absurd (cc (ended, r.goes_on)))
+
+pub returns-clause-overtaken_in_the_midst : goal.returns-clause-overtaken_in_the_midst
+returns-clause-overtaken_in_the_midst c = λ r. (let few = r.seldom r.party r.steps 1 r.new r.overtaken in absurd (omega (arith, few, r.first, r.idle)))
+
+pub returns-clause-passes_the_starved : goal.returns-clause-passes_the_starved
+returns-clause-passes_the_starved c = λ r. (let gives = (r.kept.solo r.polls r.solo r.free).behind r.at_rest r.patient r.some_starved r.unrefused in true≢false (sym gives.gave_way.is_starved ∙ r.still_patient))

@@ -243,3 +243,6 @@ returns-clause-goes_on_for_ever c = λ r.
     let left : ℕ → ℕ = λ n. steps_left_of (r.world n) r.party in
     let low = fewer_left left (λ n. r.falls (r.world n) r.party r.inputs answer.Stepped (r.world (suc n)) (r.stepped n)) (suc (left 0)) in
     absurd (omega (arith, low))
+
+pub returns-clause-overtaken_in_the_midst : goal.returns-clause-overtaken_in_the_midst
+returns-clause-overtaken_in_the_midst c = λ r. (let few = r.seldom r.party r.steps 1 r.new r.overtaken in absurd (omega (arith, few, r.first, r.idle)))

@@ -522,3 +522,9 @@ returns-clause-readers_drop_dawdles c = λ r. (let ended = (r.legal.abandons_rea
 
 pub returns-clause-write_passes_over : goal.returns-clause-write_passes_over
 returns-clause-write_passes_over c = λ r. elim ((r.kept.turn r.polls r.solo r.free).takes (inl r.starved)) as (λ _. ⊥) [ inl took ↦ r.without took.has_turn | inr met ↦ (let same : Some write ≡ Some upgradable = sym r.writes ∙ met.0.0 in cc same) ]
+
+pub returns-clause-overtaken_in_the_midst : goal.returns-clause-overtaken_in_the_midst
+returns-clause-overtaken_in_the_midst c = λ r. (let few = r.seldom r.party r.steps 1 r.new r.overtaken in absurd (omega (arith, few, r.first, r.idle)))
+
+pub returns-clause-takes_turn_before_starved : goal.returns-clause-takes_turn_before_starved
+returns-clause-takes_turn_before_starved c = λ r. (let gives = (r.kept.turn r.polls r.solo r.free).behind r.at_rest r.patient r.some_starved r.unrefused in subst (λ t. HasTurn t r.whole.party) gives.free r.takes)
