@@ -1,0 +1,4 @@
+pub mod Owners
+pub mod Keeps
+pub mod Holding
+pub mod Wakeups

@@ -1,0 +1,6 @@
+use Rattle.std.proofs.Common.{rules, arith}
+use Rattle.words_permits.proofs.Keeps.{gives-same}
+use Rattle.words_permits.proofs.steps.give_same.Goals as goal
+
+pub swap-requires : goal.swap-requires
+swap-requires g c = let t = c.requires.table.2 in (search rules, search rules, gives-same _ _ _ _ _ _ _ _ c.requires.list (omega (arith, t)))
