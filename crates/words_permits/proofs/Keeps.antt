@@ -374,11 +374,13 @@ module _ (S : Type 0) (waiters_of : S → List Waiter) (marked_of : S → ℕ) (
     pub gives-told : (new : ℕ) → CanHear waiters_of marked_of me new → 0 < slots → Allows R slots id me 1 (λ _. new) (λ _ m'. m' ≡ (told_of me.0, rest me.1))
     gives-told new c wide s r len at _ = (told_of me.0, gives, tt, hears s id me r at c.0 new c.1.0 c.1.1 (subst (λ (z : ℕ). 0 < z) (sym len) wide) c.1.2 c.2, refl)
 
-    pub gives-gone : (new : ℕ) → CanLeave waiters_of marked_of me new me.0.entry → 0 < slots → Allows R slots id me 1 (λ _. new) (λ _ m'. m' ≡ (gone_of me.0, rest me.1))
-    gives-gone new c wide s r len at _ = (gone_of me.0, gives, tt, leaves s id me r at c.0 new c.1.0 c.1.1 (subst (λ (z : ℕ). 0 < z) (sym len) wide) c.1.2 c.2 c.3 c.4, refl)
+    pub gives-gone : (new entry : ℕ) → CanLeave waiters_of marked_of me new entry → me.0.entry ≡ entry → 0 < slots → Allows R slots id me 1 (λ _. new) (λ _ m'. m' ≡ (gone_of me.0, rest me.1))
+    gives-gone new entry c own wide s r len at _ =
+        (gone_of me.0, gives, tt, leaves s id me r at c.0 new c.1.0 c.1.1 (subst (λ (z : ℕ). 0 < z) (sym len) wide) c.1.2 c.2 (λ w stands. let o = c.3 w stands in (o.0, λ same. o.1 (same ∙ own))) c.4, refl)
 
-    pub gives-paid : (new : ℕ) → CanPay waiters_of marked_of me new me.0.found → 0 < slots → me.0.seen ≡ true → Allows R slots id me 1 (λ _. new) (λ _ m'. m' ≡ (paid_of me.0, rest me.1))
-    gives-paid new c wide seen s r len at _ = (paid_of me.0, gives, tt, pays s id me r at c.0 new c.1.0 c.1.1 (subst (λ (z : ℕ). 0 < z) (sym len) wide) c.1.2 c.2 c.3 c.4 seen, refl)
+    pub gives-paid : (new available : ℕ) → CanPay waiters_of marked_of me new available → available ≡ me.0.found → 0 < slots → me.0.seen ≡ true → Allows R slots id me 1 (λ _. new) (λ _ m'. m' ≡ (paid_of me.0, rest me.1))
+    gives-paid new available c found wide seen s r len at _ =
+        (paid_of me.0, gives, tt, pays s id me r at c.0 new c.1.0 c.1.1 (subst (λ (z : ℕ). 0 < z) (sym len) wide) c.1.2 c.2 c.3 (λ w stands few. c.4 w stands (subst (λ (n : ℕ). w.weight ≤ n) (sym found) few)) seen, refl)
 
     pub gives-same : (new : ℕ) → CanStay waiters_of marked_of me new → 0 < slots → Allows R slots id me 1 (λ _. new) (λ _ m'. m' ≡ (back me.0, rest me.1))
     gives-same new c wide s r len at _ = (back me.0, gives, tt, stays s id me r at c.0 new c.1.0 c.1.1 (subst (λ (z : ℕ). 0 < z) (sym len) wide) c.1.2 c.2 c.3, refl)

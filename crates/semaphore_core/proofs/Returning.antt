@@ -1,0 +1,87 @@
+-- What is known of a list that is about to be given back.
+use Rattle.std.proofs.Common.{◌≡◌, ◌≢◌, ℕ, ◌<◌, ◌≤◌, ◌+◌, Bool, true, false, List, [], ◌∷◌, ◌++◌, refl, sym, ap, ◌∙◌, subst, Result, Ok, Err, IfOk, OnErr, MatchBool, MatchResult}
+use Rattle.atomic_table.specs.Table.{Me, rest}
+use Rattle.words_permits.specs.Steps.{Says, IsHeld, CanJoin, CanHear, CanLeave, CanPay, CanStay, Has}
+use Rattle.words_permits.specs.Waiters.{Waiter, waiter, StandsIn, HasNo, IsSound}
+use Rattle.words_permits.specs.declared.view.View.{View}
+use Rattle.semaphore_core.specs.Asking.{ByHeard}
+use Rattle.semaphore_core.specs.declared.heard.Heard.{Heard}
+use Rattle.semaphore_core.specs.declared.heard.Heard.TheVariants.{Told, Waits}
+
+module _ {S : Type 0} (waiters_of : S → List Waiter) (marked_of : S → ℕ) (m : Me S View) (held : IsHeld waiters_of marked_of m) where
+  -- the slot that the seat took last is the list's
+  pub lent : (old : S) × (m.1 ≡ (0, old) ∷ rest m.1)
+  lent = (held.0, held.4)
+
+  -- the same list
+  same : (now : S) → m.1 ≡ (0, now) ∷ rest m.1 → held.0 ≡ now
+  same now e = ap (λ (l : List (ℕ × S)). first held.0 l) (sym held.4 ∙ e)
+    where
+      first : S → List (ℕ × S) → S
+      first y [] = y
+      first y (x ∷ xs) = x.1
+
+  waiters-now : (now : S) → m.1 ≡ (0, now) ∷ rest m.1 → waiters_of now ≡ m.0.waiters
+  waiters-now now e = ap waiters_of (sym (same now e)) ∙ sym held.2
+
+  marked-now : (now : S) → m.1 ≡ (0, now) ∷ rest m.1 → marked_of now ≡ m.0.marked
+  marked-now now e = ap marked_of (sym (same now e)) ∙ sym held.3
+
+  sound-now : (now : S) → m.1 ≡ (0, now) ∷ rest m.1 → IsSound (waiters_of now)
+  sound-now now e = subst (λ (l : S). IsSound (waiters_of l)) (same now e) held.5
+
+  abbrev After : S → Me S View
+  After left = (m.0, (0, left) ∷ rest m.1)
+
+  has : (left : S) (n : ℕ) → Says (waiters_of left) n → Has waiters_of marked_of (After left) n left
+  has left n says = (held.1, refl, says)
+
+  stays : (now left : S) (n : ℕ) → m.1 ≡ (0, now) ∷ rest m.1 → Says (waiters_of left) n → (waiters_of left ≡ waiters_of now) × (marked_of left ≡ marked_of now) → CanStay waiters_of marked_of (After left) n
+  stays now left n e says f = (left, has left n says, f.0 ∙ waiters-now now e, f.1 ∙ marked-now now e)
+
+  abbrev Joins : S → S → ℕ → ℕ → Type 0
+  Joins now left entry k = (waiters_of left ≡ waiters_of now ++ waiter entry k ∷ []) × (marked_of left ≡ marked_of now) × HasNo entry (waiters_of now)
+
+  joins : (now left : S) (n entry k : ℕ) → m.1 ≡ (0, now) ∷ rest m.1 → Says (waiters_of left) n → 0 < k → Joins now left entry k → CanJoin waiters_of marked_of (After left) n (waiter entry k)
+  joins now left n entry k e says some f = (
+    left,
+    has left n says,
+    f.0 ∙ ap (λ (l : List Waiter). l ++ waiter entry k ∷ []) (waiters-now now e),
+    f.1 ∙ marked-now now e,
+    subst (HasNo entry) (waiters-now now e) f.2,
+    some,
+  )
+
+  pub joined : {A B : Type 0} (entry_of : A → ℕ) (k : ℕ) (now left : S) (n : ℕ) (r : Result A B) → m.1 ≡ (0, now) ∷ rest m.1 → Says (waiters_of left) n → 0 < k
+      → IfOk r (λ a. Joins now left (entry_of a) k) → OnErr r ((waiters_of left ≡ waiters_of now) × (marked_of left ≡ marked_of now))
+      → MatchResult r (λ a. CanJoin waiters_of marked_of (After left) n (waiter (entry_of a) k)) (λ _. CanStay waiters_of marked_of (After left) n)
+  joined entry_of k now left n (Ok a) e says some f g = joins now left n (entry_of a) k e says some f
+  joined entry_of k now left n (Err b) e says some f g = stays now left n e says g
+
+  pub pays : (available : ℕ) (now left : S) (n : ℕ) → m.1 ≡ (0, now) ∷ rest m.1 → Says (waiters_of left) n
+      → (waiters_of left ≡ waiters_of now) × (marked_of now ≤ marked_of left) × ((w : Waiter) → StandsIn (waiters_of left) w → w.weight ≤ available → 1 ≤ marked_of left) → CanPay waiters_of marked_of (After left) n available
+  pays available now left n e says f = (left, has left n says, f.0 ∙ waiters-now now e, subst (λ (k : ℕ). k ≤ marked_of left) (marked-now now e) f.1, f.2)
+
+  hears : (now left : S) (n : ℕ) → m.1 ≡ (0, now) ∷ rest m.1 → Says (waiters_of left) n → (IsSound (waiters_of now) → IsSound (waiters_of left)) → CanHear waiters_of marked_of (After left) n
+  hears now left n e says f = (left, has left n says, f (sound-now now e))
+
+  abbrev Leaves : S → S → ℕ → Type 0
+  Leaves now left entry = (IsSound (waiters_of now) → (w : Waiter) → StandsIn (waiters_of left) w → StandsIn (waiters_of now) w × (w.entry ≢ entry)) × (marked_of left ≡ marked_of now)
+
+  pub removed : (entry : ℕ) (now left : S) (n : ℕ) (b : Bool) → m.1 ≡ (0, now) ∷ rest m.1 → Says (waiters_of left) n
+      → MatchBool b (IsSound (waiters_of now) → IsSound (waiters_of left)) ((IsSound (waiters_of now) → IsSound (waiters_of left)) × Leaves now left entry)
+      → MatchBool b (CanHear waiters_of marked_of (After left) n) (CanLeave waiters_of marked_of (After left) n entry)
+  removed entry now left n true e says f = hears now left n e says f
+  removed entry now left n false e says f = (
+    left,
+    has left n says,
+    f.0 (sound-now now e),
+    (λ w s. let o = f.1.0 (sound-now now e) w s in (subst (λ (l : List Waiter). StandsIn l w) (waiters-now now e) o.0, o.1)),
+    f.1.1 ∙ marked-now now e,
+  )
+
+  pub asks : {K : Type 0} (now left : S) (n : ℕ) (h : Heard K) → m.1 ≡ (0, now) ∷ rest m.1 → Says (waiters_of left) n
+      → ByHeard h (IsSound (waiters_of now) → IsSound (waiters_of left)) (λ _. (waiters_of left ≡ waiters_of now) × (marked_of left ≡ marked_of now))
+      → ByHeard h (CanHear waiters_of marked_of (After left) n) (λ _. CanStay waiters_of marked_of (After left) n)
+  asks now left n (Told kept) e says f = hears now left n e says f
+  asks now left n (Waits k) e says f = stays now left n e says f

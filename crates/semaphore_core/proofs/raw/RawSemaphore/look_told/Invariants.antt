@@ -1,0 +1,6 @@
+use Rattle.std.proofs.Common.{◌≡◌, true}
+use Rattle.semaphore_core.specs.Semaphores.{IsOf, Has}
+use Rattle.semaphore_core.proofs.raw.RawSemaphore.look_told.Given as goal
+
+abbrev pub invariant-loop : goal.invariant-loop
+invariant-loop g l = IsOf l.fn.self l.seat × (l.seat.permits ≡ 0) × (l.seat.under_way ≡ 0) × (l.seat.listed ≡ true) × (l.seat.entry ≡ l.initial.seat.entry) × (l.seat.weight ≡ l.fn.permits)

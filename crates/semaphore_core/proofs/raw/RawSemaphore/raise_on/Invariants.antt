@@ -1,0 +1,6 @@
+use Rattle.std.proofs.Common.{◌≡◌}
+use Rattle.semaphore_core.specs.Semaphores.{IsOf, Has}
+use Rattle.semaphore_core.proofs.raw.RawSemaphore.raise_on.Given as goal
+
+abbrev pub invariant-loop : goal.invariant-loop
+invariant-loop g l = Has l.fn.self 0 l.seat

@@ -1,0 +1,40 @@
+-- What calls on a list do, as far as the rule of the semaphore asks: who stands in it, and how many are notified.
+use Rattle.std.specs.Prelude.{◌≡◌, ◌≢◌, ℕ, ◌<◌, ◌≤◌, List, [], ◌∷◌, ◌++◌, Option, Some, None}
+use Rattle.futures.specs.declared.task.waker.Waker.{Waker}
+use Rattle.lock_event.specs.Lists.{marked_count}
+use Rattle.lock_event.specs.Loads.{weight_of}
+use Rattle.lock_event.specs.declared.event.Entry.{Entry}
+use Rattle.lock_event.specs.declared.event.EntryId.{EntryId}
+use Rattle.lock_event.specs.declared.event.Slot.{Slot}
+use Rattle.lock_event.specs.declared.weighted.Load.{Load}
+use Rattle.words_permits.specs.Waiters.{Waiter, waiter, StandsIn, HasNo, IsSound}
+
+module _ {W : Type 0} where
+  -- who stands in the entries
+  abbrev pub waiters_in : List (Entry (Slot (Load W))) → List Waiter
+  waiters_in [] = []
+  waiters_in (e ∷ es) = waiter e.key.id.number (weight_of e.key) ∷ waiters_in es
+
+  module _ (old new : List (Entry (Slot (Load W)))) where
+    -- One has joined at the back for so many permits, and isn't notified.
+    abbrev pub HasJoined : ℕ → ℕ → Type 0
+    HasJoined entry k = (waiters_in new ≡ waiters_in old ++ waiter entry k ∷ []) × (marked_count new ≡ marked_count old) × HasNo entry (waiters_in old)
+
+    -- The same stand in the list, and as many are notified.
+    abbrev pub IsSame : Type 0
+    IsSame = (waiters_in new ≡ waiters_in old) × (marked_count new ≡ marked_count old)
+
+    -- No two entries have one number, and none waits for nothing, if that was so before.
+    abbrev pub StaysSound : Type 0
+    StaysSound = IsSound (waiters_in old) → IsSound (waiters_in new)
+
+    -- This entry has left, which was not notified.
+    abbrev pub HasLeft : ℕ → Type 0
+    HasLeft entry = (IsSound (waiters_in old) → (w : Waiter) → StandsIn (waiters_in new) w → StandsIn (waiters_in old) w × (w.entry ≢ entry)) × (marked_count new ≡ marked_count old)
+
+    -- The first whom so many are enough for is notified, unless one is notified or these are enough for none.
+    abbrev pub IsTold : ℕ → Type 0
+    IsTold available =
+        (waiters_in new ≡ waiters_in old)
+        × (marked_count old ≤ marked_count new)
+        × ((w : Waiter) → StandsIn (waiters_in new) w → w.weight ≤ available → 1 ≤ marked_count new)

@@ -1,0 +1,6 @@
+pub mod Semaphores
+pub mod Asking
+pub mod Entries
+pub mod Queues
+pub mod Receipts
+pub mod Outcomes

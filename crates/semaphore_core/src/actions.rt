@@ -1,0 +1,200 @@
+//! Each action on the list.
+
+ghost use Rattle.std.specs.Prelude.{◌≡◌, ◌<◌, true, false, IfErr, IfNone, IfOk, IfSome, MatchBool, OnErr};
+ghost use Rattle.futures.specs.Task.{Keeps};
+ghost use Rattle.semaphore_core.specs.Receipts.{IsReceipt};
+ghost use Rattle.semaphore_core.specs.Semaphores.{IsOf, with_joined, with_told, with_gone, with_paid};
+
+use crate::list_steps::{
+    ask_again_in, ask_in, fit_in, give_asked, join_in, join_waking_in, remove_in,
+};
+use crate::queue::MOST;
+use crate::raw::RawSemaphore;
+use crate::seat::Seat;
+use crate::whose::Whose;
+use futures::task::Context;
+use lock_event::{EntryId, Memory};
+use std::sync::Wait;
+use words_permits::steps::{
+    LIST, NOTIFICATION, give_gone, give_joined, give_paid, give_same, give_told,
+};
+use words_permits::{take_out, wake_next};
+
+/// An entry that has joined with a waker of its task, and the word that its list had then.
+#[derive(Drop)]
+pub struct Joined {
+    pub(crate) id: EntryId,
+    pub(crate) whose: Whose,
+    word: u64,
+}
+
+impl RawSemaphore {
+    /// Joins the list at the back for this many permits, with no waker. The seat has not looked since then. [`Memory`] comes only if memory
+    /// was refused, and nothing has changed then.
+    pub fn join<R: Wait>(&self, rt: &R, seat: &mut Seat, permits: u64) -> Result<EntryId, Memory>
+        requires of { IsOf self.now seat.old }
+        requires away { seat.old.listed ≡ false }
+        requires some { 0 < permits }
+        ensures joined { IfOk result (λ id. seat.new ≡ with_joined id.number permits seat.old) }
+        ensures refused { OnErr result (seat.new ≡ seat.old) }
+    {
+        let shared = &self.table.shared;
+        let found = take_out(shared, rt, &mut seat.inner);
+        let (joined, word) = join_in(shared, &mut seat.inner, self.alloc, permits, found);
+        match joined {
+            Ok(id) => {
+                let found = give_joined(shared, &mut seat.inner, id, permits, word);
+                wake_next(shared, found);
+                Ok(id)
+            }
+            Err(memory) => {
+                let found = give_same(shared, &mut seat.inner, word);
+                wake_next(shared, found);
+                Err(memory)
+            }
+        }
+    }
+
+    /// The same, with a waker of the task of `cx`, which registers with the semaphore's source.
+    pub fn join_waking<R: Wait>(
+        &self,
+        rt: &R,
+        seat: &mut Seat,
+        permits: u64,
+        cx: &mut Context<'_>,
+    ) -> Result<Joined, Memory>
+        requires of { IsOf self.now seat.old }
+        requires away { seat.old.listed ≡ false }
+        requires some { 0 < permits }
+        ensures joined { IfOk result (λ joined. seat.new ≡ with_joined joined.id.number permits seat.old) }
+        ensures refused { OnErr result (seat.new ≡ seat.old) }
+        ensures keeps { IfOk result (λ joined. IsReceipt self.now.source cx.new joined.whose) }
+        ensures kept { Keeps cx.old cx.new }
+    {
+        let shared = &self.table.shared;
+        let found = take_out(shared, rt, &mut seat.inner);
+        let (joined, word) = join_waking_in(
+            shared,
+            &mut seat.inner,
+            self.alloc,
+            permits,
+            &self.source,
+            cx,
+            found,
+        );
+        match joined {
+            Ok((id, whose)) => {
+                let found = give_joined(shared, &mut seat.inner, id, permits, word);
+                wake_next(shared, found);
+                Ok(Joined { id, whose, word })
+            }
+            Err(memory) => {
+                let found = give_same(shared, &mut seat.inner, word);
+                wake_next(shared, found);
+                Err(memory)
+            }
+        }
+    }
+
+    /// Takes the entry of this id out of the list, which is the seat's: whether it was notified. If so, the seat owes a look and a
+    /// notification. The entry's own waker is dropped, by which the kit wakes its task once more.
+    pub fn remove<R: Wait>(&self, rt: &R, seat: &mut Seat, id: EntryId) -> bool
+        requires of { IsOf self.now seat.old }
+        requires own { (seat.old.listed ≡ true) × (seat.old.entry ≡ id.number) }
+        ensures { MatchBool result (seat.new ≡ with_told seat.old) (seat.new ≡ with_gone seat.old) }
+    {
+        let shared = &self.table.shared;
+        let found = take_out(shared, rt, &mut seat.inner);
+        let (was_notified, kept, word) = remove_in(shared, &mut seat.inner, id, found);
+        let found = if was_notified {
+            give_told(shared, &mut seat.inner, word)
+        } else {
+            give_gone(shared, &mut seat.inner, id, word)
+        };
+        wake_next(shared, found);
+        drop(kept);
+        was_notified
+    }
+
+    /// Asks for the notification of the entry of this id, which is the seat's. One that waits keeps a waker of the task of `cx`, which is
+    /// answered, and the task has registered with the semaphore's source. Notified, it has left the list, and the seat owes a look and a
+    /// notification.
+    pub fn ask<R: Wait>(
+        &self,
+        rt: &R,
+        seat: &mut Seat,
+        id: EntryId,
+        cx: &mut Context<'_>,
+    ) -> Option<Whose>
+        requires of { IsOf self.now seat.old }
+        requires own { (seat.old.listed ≡ true) × (seat.old.entry ≡ id.number) }
+        ensures told { IfNone result ((seat.new ≡ with_told seat.old) × (cx.new ≡ cx.old)) }
+        ensures waits { IfSome result (λ whose. (seat.new ≡ seat.old) × IsReceipt self.now.source cx.new whose) }
+        ensures kept { Keeps cx.old cx.new }
+    {
+        let shared = &self.table.shared;
+        let found = take_out(shared, rt, &mut seat.inner);
+        let (heard, word) = ask_in(shared, &mut seat.inner, id, &self.source, cx, found);
+        give_asked(shared, &mut seat.inner, heard, word)
+    }
+
+    // The same, of an entry that keeps the waker that it has: whether it waits.
+    #[cold]
+    #[inline(never)]
+    fn ask_again<R: Wait>(&self, rt: &R, seat: &mut Seat, id: EntryId) -> bool
+        requires of { IsOf self.now seat.old }
+        requires own { (seat.old.listed ≡ true) × (seat.old.entry ≡ id.number) }
+        ensures told { result ≡ false → seat.new ≡ with_told seat.old }
+        ensures waits { result ≡ true → seat.new ≡ seat.old }
+    {
+        let shared = &self.table.shared;
+        let found = take_out(shared, rt, &mut seat.inner);
+        let (heard, word) = ask_again_in(shared, &mut seat.inner, id, found);
+        give_asked(shared, &mut seat.inner, heard, word).is_some()
+    }
+
+    /// Whether an entry waits that has joined with a waker: one load, where the list was not notified since. Else it asks for its
+    /// notification, as [`RawSemaphore::ask`] does.
+    pub fn still_waits<R: Wait>(&self, rt: &R, seat: &mut Seat, joined: &Joined) -> bool
+        requires of { IsOf self.now seat.old }
+        requires own { (seat.old.listed ≡ true) × (seat.old.entry ≡ joined.now.id.number) }
+        ensures told { result ≡ false → seat.new ≡ with_told seat.old }
+        ensures waits { result ≡ true → seat.new ≡ seat.old }
+    {
+        self.is_still(joined.word) || self.ask_again(rt, seat, joined.id)
+    }
+
+    // Whether the list was not notified since its word was this.
+    fn is_still(&self, word: u64) -> bool {
+        let told = word / NOTIFICATION;
+        told < MOST && self.table.shared.peek(LIST) / NOTIFICATION == told
+    }
+
+    /// Notifies the first waiter for whom as many permits are enough as the seat found last, if nobody is notified and there is such a
+    /// one, and calls its waker. The seat owes nothing any more.
+    #[inline]
+    pub fn fit<R: Wait>(&self, rt: &R, seat: &mut Seat, available: u64)
+        requires of { IsOf self.now seat.old }
+        requires found { (available ≡ seat.old.found) × (seat.old.seen ≡ true) }
+        ensures { seat.new ≡ with_paid seat.old }
+    {
+        if self.may_have_entries(seat) {
+            self.fit_listed(rt, seat, available);
+        }
+    }
+
+    // The same, of a list that may have entries.
+    #[inline(never)]
+    pub(crate) fn fit_listed<R: Wait>(&self, rt: &R, seat: &mut Seat, available: u64)
+        requires of { IsOf self.now seat.old }
+        requires found { (available ≡ seat.old.found) × (seat.old.seen ≡ true) }
+        ensures { seat.new ≡ with_paid seat.old }
+    {
+        let shared = &self.table.shared;
+        let found = take_out(shared, rt, &mut seat.inner);
+        let (due, word) = fit_in(shared, &mut seat.inner, available, found);
+        let found = give_paid(shared, &mut seat.inner, available, word);
+        wake_next(shared, found);
+        drop(due.pay());
+    }
+}

@@ -1,0 +1,183 @@
+//! The calls of a semaphore that aren't polls, action by action as its program has them.
+//!
+//! The comments name the places of the program's table, which are `sync_program`'s.
+
+ghost use Rattle.std.specs.Prelude.{◌≡◌, ℕ, IfErr, IfOk, IfSome, MatchBool};
+ghost use Rattle.lock_program.specs.declared.refusal.Refusal.TheVariants as refusals;
+ghost use Rattle.semaphore_core.specs.Outcomes.{OnTried, Owes};
+ghost use Rattle.semaphore_core.specs.Semaphores.{Has, HasUnderWay, IsPastLimit, IsShort};
+
+use crate::raw::RawSemaphore;
+use crate::receipts::{Added, Given, Lowered};
+use crate::seat::Seat;
+use crate::turn::{Notifies, Tried};
+use lock_program::Refusal;
+use std::sync::Wait;
+use words_permits::{Raising, Taking};
+
+impl RawSemaphore {
+    /// Takes this many permits at once, if as many are available. It waits for nobody: one look, and one exchange.
+    ///
+    /// It is the one action of a try, and the first of a first poll. By the contract the seat that it returns has exactly these permits,
+    /// and it is in vain only where its look found fewer.
+    #[inline]
+    pub fn try_take(&self, permits: u64) -> Tried
+        ensures { OnTried self.now permits result }
+    {
+        // Try, or Take
+        let (mut seat, found) = self.sit_and_look();
+        match self.take_from(&mut seat, found, permits) {
+            Taking::Left(_) => Tried::Got(seat),
+            Taking::Short(_) => Tried::Short(seat),
+            Taking::Changed => Tried::Changed(seat),
+        }
+    }
+
+    /// Ends a try that is in vain: its last look found fewer permits than it is for.
+    #[inline]
+    pub fn give_up(&self, seat: Seat, permits: u64)
+        requires { IsShort self.now permits seat }
+    {
+        let _ = permits;
+        seat.rise();
+    }
+
+    /// Goes on with a try whose word changed meanwhile, until it stands still.
+    ///
+    /// It stands apart, as does all else that may wait: after each such call the compiled code looks at a flag.
+    #[cold]
+    #[inline(never)]
+    pub fn try_again<R: Wait>(&self, rt: &R, seat: Seat, permits: u64) -> Option<Seat>
+        requires { Has self.now 0 seat }
+        ensures { IfSome result (Has self.now permits) }
+    {
+        let mut seat = seat;
+        if self.take_on(rt, &mut seat, permits) {
+            return Some(seat);
+        }
+        self.give_up(seat, permits);
+        None
+    }
+
+    /// Goes on with the first look of a poll whose word changed meanwhile, until it stands still: the seat with the permits, or one that
+    /// [`RawSemaphore::poll_first`] goes on with. It stands apart, as [`RawSemaphore::try_again`] does.
+    #[cold]
+    #[inline(never)]
+    pub fn look_on<R: Wait>(&self, rt: &R, seat: Seat, permits: u64) -> Result<Seat, Seat>
+        requires { Has self.now 0 seat }
+        ensures got { IfOk result (Has self.now permits) }
+        ensures short { IfErr result (IsShort self.now permits) }
+    {
+        let mut seat = seat;
+        let has_got = self.take_on(rt, &mut seat, permits);
+        if has_got { Ok(seat) } else { Err(seat) }
+    }
+
+    // Takes this many permits, if as many are available, however often the word changes meanwhile: in vain only where its last look
+    // found fewer.
+    #[inline]
+    fn take_on<R: Wait>(&self, rt: &R, seat: &mut Seat, permits: u64) -> bool
+        requires { Has self.now 0 seat.old }
+        ensures { MatchBool result (Has self.now permits seat.new) (IsShort self.now permits seat.new) }
+    {
+        for _ in rt.forever() {
+            match self.take(seat, permits) {
+                Taking::Left(_) => return true,
+                Taking::Short(_) => return false,
+                Taking::Changed => {}
+            }
+        }
+        unreachable!()
+    }
+
+    /// Gives a guard's permits back. Its receipt says that they were given. It waits for nobody: where somebody may be waiting,
+    /// [`RawSemaphore::notify`] has to go on.
+    #[inline]
+    pub fn give(&self, seat: Seat, permits: u64) -> Result<Given, Notifies>
+        requires { Has self.now permits seat }
+        ensures given { IfOk result (λ given. given.permits ≡ permits) }
+        ensures notifies { IfErr result (λ notifies. (notifies.given.permits ≡ permits) × Owes self.now notifies) }
+    {
+        // GiveBack, and FitGivenBack where nobody may wait
+        let mut seat = seat;
+        let given = self.give_back(&mut seat, permits);
+        if self.may_have_entries(&mut seat) {
+            return Err(Notifies { seat, given });
+        }
+        seat.rise();
+        Ok(given)
+    }
+
+    /// Notifies the first waiter for whom the permits that were given are enough. The receipt of these comes back.
+    #[inline(always)]
+    pub fn notify<R: Wait>(&self, rt: &R, notifies: Notifies) -> Given
+        requires { Owes self.now notifies }
+        ensures { result ≡ notifies.given }
+    {
+        // FitGivenBack
+        let Notifies { mut seat, given } = notifies;
+        self.fit_listed(rt, &mut seat, given.available());
+        seat.rise();
+        given
+    }
+
+    /// Ends a guard's permits for good: the limit is lowered by as many, which its receipt says. It waits for nobody.
+    pub fn forget(&self, seat: Seat, permits: u64) -> Lowered
+        requires { Has self.now permits seat }
+        ensures { result.permits ≡ permits }
+    {
+        // Lower
+        let mut seat = seat;
+        let lowered = self.lower(&mut seat, permits);
+        seat.rise();
+        lowered
+    }
+
+    /// Adds this many permits, and notifies the first waiter for whom those that are then available are enough. It takes no
+    /// memory. Its receipt says that they were added.
+    ///
+    /// If the limit would pass its greatest value, as its last look at the limit found, it returns [`Refusal::Permits`], and
+    /// nothing has changed.
+    pub fn add<R: Wait>(&self, rt: &R, permits: u64) -> Result<Added, Refusal>
+        ensures added { IfOk result (λ added. added.permits ≡ permits) }
+        ensures refused { IfErr result (λ refusal. refusal ≡ refusals.Permits) }
+    {
+        // Raise
+        let mut seat = self.sit();
+        if !self.raise_on(rt, &mut seat, permits) {
+            return Err(self.refuse(seat, permits));
+        }
+        // GiveAdded
+        let added = self.give_new(&mut seat, permits);
+        // FitAdded
+        self.fit(rt, &mut seat, added.available());
+        seat.rise();
+        Ok(added)
+    }
+
+    // Ends an addition that is refused: its last look found a limit that would pass its greatest value.
+    fn refuse(&self, seat: Seat, permits: u64) -> Refusal
+        requires { IsPastLimit self.now permits seat }
+        ensures { result ≡ refusals.Permits }
+    {
+        let _ = permits;
+        seat.rise();
+        Refusal::Permits
+    }
+
+    // Raises the limit by this many, if its greatest value allows it, however often the word changes meanwhile: it is refused only
+    // where its last look found that it doesn't.
+    fn raise_on<R: Wait>(&self, rt: &R, seat: &mut Seat, permits: u64) -> bool
+        requires { Has self.now 0 seat.old }
+        ensures { MatchBool result (HasUnderWay self.now permits seat.new) (IsPastLimit self.now permits seat.new) }
+    {
+        for _ in rt.forever() {
+            match self.raise(seat, permits) {
+                Raising::Raised => return true,
+                Raising::PastLimit => return false,
+                Raising::Changed => {}
+            }
+        }
+        unreachable!()
+    }
+}

@@ -1,0 +1,31 @@
+//! A semaphore whose permits, limit and waiting list stand under one rule: no wake-up is lost.
+//!
+//! [`RawSemaphore`] is the semaphore: an atomic table with three words, and the list in its slot. Each action of its program is a call of
+//! one seat ([`RawSemaphore::take`], [`RawSemaphore::fit`] and the others), and its whole calls ([`RawSemaphore::poll_first`],
+//! [`RawSemaphore::give`] and the others) are the program. What always holds between any two atomic steps of any number of threads is
+//! [`PermitRule`] of `words_permits`, and [`no_lost_wakeup`] is what it says of who waits.
+#![tactic(auto)]
+
+mod actions;
+mod calls;
+mod due;
+mod heard;
+mod list;
+mod list_steps;
+mod polls;
+mod queue;
+mod raw;
+mod receipts;
+mod seat;
+mod turn;
+mod whose;
+
+pub use actions::Joined;
+pub use due::{Called, Due};
+pub use queue::Queue;
+pub use raw::RawSemaphore;
+pub use receipts::{Added, Given, Lowered};
+pub use seat::Seat;
+pub use turn::{Notifies, Outcome, Tried, Waiting};
+pub use whose::Whose;
+pub use words_permits::{Content, PermitRule, Raising, Taking, View, no_lost_wakeup};

@@ -1,0 +1,96 @@
+//! What is done to the list's entries while the list is out.
+
+ghost use Rattle.std.specs.Prelude.{◌≡◌, true, false, IfOk, OnErr, MatchBool};
+ghost use Rattle.futures.specs.Task.{Keeps};
+ghost use Rattle.semaphore_core.specs.Asking.{ByHeard};
+ghost use Rattle.semaphore_core.specs.Entries.{HasJoined, HasLeft, IsSame, IsTold, StaysSound};
+ghost use Rattle.semaphore_core.specs.Receipts.{KeepsAt, IsReceipt};
+
+use crate::heard::Heard;
+use crate::whose::Whose;
+use futures::task::{Context, Poll, Source, Waker};
+use lock_event::{Asked, EntryId, Memory, WeightedEvent};
+
+// An entry joins at the back for so many permits, with no waker.
+pub(crate) fn join(event: &mut WeightedEvent<Waker>, permits: u64) -> Result<EntryId, Memory>
+    ensures joined { IfOk result (λ id. HasJoined event.old.entries event.new.entries id.number permits) }
+    ensures refused { OnErr result (event.new.entries ≡ event.old.entries) }
+{
+    event.listen(permits)
+}
+
+// An entry joins at the back for so many permits, with a waker of the task of `cx`, which registers with `source`.
+#[inline(always)]
+pub(crate) fn join_waking(
+    event: &mut WeightedEvent<Waker>,
+    permits: u64,
+    source: &Source,
+    cx: &mut Context<'_>,
+) -> Result<(EntryId, Whose), Memory>
+    ensures joined { IfOk result (λ joined. HasJoined event.old.entries event.new.entries joined.0.number permits) }
+    ensures refused { OnErr result (event.new.entries ≡ event.old.entries) }
+    ensures keeps { IfOk result (λ joined. KeepsAt joined.0 joined.1 event.new.entries × IsReceipt source.now.id cx.new joined.1) }
+    ensures kept { Keeps cx.old cx.new }
+{
+    let id = event.listen(permits)?;
+    let mut made = None;
+    let _: Poll<()> = cx.register(source, &mut made);
+    let whose = Whose::of(&made);
+    match event.ask(id, made) {
+        Asked::Waiting { .. } => Ok((id, whose)),
+        Asked::Notified { .. } => unreachable!(),
+        Asked::Unlisted { .. } => unreachable!(),
+    }
+}
+
+// Notifies the first whom so many are enough for, unless one is notified: the waker that is due.
+pub(crate) fn fit(event: &mut WeightedEvent<Waker>, available: u64) -> Option<Waker>
+    ensures { IsTold event.old.entries event.new.entries available }
+{
+    event.fit(available);
+    event.next_waker()
+}
+
+// An entry leaves: whether it was notified, and what it kept. One that isn't there counts as not notified.
+pub(crate) fn remove(event: &mut WeightedEvent<Waker>, id: EntryId) -> (bool, Option<Waker>)
+    ensures { MatchBool result.0 (StaysSound event.old.entries event.new.entries) (StaysSound event.old.entries event.new.entries × HasLeft event.old.entries event.new.entries id.number) }
+{
+    event.withdraw(id)
+}
+
+// An entry asks for its notification. One that waits keeps a waker of the task of `cx`, which registers with `source`.
+#[inline(always)]
+pub(crate) fn ask(
+    event: &mut WeightedEvent<Waker>,
+    id: EntryId,
+    source: &Source,
+    cx: &mut Context<'_>,
+) -> Heard<Whose>
+    ensures asked { ByHeard result (StaysSound event.old.entries event.new.entries) (λ _. IsSame event.old.entries event.new.entries) }
+    ensures waits { ByHeard result (cx.new ≡ cx.old) (λ whose. KeepsAt id whose event.new.entries × IsReceipt source.now.id cx.new whose) }
+    ensures kept { Keeps cx.old cx.new }
+{
+    let mut waker = match event.ask(id, None) {
+        Asked::Waiting { kept } => kept,
+        Asked::Notified { kept, .. } => return Heard::Told(kept),
+        Asked::Unlisted { .. } => return Heard::Told(None),
+    };
+    let _: Poll<()> = cx.register(source, &mut waker);
+    let whose = Whose::of(&waker);
+    match event.ask(id, waker) {
+        Asked::Waiting { .. } => Heard::Waits(whose),
+        Asked::Notified { .. } => unreachable!(),
+        Asked::Unlisted { .. } => unreachable!(),
+    }
+}
+
+// The same, of an entry that keeps the waker that it has.
+pub(crate) fn ask_again(event: &mut WeightedEvent<Waker>, id: EntryId) -> Heard<()>
+    ensures { ByHeard result (StaysSound event.old.entries event.new.entries) (λ _. IsSame event.old.entries event.new.entries) }
+{
+    if event.contains(id) && !event.is_notified(id) {
+        return Heard::Waits(());
+    }
+    let (_was_notified, kept) = event.withdraw(id);
+    Heard::Told(kept)
+}

@@ -1,0 +1,180 @@
+//! What is done to the list while it is out, and how it is given back.
+
+ghost use Rattle.std.specs.Prelude.{◌≡◌, ◌<◌, ⊤, IfNone, IfOk, IfSome, MatchBool, MatchResult};
+ghost use Rattle.futures.specs.Task.{Keeps};
+ghost use Rattle.atomic_table.specs.Table.{rest};
+ghost use Rattle.semaphore_core.specs.Asking.{ByHeard};
+ghost use Rattle.semaphore_core.specs.Queues.{queue_waiters, queue_marked};
+ghost use Rattle.semaphore_core.specs.Receipts.{IsReceipt};
+ghost use Rattle.semaphore_core.specs.declared.heard.Heard.TheVariants as heard_as;
+ghost use Rattle.words_permits.specs.Seats.{told_of, back};
+ghost use Rattle.words_permits.specs.Steps.{IsHeld, CanJoin, CanHear, CanLeave, CanPay, CanStay};
+ghost use Rattle.words_permits.specs.Waiters.{waiter};
+
+use crate::due::Due;
+use crate::heard::Heard;
+use crate::queue::Queue;
+use crate::whose::Whose;
+use atomic_table::Seat as TableSeat;
+use futures::task::{Context, Source, Waker};
+use lock_event::{EntryId, Memory};
+use std::alloc::Global;
+use words_permits::steps::{LIST_SLOT, Ruled, give_same, give_told};
+use words_permits::{View, wake_next};
+
+/// The tables of semaphores.
+pub(crate) type Listing = Ruled<Queue>;
+
+/// The seats of those tables.
+pub(crate) type Lister = TableSeat<Queue, View>;
+
+// What is done to the list while it is out, in whose word `found` stood: what is to stand there comes last.
+
+pub(crate) fn join_in(
+    shared: &Listing,
+    inner: &mut Lister,
+    alloc: Global,
+    permits: u64,
+    found: u64,
+) -> (Result<EntryId, Memory>, u64)
+    requires table { inner.old.table_id ≡ shared.now.table_id }
+    requires some { 0 < permits }
+    requires held { IsHeld queue_waiters queue_marked inner.old.me }
+    ensures table { inner.new.table_id ≡ inner.old.table_id }
+    ensures view { inner.new.me.0 ≡ inner.old.me.0 }
+    ensures others { rest inner.new.me.1 ≡ rest inner.old.me.1 }
+    ensures ready { MatchResult result.0 (λ id. CanJoin queue_waiters queue_marked inner.new.me result.1 (waiter id.number permits)) (λ _. CanStay queue_waiters queue_marked inner.new.me result.1) }
+{
+    let list = inner.slot_mut(shared, LIST_SLOT);
+    let joined = list.join(alloc, permits);
+    let says = list.says(found, false);
+    (joined, says)
+}
+
+pub(crate) fn join_waking_in(
+    shared: &Listing,
+    inner: &mut Lister,
+    alloc: Global,
+    permits: u64,
+    source: &Source,
+    cx: &mut Context<'_>,
+    found: u64,
+) -> (Result<(EntryId, Whose), Memory>, u64)
+    requires table { inner.old.table_id ≡ shared.now.table_id }
+    requires some { 0 < permits }
+    requires held { IsHeld queue_waiters queue_marked inner.old.me }
+    ensures table { inner.new.table_id ≡ inner.old.table_id }
+    ensures view { inner.new.me.0 ≡ inner.old.me.0 }
+    ensures others { rest inner.new.me.1 ≡ rest inner.old.me.1 }
+    ensures ready { MatchResult result.0 (λ joined. CanJoin queue_waiters queue_marked inner.new.me result.1 (waiter joined.0.number permits)) (λ _. CanStay queue_waiters queue_marked inner.new.me result.1) }
+    ensures keeps { IfOk result.0 (λ joined. IsReceipt source.now.id cx.new joined.1) }
+    ensures kept { Keeps cx.old cx.new }
+{
+    let list = inner.slot_mut(shared, LIST_SLOT);
+    let joined = list.join_waking(alloc, permits, source, cx);
+    let says = list.says(found, false);
+    (joined, says)
+}
+
+pub(crate) fn fit_in(shared: &Listing, inner: &mut Lister, available: u64, found: u64) -> (Due, u64)
+    requires table { inner.old.table_id ≡ shared.now.table_id }
+    requires held { IsHeld queue_waiters queue_marked inner.old.me }
+    ensures table { inner.new.table_id ≡ inner.old.table_id }
+    ensures view { inner.new.me.0 ≡ inner.old.me.0 }
+    ensures others { rest inner.new.me.1 ≡ rest inner.old.me.1 }
+    ensures ready { CanPay queue_waiters queue_marked inner.new.me result.1 available }
+{
+    let list = inner.slot_mut(shared, LIST_SLOT);
+    let due = list.fit(available);
+    let says = list.says(found, true);
+    (due, says)
+}
+
+pub(crate) fn remove_in(
+    shared: &Listing,
+    inner: &mut Lister,
+    id: EntryId,
+    found: u64,
+) -> (bool, Option<Waker>, u64)
+    requires table { inner.old.table_id ≡ shared.now.table_id }
+    requires held { IsHeld queue_waiters queue_marked inner.old.me }
+    ensures table { inner.new.table_id ≡ inner.old.table_id }
+    ensures view { inner.new.me.0 ≡ inner.old.me.0 }
+    ensures others { rest inner.new.me.1 ≡ rest inner.old.me.1 }
+    ensures ready { MatchBool result.0 (CanHear queue_waiters queue_marked inner.new.me result.2) (CanLeave queue_waiters queue_marked inner.new.me result.2 id.number) }
+{
+    let list = inner.slot_mut(shared, LIST_SLOT);
+    let (was_notified, kept) = list.remove(id);
+    let says = list.says(found, false);
+    (was_notified, kept, says)
+}
+
+pub(crate) fn ask_in(
+    shared: &Listing,
+    inner: &mut Lister,
+    id: EntryId,
+    source: &Source,
+    cx: &mut Context<'_>,
+    found: u64,
+) -> (Heard<Whose>, u64)
+    requires table { inner.old.table_id ≡ shared.now.table_id }
+    requires held { IsHeld queue_waiters queue_marked inner.old.me }
+    ensures table { inner.new.table_id ≡ inner.old.table_id }
+    ensures view { inner.new.me.0 ≡ inner.old.me.0 }
+    ensures others { rest inner.new.me.1 ≡ rest inner.old.me.1 }
+    ensures ready { ByHeard result.0 (CanHear queue_waiters queue_marked inner.new.me result.1) (λ _. CanStay queue_waiters queue_marked inner.new.me result.1) }
+    ensures waits { ByHeard result.0 (cx.new ≡ cx.old) (IsReceipt source.now.id cx.new) }
+    ensures kept { Keeps cx.old cx.new }
+{
+    let list = inner.slot_mut(shared, LIST_SLOT);
+    let heard = list.ask(id, source, cx);
+    let says = list.says(found, false);
+    (heard, says)
+}
+
+pub(crate) fn ask_again_in(
+    shared: &Listing,
+    inner: &mut Lister,
+    id: EntryId,
+    found: u64,
+) -> (Heard<()>, u64)
+    requires table { inner.old.table_id ≡ shared.now.table_id }
+    requires held { IsHeld queue_waiters queue_marked inner.old.me }
+    ensures table { inner.new.table_id ≡ inner.old.table_id }
+    ensures view { inner.new.me.0 ≡ inner.old.me.0 }
+    ensures others { rest inner.new.me.1 ≡ rest inner.old.me.1 }
+    ensures ready { ByHeard result.0 (CanHear queue_waiters queue_marked inner.new.me result.1) (λ _. CanStay queue_waiters queue_marked inner.new.me result.1) }
+{
+    let list = inner.slot_mut(shared, LIST_SLOT);
+    let heard = list.ask_again(id);
+    let says = list.says(found, false);
+    (heard, says)
+}
+
+// Gives the list back that an entry has asked, with this word: what the entry keeps, if it waits. What one kept that was told is dropped then.
+pub(crate) fn give_asked<K>(
+    shared: &Listing,
+    inner: &mut Lister,
+    heard: Heard<K>,
+    word: u64,
+) -> Option<K>
+    requires table { (inner.old.table_id ≡ shared.now.table_id) × (shared.now.table_id.words ≡ 3) × (shared.now.table_id.slots ≡ 1) }
+    requires list { ByHeard heard (CanHear queue_waiters queue_marked inner.old.me word) (λ _. CanStay queue_waiters queue_marked inner.old.me word) }
+    ensures table { inner.new.table_id ≡ inner.old.table_id }
+    ensures told { IfNone result ((inner.new.me ≡ (told_of inner.old.me.0, rest inner.old.me.1)) × ByHeard heard ⊤ (λ _. ⊥)) }
+    ensures waits { IfSome result (λ kept. (inner.new.me ≡ (back inner.old.me.0, rest inner.old.me.1)) × (heard ≡ heard_as.Waits kept)) }
+{
+    match heard {
+        Heard::Waits(kept) => {
+            let found = give_same(shared, inner, word);
+            wake_next(shared, found);
+            Some(kept)
+        }
+        Heard::Told(waker) => {
+            let found = give_told(shared, inner, word);
+            wake_next(shared, found);
+            drop(waker);
+            None
+        }
+    }
+}

@@ -1,0 +1,48 @@
+//! Who waits, who has still to notify, and how a try and a poll went.
+
+ghost use Rattle.std.specs.Prelude.{◌≡◌, true, false};
+
+use crate::receipts::Given;
+use crate::seat::Seat;
+use crate::whose::Whose;
+use lock_event::EntryId;
+use lock_program::Refusal;
+
+/// A party that waits between two polls: its seat has no permits and owes nothing, and its entry stands in the list. It has no `Drop`: a
+/// poll goes on with it, or a cancel ends it.
+///
+/// Contracts see its seat, and whose waker its entry keeps (`whose`).
+pub struct Waiting {
+    pub(crate) seat: Seat,
+    pub(crate) id: EntryId,
+    pub(crate) whose: Whose,
+    ghost idle: { (seat.permits ≡ 0) × (seat.under_way ≡ 0) × (seat.owes ≡ false) × (seat.listed ≡ true) × (seat.fresh ≡ false) × (seat.entry ≡ id.number) },
+}
+
+/// What a first try to take permits came to.
+pub enum Tried {
+    /// The permits, by this seat, which has exactly these.
+    Got(Seat),
+    /// Fewer are available, as this seat's last look found: [`RawSemaphore::give_up`](crate::RawSemaphore::give_up) ends it, and a poll
+    /// goes on by [`RawSemaphore::poll_first`](crate::RawSemaphore::poll_first).
+    Short(Seat),
+    /// The word changed meanwhile: [`RawSemaphore::try_again`](crate::RawSemaphore::try_again) goes on with this seat, and a poll by
+    /// [`RawSemaphore::look_on`](crate::RawSemaphore::look_on).
+    Changed(Seat),
+}
+
+/// What is left to do of a drop where somebody may wait: [`RawSemaphore::notify`](crate::RawSemaphore::notify) does it. It has no `Drop`.
+pub struct Notifies {
+    pub(crate) seat: Seat,
+    pub(crate) given: Given,
+}
+
+/// How a poll went.
+pub enum Outcome {
+    /// The permits that the future is for, by this seat.
+    Got(Seat),
+    /// It waits.
+    Waits(Waiting),
+    /// It gave up, and has nothing: memory was refused for its entry.
+    Refused(Refusal),
+}
