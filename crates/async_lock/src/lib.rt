@@ -29,4 +29,4 @@ pub use async_rwlock::{
     RwLock, RwLockReadGuard, RwLockReadGuardArc, RwLockUpgradableReadGuard,
     RwLockUpgradableReadGuardArc, RwLockWriteGuard, RwLockWriteGuardArc,
 };
-pub use async_semaphore::{Given, Lowered, Semaphore, SemaphoreGuard, SemaphoreGuardArc};
+pub use async_semaphore::{Added, Lowered, Semaphore, SemaphoreGuard, SemaphoreGuardArc};

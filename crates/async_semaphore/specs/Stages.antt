@@ -1,25 +1,22 @@
 -- How far a future is, what it has meanwhile, and what its polls answer.
-use Rattle.std.specs.Prelude.{◌≡◌, ℕ, Bool, true, false, ⊤, IsNone, Option, None, Some}
+use Rattle.std.specs.Prelude.{◌≡◌, ℕ, Bool, true, false, ⊤, IsSomeAnd, Option, Some}
 use Rattle.async_driver.specs.declared.turn.Turn.{Turn}
 use Rattle.async_driver.specs.declared.turn.Turn.TheVariants.{Pending, Ready, Refused}
 use Rattle.async_semaphore.specs.Guards.{Held}
 use Rattle.async_semaphore.specs.declared.semaphore.Semaphore.{Semaphore}
-use Rattle.async_semaphore.specs.declared.stage.FirstPoll.{FirstPoll}
-use Rattle.async_semaphore.specs.declared.stage.FirstPoll.TheVariants as first
 use Rattle.async_semaphore.specs.declared.stage.Stage.{Stage}
 use Rattle.async_semaphore.specs.declared.stage.Stage.TheVariants.{Unowned, Waits, Finished as Over}
 use Rattle.futures.specs.declared.task.context.Context.{Context}
 use Rattle.lock_program.specs.declared.refusal.Refusal.{Refusal}
 use Rattle.lock_program.specs.declared.refusal.Refusal.TheVariants.{Memory, Finished}
-use Rattle.semaphore_driver.specs.Polls.{HasReceipt, WaitsFor}
-use Rattle.semaphore_driver.specs.Semaphores.{Has}
-use Rattle.semaphore_driver.specs.Straight.{IsShort}
-use Rattle.semaphore_driver.specs.declared.straight.Tried.{Tried}
-use Rattle.semaphore_driver.specs.declared.straight.Tried.TheVariants as tried
-use Rattle.semaphore_driver.specs.declared.waiting.Outcome.{Outcome}
-use Rattle.semaphore_driver.specs.declared.waiting.Outcome.TheVariants as outcome
-use Rattle.semaphore_driver.specs.declared.waiting.Waiting.{Waiting}
-use Rattle.words_semaphore.specs.declared.view.Seat.{Seat}
+use Rattle.semaphore_core.specs.Outcomes.{WaitsFor}
+use Rattle.semaphore_core.specs.Receipts.{IsReceipt}
+use Rattle.semaphore_core.specs.Semaphores.{Seated, Has, IsShort}
+use Rattle.semaphore_core.specs.declared.turn.Outcome.{Outcome}
+use Rattle.semaphore_core.specs.declared.turn.Outcome.TheVariants as outcome
+use Rattle.semaphore_core.specs.declared.turn.Tried.{Tried}
+use Rattle.semaphore_core.specs.declared.turn.Tried.TheVariants as tried
+use Rattle.semaphore_core.specs.declared.turn.Waiting.{Waiting}
 
 -- what contracts see of a future: how far it is, for how many permits it is, and its party at the semaphore, with its entry
 pub record Future (O : Type 0) : Type 0 where
@@ -64,18 +61,19 @@ abbrev pub WaitsAs : {O R : Type 0} → (O → Semaphore R) → Stage O → ℕ 
 WaitsAs semaphore_of (Waits owner) k w = WaitsFor (semaphore_of owner).raw k w
 WaitsAs semaphore_of _ k w = ⊥
 
--- its party has a receipt of the semaphore's list, for as many permits as it is for
+-- its party has an entry in the semaphore's list for as many permits as it is for, which keeps a waker of the task that the context polls; and the task
+-- has registered with the semaphore's source
 abbrev pub HasReceiptAt : {O R : Type 0} → (O → Semaphore R) → Stage O → ℕ → Context → Option Waiting → Type 0
-HasReceiptAt semaphore_of (Waits owner) k cx waiting = HasReceipt (semaphore_of owner).raw k cx waiting
+HasReceiptAt semaphore_of (Waits owner) k cx waiting = IsSomeAnd waiting (λ w. WaitsFor (semaphore_of owner).raw k w × (w.seat.listed ≡ true) × IsReceipt (semaphore_of owner).raw.source cx w.whose)
 HasReceiptAt semaphore_of _ k cx waiting = ⊥
 
 -- a seat got the permits that it is for
-abbrev pub GotAt : {O R : Type 0} → (O → Semaphore R) → Stage O → ℕ → Seat → Type 0
+abbrev pub GotAt : {O R : Type 0} → (O → Semaphore R) → Stage O → ℕ → Seated → Type 0
 GotAt semaphore_of (Waits owner) k seat = Has (semaphore_of owner).raw k seat
 GotAt semaphore_of _ k seat = ⊥
 
 -- a seat of a first try found fewer permits than it is for
-abbrev pub ShortAt : {O R : Type 0} → (O → Semaphore R) → Stage O → ℕ → Seat → Type 0
+abbrev pub ShortAt : {O R : Type 0} → (O → Semaphore R) → Stage O → ℕ → Seated → Type 0
 ShortAt semaphore_of (Waits owner) k seat = IsShort (semaphore_of owner).raw k seat
 ShortAt semaphore_of _ k seat = ⊥
 
@@ -85,17 +83,11 @@ OnTriedAt semaphore_of stage k (tried.Got seat) = GotAt semaphore_of stage k sea
 OnTriedAt semaphore_of stage k (tried.Short seat) = ShortAt semaphore_of stage k seat
 OnTriedAt semaphore_of stage k (tried.Changed seat) = GotAt semaphore_of stage 0 seat
 
--- how a poll by who has the semaphore went, and what is left of its party
-abbrev pub OnPolled : {O R : Type 0} → (O → Semaphore R) → Stage O → ℕ → Context → Outcome → Option Waiting → Type 0
-OnPolled semaphore_of stage k cx (outcome.Got seat) rest = GotAt semaphore_of stage k seat × (rest ≡ None)
-OnPolled semaphore_of stage k cx outcome.Waits rest = HasReceiptAt semaphore_of stage k cx rest
-OnPolled semaphore_of stage k cx (outcome.Refused refusal) rest = (refusal ≡ Memory) × IsNone rest
-
--- the same of the rest of a first poll, whose party comes back where it waits
-abbrev pub OnFirst : {O R : Type 0} → (O → Semaphore R) → Stage O → ℕ → Context → FirstPoll → Type 0
-OnFirst semaphore_of stage k cx (first.Got seat) = GotAt semaphore_of stage k seat
-OnFirst semaphore_of stage k cx (first.Waits w) = WaitsAs semaphore_of stage k w × HasReceiptAt semaphore_of stage k cx (Some w)
-OnFirst semaphore_of stage k cx (first.Refused refusal) = refusal ≡ Memory
+-- how a poll by who has the semaphore went
+abbrev pub OnPolled : {O R : Type 0} → (O → Semaphore R) → Stage O → ℕ → Context → Outcome → Type 0
+OnPolled semaphore_of stage k cx (outcome.Got seat) = GotAt semaphore_of stage k seat
+OnPolled semaphore_of stage k cx (outcome.Waits w) = WaitsAs semaphore_of stage k w × HasReceiptAt semaphore_of stage k cx (Some w)
+OnPolled semaphore_of stage k cx (outcome.Refused refusal) = refusal ≡ Memory
 
 -- Ready, what was got is this and the future is over. One that is over is refused as finished and stays so; no other is, and none for
 -- another reason than memory.

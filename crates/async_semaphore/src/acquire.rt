@@ -7,11 +7,11 @@ ghost use Rattle.async_semaphore.specs.Stages.{Gives, HasReceiptAt, IsTurn, OnRe
 
 use crate::guard::PermitGuard;
 use crate::owns::Owns;
-use crate::stage::{FirstPoll, Stage, drop_stage, into_guard, poll_first, poll_waiting, take};
+use crate::stage::{Stage, drop_stage, into_guard, poll_first, poll_waiting, take};
 use async_driver::{Polled, Turn, put};
 use futures::task::Context;
 use lock_program::Refusal;
-use semaphore_driver::{Outcome, Tried, Waiting};
+use semaphore_core::{Outcome, Tried, Waiting};
 use std::marker::{Model, PhantomData};
 use std::sync::Wait;
 use std::time::Clock;
@@ -88,13 +88,16 @@ impl<R: Wait + Clock, O: Owns<Runtime = R>> AcquireFuture<R, O> {
         ensures kept { Keeps cx.old cx.new }
     {
         let permits = self.permits;
-        if self.waiting.is_some() {
-            return match poll_waiting::<R, O>(&self.stage, permits, &mut self.waiting, cx) {
+        if let Some(waiting) = self.waiting.take() {
+            return match poll_waiting::<R, O>(&self.stage, permits, waiting, cx) {
                 Outcome::Got(seat) => {
                     let stage = mem::replace(&mut self.stage, Stage::Finished);
                     Turn::Ready(into_guard(stage, seat, permits))
                 }
-                Outcome::Waits => Turn::Pending,
+                Outcome::Waits(waiting) => {
+                    put(&mut self.waiting, waiting);
+                    Turn::Pending
+                }
                 Outcome::Refused(refusal) => Turn::Refused(refusal),
             };
         }
@@ -134,13 +137,13 @@ impl<R: Wait + Clock, O: Owns<Runtime = R>> AcquireFuture<R, O> {
     {
         let permits = self.permits;
         match poll_first::<R, O>(&stage, permits, tried, cx) {
-            FirstPoll::Got(seat) => Turn::Ready(into_guard(stage, seat, permits)),
-            FirstPoll::Waits(waiting) => {
+            Outcome::Got(seat) => Turn::Ready(into_guard(stage, seat, permits)),
+            Outcome::Waits(waiting) => {
                 self.stage = stage;
                 put(&mut self.waiting, waiting);
                 Turn::Pending
             }
-            FirstPoll::Refused(refusal) => {
+            Outcome::Refused(refusal) => {
                 self.stage = stage;
                 Turn::Refused(refusal)
             }

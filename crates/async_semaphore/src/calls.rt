@@ -13,7 +13,7 @@ use crate::stage::{Stage, first};
 use crate::{SemaphoreGuard, SemaphoreGuardArc};
 use async_driver::wait_for;
 use lock_program::Refusal;
-use semaphore_driver::{Given, Tried};
+use semaphore_core::{Added, Tried};
 use std::alloc::AllocGlobal;
 use std::random::RandomSource;
 use std::sync::{Arc, Wait};
@@ -102,16 +102,16 @@ impl<R: Wait> Semaphore<R> {
     }
 
     /// Adds this many permits, and notifies the first waiter for whom those that are then available are enough. It takes no
-    /// memory. By the contract its receipt says that exactly these were given (`given`).
+    /// memory. By the contract its receipt says that exactly these were added to the limit and made available (`given`).
     ///
     /// If the limit would pass 18,446,744,073,709,551,615, it returns [`Refusal::Permits`] and changes nothing. The Rust crate
     /// wraps there, and returns nothing.
     ///
     /// ```
-    /// let given = semaphore.add_permits(2)?;
+    /// let added = semaphore.add_permits(2)?;
     /// ```
-    pub fn add_permits(&self, permits: usize) -> Result<Given, Refusal>
-        ensures given { IfOk result (λ given. given.permits ≡ permits) }
+    pub fn add_permits(&self, permits: usize) -> Result<Added, Refusal>
+        ensures given { IfOk result (λ added. added.permits ≡ permits) }
         ensures refused { IfErr result (λ refusal. refusal ≡ Refusal.Permits) }
     {
         self.raw.add(&self.rt, permits as u64)

@@ -1,14 +1,13 @@
 //! Permits that a task has.
 
 ghost use Rattle.std.specs.Prelude.{◌≡◌};
-ghost use Rattle.semaphore_driver.specs.Semaphores.{Has};
+ghost use Rattle.semaphore_core.specs.Semaphores.{Has};
 
 use crate::owns::Owns;
-use semaphore_driver::Lowered;
+use semaphore_core::{Lowered, Seat};
 use std::fmt;
 use std::marker::{Model, PhantomData};
 use std::sync::Wait;
-use words_semaphore::Seat;
 
 /// Permits of a semaphore. Dropping it gives them back, and notifies the first waiter for whom those that are then available
 /// are enough.
@@ -24,7 +23,7 @@ pub struct PermitGuard<R: Wait, O: Owns<Runtime = R>> {
 
 impl<R: Wait, O: Owns<Runtime = R>> Model for PermitGuard<R, O> {
     ghost use Rattle.async_semaphore.specs.Guards.{Held};
-    ghost use Rattle.semaphore_driver.specs.Semaphores.{Has};
+    ghost use Rattle.semaphore_core.specs.Semaphores.{Has};
 
     ghost Value = { Held R };
 

@@ -41,4 +41,4 @@ pub use guard::PermitGuard;
 pub use lock_program::Refusal;
 pub use owns::Owns;
 pub use semaphore::Semaphore;
-pub use semaphore_driver::{Given, Lowered};
+pub use semaphore_core::{Added, Lowered};

@@ -4,7 +4,7 @@ ghost use Rattle.std.specs.Prelude.{◌≡◌, IfErr, IfOk};
 ghost use Rattle.lock_program.specs.declared.refusal.Refusal.{Refusal};
 
 use lock_program::Refusal;
-use semaphore_driver::RawSemaphore;
+use semaphore_core::RawSemaphore;
 use std::alloc::AllocGlobal;
 use std::fmt;
 

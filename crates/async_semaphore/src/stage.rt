@@ -1,20 +1,18 @@
 //! How far a future is, one poll of it by who has the semaphore, and what a dropped one gives back.
 
-ghost use Rattle.std.specs.Prelude.{◌≡◌, false, None, IfNone, IfSome, IsSomeAnd};
+ghost use Rattle.std.specs.Prelude.{◌≡◌, false, IfNone, IfSome};
 ghost use Rattle.futures.specs.Task.{Keeps};
-ghost use Rattle.async_semaphore.specs.Stages.{Gives, GotAt, HasNoShare, IsFor, OnFirst, OnPolled, OnTriedAt, WaitsAs, is_finished};
+ghost use Rattle.async_semaphore.specs.Stages.{Gives, GotAt, HasNoShare, IsFor, OnPolled, OnTriedAt, WaitsAs, is_finished};
 ghost use Rattle.async_semaphore.specs.declared.semaphore.Semaphore.{Semaphore};
-ghost use Rattle.semaphore_driver.specs.Polls.{WaitsFor};
+ghost use Rattle.semaphore_core.specs.Outcomes.{WaitsFor};
 
 use crate::guard::PermitGuard;
 use crate::owns::Owns;
 use async_driver::nothing;
 use futures::task::Context;
-use lock_program::Refusal;
-use semaphore_driver::{Outcome, Tried, Waiting};
+use semaphore_core::{Outcome, Seat, Tried, Waiting};
 use std::sync::Wait;
 use std::time::Clock;
-use words_semaphore::Seat;
 
 /// How far a future is.
 #[derive(Drop)]
@@ -67,16 +65,6 @@ pub(crate) fn into_guard<R: Wait, O: Owns<Runtime = R>>(
     }
 }
 
-/// What the rest of a first poll came to.
-pub(crate) enum FirstPoll {
-    /// The permits, by this seat.
-    Got(Seat),
-    /// It waits, and this is its party.
-    Waits(Waiting),
-    /// It gave up, and has nothing.
-    Refused(Refusal),
-}
-
 /// The rest of a first poll that didn't get its permits at once, by who has the semaphore. It stands apart, as the next one does,
 /// since what it takes room for would be cleared at each poll that is ready without it.
 #[inline(never)]
@@ -85,9 +73,9 @@ pub(crate) fn poll_first<R: Wait + Clock, O: Owns<Runtime = R>>(
     permits: u64,
     tried: Tried,
     cx: &mut Context<'_>,
-) -> FirstPoll
+) -> Outcome
     requires tried { OnTriedAt O.semaphore_of stage.now permits tried }
-    ensures first { OnFirst O.semaphore_of stage.now permits cx.new result }
+    ensures polled { OnPolled O.semaphore_of stage.now permits cx.new result }
     ensures kept { Keeps cx.old cx.new }
 {
     let Stage::Waits(owner) = stage else {
@@ -96,28 +84,14 @@ pub(crate) fn poll_first<R: Wait + Clock, O: Owns<Runtime = R>>(
     let semaphore = owner.semaphore();
     let raw = &semaphore.raw;
     let seat = match tried {
-        Tried::Got(seat) => return FirstPoll::Got(seat),
+        Tried::Got(seat) => return Outcome::Got(seat),
         Tried::Short(seat) => seat,
         Tried::Changed(seat) => match raw.look_on(&semaphore.rt, seat, permits) {
-            Ok(seat) => return FirstPoll::Got(seat),
+            Ok(seat) => return Outcome::Got(seat),
             Err(seat) => seat,
         },
     };
-    let mut waiting = None;
-    match raw.poll_first(&semaphore.rt, cx, permits, seat, &mut waiting) {
-        Outcome::Got(seat) => {
-            nothing(waiting);
-            FirstPoll::Got(seat)
-        }
-        Outcome::Waits => match waiting {
-            Some(waiting) => FirstPoll::Waits(waiting),
-            None => unreachable!(),
-        },
-        Outcome::Refused(refusal) => {
-            nothing(waiting);
-            FirstPoll::Refused(refusal)
-        }
-    }
+    raw.poll_first(&semaphore.rt, cx, permits, seat)
 }
 
 /// A poll of what waits, by who has the semaphore.
@@ -125,12 +99,11 @@ pub(crate) fn poll_first<R: Wait + Clock, O: Owns<Runtime = R>>(
 pub(crate) fn poll_waiting<R: Wait + Clock, O: Owns<Runtime = R>>(
     stage: &Stage<O>,
     permits: u64,
-    waiting: &mut Option<Waiting>,
+    waiting: Waiting,
     cx: &mut Context<'_>,
 ) -> Outcome
-    requires { IsSomeAnd waiting.old (WaitsAs O.semaphore_of stage.now permits) }
-    ensures waits { IfSome waiting.new (WaitsAs O.semaphore_of stage.now permits) }
-    ensures polled { OnPolled O.semaphore_of stage.now permits cx.new result waiting.new }
+    requires { WaitsAs O.semaphore_of stage.now permits waiting }
+    ensures polled { OnPolled O.semaphore_of stage.now permits cx.new result }
     ensures kept { Keeps cx.old cx.new }
 {
     let Stage::Waits(owner) = stage else {
@@ -163,11 +136,10 @@ pub(crate) fn drop_stage<R: Wait, O: Owns<Runtime = R>>(
 fn leave<R: Wait, O: Owns<Runtime = R>>(owner: O, permits: u64, waiting: Option<Waiting>)
     requires { IfSome waiting (WaitsFor (O.semaphore_of owner).raw permits) }
 {
+    let _ = permits;
     if let Some(waiting) = waiting {
         let semaphore = owner.semaphore();
-        semaphore
-            .raw
-            .cancel_waiting(&semaphore.rt, permits, waiting);
+        semaphore.raw.cancel(&semaphore.rt, waiting);
     }
     drop(owner);
 }

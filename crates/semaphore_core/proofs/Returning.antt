@@ -36,7 +36,7 @@ module _ {S : Type 0} (waiters_of : S → List Waiter) (marked_of : S → ℕ) (
   has : (left : S) (n : ℕ) → Says (waiters_of left) n → Has waiters_of marked_of (After left) n left
   has left n says = (held.1, refl, says)
 
-  stays : (now left : S) (n : ℕ) → m.1 ≡ (0, now) ∷ rest m.1 → Says (waiters_of left) n → (waiters_of left ≡ waiters_of now) × (marked_of left ≡ marked_of now) → CanStay waiters_of marked_of (After left) n
+  pub stays : (now left : S) (n : ℕ) → m.1 ≡ (0, now) ∷ rest m.1 → Says (waiters_of left) n → (waiters_of left ≡ waiters_of now) × (marked_of left ≡ marked_of now) → CanStay waiters_of marked_of (After left) n
   stays now left n e says f = (left, has left n says, f.0 ∙ waiters-now now e, f.1 ∙ marked-now now e)
 
   abbrev Joins : S → S → ℕ → ℕ → Type 0

@@ -6,7 +6,7 @@ ghost use Rattle.semaphore_core.specs.Receipts.{IsReceipt};
 ghost use Rattle.semaphore_core.specs.Semaphores.{IsOf, with_joined, with_told, with_gone, with_paid};
 
 use crate::list_steps::{
-    ask_again_in, ask_in, fit_in, give_asked, join_in, join_waking_in, remove_in,
+    ask_again_in, ask_in, fit_in, give_asked, join_in, join_waking_in, remove_in, see_in,
 };
 use crate::queue::MOST;
 use crate::raw::RawSemaphore;
@@ -183,7 +183,29 @@ impl RawSemaphore {
         }
     }
 
-    // The same, of a list that may have entries.
+    // How many stand in the list, and whether the entry of this id is notified.
+    fn see<R: Wait>(&self, rt: &R, id: Option<EntryId>) -> (usize, bool) {
+        let mut seat = self.sit();
+        let shared = &self.table.shared;
+        let found = take_out(shared, rt, &mut seat.inner);
+        let (len, is_notified, word) = see_in(shared, &mut seat.inner, id, found);
+        let found = give_same(shared, &mut seat.inner, word);
+        wake_next(shared, found);
+        seat.rise();
+        (len, is_notified)
+    }
+
+    /// Returns how many stand in the list. It is for tests.
+    pub fn waiting<R: Wait>(&self, rt: &R) -> usize {
+        self.see(rt, None).0
+    }
+
+    /// Returns whether the entry of this id is notified. It is for tests.
+    pub fn is_notified<R: Wait>(&self, rt: &R, id: EntryId) -> bool {
+        self.see(rt, Some(id)).1
+    }
+
+    // The same as `fit`, of a list that may have entries.
     #[inline(never)]
     pub(crate) fn fit_listed<R: Wait>(&self, rt: &R, seat: &mut Seat, available: u64)
         requires of { IsOf self.now seat.old }

@@ -151,6 +151,30 @@ pub(crate) fn ask_again_in(
     (heard, says)
 }
 
+// How many entries the list has, and whether that of this id is notified.
+pub(crate) fn see_in(
+    shared: &Listing,
+    inner: &mut Lister,
+    id: Option<EntryId>,
+    found: u64,
+) -> (usize, bool, u64)
+    requires table { inner.old.table_id ≡ shared.now.table_id }
+    requires held { IsHeld queue_waiters queue_marked inner.old.me }
+    ensures table { inner.new.table_id ≡ inner.old.table_id }
+    ensures view { inner.new.me.0 ≡ inner.old.me.0 }
+    ensures others { rest inner.new.me.1 ≡ rest inner.old.me.1 }
+    ensures ready { CanStay queue_waiters queue_marked inner.new.me result.2 }
+{
+    let list = inner.slot_mut(shared, LIST_SLOT);
+    let len = list.len();
+    let is_notified = match id {
+        Some(id) => list.is_notified(id),
+        None => false,
+    };
+    let says = list.says(found, false);
+    (len, is_notified, says)
+}
+
 // Gives the list back that an entry has asked, with this word: what the entry keeps, if it waits. What one kept that was told is dropped then.
 pub(crate) fn give_asked<K>(
     shared: &Listing,

@@ -122,6 +122,7 @@ impl RawSemaphore {
         ensures kept { Keeps cx.old cx.new }
     {
         let mut seat = seat;
+        // Ask
         match self.ask(rt, &mut seat, id, cx) {
             Some(whose) => Outcome::Waits(Waiting { seat, id, whose }),
             None => self.go_on_told(rt, cx, permits, seat),
@@ -138,13 +139,14 @@ impl RawSemaphore {
     {
         let _ = permits;
         let mut seat = seat;
+        // Remove
         if self.remove(rt, &mut seat, id) {
             self.hand_on(rt, &mut seat);
         }
         seat
     }
 
-    // Load, and HandOn or FitGivenBack: it notifies the first for whom the permits that are available now are enough.
+    // Load and HandOn, or CancelLoad and FitGivenBack: it notifies the first for whom the permits that are available now are enough.
     #[inline]
     fn hand_on<R: Wait>(&self, rt: &R, seat: &mut Seat)
         requires of { IsOf self.now seat.old }
@@ -153,7 +155,9 @@ impl RawSemaphore {
         ensures same { (seat.new.permits ≡ seat.old.permits) × (seat.new.under_way ≡ seat.old.under_way) × (seat.new.listed ≡ false) × (seat.new.fresh ≡ false) }
         ensures paid { seat.new.owes ≡ false }
     {
+        // Load
         let available = self.load(seat);
+        // Fit
         self.fit(rt, seat, available);
     }
 
@@ -167,6 +171,7 @@ impl RawSemaphore {
     {
         let mut seat = seat;
         for _ in rt.forever() {
+            // Take, told
             match self.take(&mut seat, permits) {
                 Taking::Left(left) => {
                     // HandOn
@@ -183,14 +188,15 @@ impl RawSemaphore {
                         seat.rise();
                         return Outcome::Refused(Refusal::Memory);
                     };
+                    // Take, told and listed
                     match self.look_told(rt, permits, &mut seat) {
-                        // Remove
                         Ok(left) => {
                             return Outcome::Got(self.leave_told(rt, permits, seat, id, left));
                         }
-                        // Ask, and PassOn
                         Err(available) => {
+                            // Ask, told
                             if let Some(whose) = self.ask(rt, &mut seat, id, cx) {
+                                // PassOn
                                 self.fit(rt, &mut seat, available);
                                 return Outcome::Waits(Waiting { seat, id, whose });
                             }
@@ -235,11 +241,11 @@ impl RawSemaphore {
     {
         let _ = permits;
         let mut seat = seat;
+        // Remove, told
         if self.remove(rt, &mut seat, id) {
-            // Load, and HandOn
             self.hand_on(rt, &mut seat);
         } else if left > 0 {
-            // HandOn
+            // HandOn, of what it left
             self.fit(rt, &mut seat, left);
         }
         seat
@@ -257,7 +263,6 @@ impl RawSemaphore {
         } = waiting;
         // CancelRemove
         if self.remove(rt, &mut seat, id) {
-            // CancelLoad, and FitGivenBack
             self.hand_on(rt, &mut seat);
         }
         seat.rise();

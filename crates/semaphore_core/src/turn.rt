@@ -19,6 +19,25 @@ pub struct Waiting {
     ghost idle: { (seat.permits ≡ 0) × (seat.under_way ≡ 0) × (seat.owes ≡ false) × (seat.listed ≡ true) × (seat.fresh ≡ false) × (seat.entry ≡ id.number) },
 }
 
+impl Waiting {
+    /// Puts together whoever waits by this seat, whose entry has this id, and keeps a waker so. It is for tests, which carry out a poll one
+    /// action at a time.
+    pub fn of(seat: Seat, id: EntryId, whose: Whose) -> Waiting
+        requires { (seat.permits ≡ 0) × (seat.under_way ≡ 0) × (seat.owes ≡ false) × (seat.listed ≡ true) × (seat.fresh ≡ false) × (seat.entry ≡ id.number) }
+        ensures { (result.seat ≡ seat) × (result.id ≡ id) × (result.whose ≡ whose) }
+    {
+        Waiting { seat, id, whose }
+    }
+
+    /// Takes it apart. It is for tests.
+    pub fn into_parts(self) -> (Seat, EntryId, Whose)
+        ensures { (result.0 ≡ self.seat) × (result.1 ≡ self.id) × (result.2 ≡ self.whose) }
+    {
+        let Waiting { seat, id, whose } = self;
+        (seat, id, whose)
+    }
+}
+
 /// What a first try to take permits came to.
 pub enum Tried {
     /// The permits, by this seat, which has exactly these.

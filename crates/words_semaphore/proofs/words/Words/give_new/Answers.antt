@@ -1,6 +1,0 @@
-use Rattle.std.proofs.Common.{rules, sym, ap, ◌∙◌}
-use Rattle.words_semaphore.proofs.Keeps.{gives_new}
-use Rattle.words_semaphore.proofs.words.Words.give_new.Goals as goal
-
-pub fetch_add-found-requires : goal.fetch_add-found-requires
-fetch_add-found-requires c = (c.requires.table ∙ sym (ap (λ w. w.table) c.self.view_is), search rules, gives_new _ _ _ _ _ c.requires.has)
