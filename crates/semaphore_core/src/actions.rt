@@ -6,7 +6,8 @@ ghost use Rattle.semaphore_core.specs.Receipts.{IsReceipt};
 ghost use Rattle.semaphore_core.specs.Semaphores.{IsOf, with_joined, with_told, with_gone, with_paid};
 
 use crate::list_steps::{
-    ask_again_in, ask_in, fit_in, give_asked, join_in, join_waking_in, remove_in, see_in,
+    ask_again_in, ask_in, fit_in, give_asked, give_entered, give_left, join_in, join_waking_in,
+    remove_in, see_in,
 };
 use crate::queue::MOST;
 use crate::raw::RawSemaphore;
@@ -15,9 +16,7 @@ use crate::whose::Whose;
 use futures::task::Context;
 use lock_event::{EntryId, Memory};
 use std::sync::Wait;
-use words_permits::steps::{
-    LIST, NOTIFICATION, give_gone, give_joined, give_paid, give_same, give_told,
-};
+use words_permits::steps::{LIST, NOTIFICATION, give_paid, give_same};
 use words_permits::{take_out, wake_next};
 
 /// An entry that has joined with a waker of its task, and the word that its list had then.
@@ -43,7 +42,7 @@ impl RawSemaphore {
         let (joined, word) = join_in(shared, &mut seat.inner, self.alloc, permits, found);
         match joined {
             Ok(id) => {
-                let found = give_joined(shared, &mut seat.inner, id, permits, word);
+                let found = give_entered(shared, &mut seat.inner, id, permits, word);
                 wake_next(shared, found);
                 Ok(id)
             }
@@ -84,7 +83,7 @@ impl RawSemaphore {
         );
         match joined {
             Ok((id, whose)) => {
-                let found = give_joined(shared, &mut seat.inner, id, permits, word);
+                let found = give_entered(shared, &mut seat.inner, id, permits, word);
                 wake_next(shared, found);
                 Ok(Joined { id, whose, word })
             }
@@ -106,11 +105,7 @@ impl RawSemaphore {
         let shared = &self.table.shared;
         let found = take_out(shared, rt, &mut seat.inner);
         let (was_notified, kept, word) = remove_in(shared, &mut seat.inner, id, found);
-        let found = if was_notified {
-            give_told(shared, &mut seat.inner, word)
-        } else {
-            give_gone(shared, &mut seat.inner, id, word)
-        };
+        let found = give_left(shared, &mut seat.inner, id, was_notified, word);
         wake_next(shared, found);
         drop(kept);
         was_notified

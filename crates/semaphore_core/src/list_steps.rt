@@ -1,13 +1,13 @@
 //! What is done to the list while it is out, and how it is given back.
 
-ghost use Rattle.std.specs.Prelude.{◌≡◌, ◌<◌, ⊤, IfNone, IfOk, IfSome, MatchBool, MatchResult};
+ghost use Rattle.std.specs.Prelude.{◌≡◌, ◌<◌, ⊤, false, IfNone, IfOk, IfSome, MatchBool, MatchResult};
 ghost use Rattle.futures.specs.Task.{Keeps};
 ghost use Rattle.atomic_table.specs.Table.{rest};
 ghost use Rattle.semaphore_core.specs.Asking.{ByHeard};
 ghost use Rattle.semaphore_core.specs.Queues.{queue_waiters, queue_marked};
 ghost use Rattle.semaphore_core.specs.Receipts.{IsReceipt};
 ghost use Rattle.semaphore_core.specs.declared.heard.Heard.TheVariants as heard_as;
-ghost use Rattle.words_permits.specs.Seats.{told_of, back};
+ghost use Rattle.words_permits.specs.Seats.{joined_of, told_of, gone_of, back};
 ghost use Rattle.words_permits.specs.Steps.{IsHeld, CanJoin, CanHear, CanLeave, CanPay, CanStay};
 ghost use Rattle.words_permits.specs.Waiters.{waiter};
 
@@ -19,7 +19,7 @@ use atomic_table::Seat as TableSeat;
 use futures::task::{Context, Source, Waker};
 use lock_event::{EntryId, Memory};
 use std::alloc::Global;
-use words_permits::steps::{LIST_SLOT, Ruled, give_same, give_told};
+use words_permits::steps::{LIST_SLOT, Ruled, give_gone, give_joined, give_same, give_told};
 use words_permits::{View, wake_next};
 
 /// The tables of semaphores.
@@ -149,6 +149,46 @@ pub(crate) fn ask_again_in(
     let heard = list.ask_again(id);
     let says = list.says(found, false);
     (heard, says)
+}
+
+// Gives the list back, in which the entry of this id stands now for so many permits.
+pub(crate) fn give_entered(
+    shared: &Listing,
+    inner: &mut Lister,
+    id: EntryId,
+    permits: u64,
+    word: u64,
+) -> u64
+    requires table { (inner.old.table_id ≡ shared.now.table_id) × (shared.now.table_id.words ≡ 3) × (shared.now.table_id.slots ≡ 1) }
+    requires list { CanJoin queue_waiters queue_marked inner.old.me word (waiter id.number permits) }
+    requires away { inner.old.me.0.listed ≡ false }
+    ensures table { inner.new.table_id ≡ inner.old.table_id }
+    ensures step { inner.new.me ≡ (joined_of (waiter id.number permits) inner.old.me.0, rest inner.old.me.1) }
+{
+    let _ = (id, permits);
+    give_joined(shared, inner, word)
+}
+
+// Gives the list back, which the entry of this id has left: it was notified or not.
+pub(crate) fn give_left(
+    shared: &Listing,
+    inner: &mut Lister,
+    id: EntryId,
+    was_notified: bool,
+    word: u64,
+) -> u64
+    requires table { (inner.old.table_id ≡ shared.now.table_id) × (shared.now.table_id.words ≡ 3) × (shared.now.table_id.slots ≡ 1) }
+    requires list { MatchBool was_notified (CanHear queue_waiters queue_marked inner.old.me word) (CanLeave queue_waiters queue_marked inner.old.me word id.number) }
+    requires own { inner.old.me.0.entry ≡ id.number }
+    ensures table { inner.new.table_id ≡ inner.old.table_id }
+    ensures step { MatchBool was_notified (inner.new.me ≡ (told_of inner.old.me.0, rest inner.old.me.1)) (inner.new.me ≡ (gone_of inner.old.me.0, rest inner.old.me.1)) }
+{
+    let _ = id;
+    if was_notified {
+        give_told(shared, inner, word)
+    } else {
+        give_gone(shared, inner, word)
+    }
 }
 
 // How many entries the list has, and whether that of this id is notified.

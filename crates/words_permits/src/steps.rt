@@ -5,7 +5,7 @@ ghost use Rattle.atomic_table.specs.Table.{rest};
 ghost use Rattle.words_permits.specs.Seats.{looking, having_taken, having_given, having_given_new, having_lowered, having_raised, having_found_limit, joined_of, told_of, paid_of, gone_of, back, peeking};
 ghost use Rattle.words_permits.specs.Steps.{IsHeld, IsSame, CanJoin, CanHear, CanPay, CanLeave, CanStay};
 ghost use Rattle.words_permits.specs.Tries.{OnRaising};
-ghost use Rattle.words_permits.specs.Waiters.{waiter};
+ghost use Rattle.words_permits.specs.Waiters.{Waiter};
 
 use crate::found::Raising;
 use crate::plays::{
@@ -15,7 +15,6 @@ use crate::plays::{
 use crate::rule::{Content, PermitRule};
 use crate::view::View;
 use atomic_table::{Seat as TableSeat, Shared};
-use lock_event::EntryId;
 
 /// The tables of semaphores with their lists.
 pub type Ruled<S> = Shared<S, View, u64, PermitRule>;
@@ -162,20 +161,13 @@ pub fn grab_asleep<S: Content>(shared: &Ruled<S>, inner: &mut TableSeat<S, View>
 
 /// Gives the list back, in which its entry stands now: one step. It answers what it found.
 #[inline]
-pub fn give_joined<S: Content>(
-    shared: &Ruled<S>,
-    inner: &mut TableSeat<S, View>,
-    id: EntryId,
-    permits: u64,
-    new: u64,
-) -> u64
+pub fn give_joined<S: Content>(shared: &Ruled<S>, inner: &mut TableSeat<S, View>, new: u64) -> u64
     requires table { (inner.old.table_id ≡ shared.now.table_id) × (shared.now.table_id.words ≡ 3) × (shared.now.table_id.slots ≡ 1) }
-    requires list { CanJoin S.waiters S.marked inner.old.me new (waiter id.number permits) }
+    requires list { (w : Waiter) × CanJoin S.waiters S.marked inner.old.me new w }
     requires away { inner.old.me.0.listed ≡ false }
     ensures table { inner.new.table_id ≡ inner.old.table_id }
-    ensures step { inner.new.me ≡ (joined_of (waiter id.number permits) inner.old.me.0, rest inner.old.me.1) }
+    ensures step { (w : Waiter) → CanJoin S.waiters S.marked inner.old.me new w → inner.new.me ≡ (joined_of w inner.old.me.0, rest inner.old.me.1) }
 {
-    let _ = (id, permits);
     shared.swap::<Joined>(inner, LIST, new)
 }
 
@@ -192,19 +184,12 @@ pub fn give_told<S: Content>(shared: &Ruled<S>, inner: &mut TableSeat<S, View>, 
 
 /// The same, which its entry has left that was not notified.
 #[inline]
-pub fn give_gone<S: Content>(
-    shared: &Ruled<S>,
-    inner: &mut TableSeat<S, View>,
-    id: EntryId,
-    new: u64,
-) -> u64
+pub fn give_gone<S: Content>(shared: &Ruled<S>, inner: &mut TableSeat<S, View>, new: u64) -> u64
     requires table { (inner.old.table_id ≡ shared.now.table_id) × (shared.now.table_id.words ≡ 3) × (shared.now.table_id.slots ≡ 1) }
-    requires list { CanLeave S.waiters S.marked inner.old.me new id.number }
-    requires own { inner.old.me.0.entry ≡ id.number }
+    requires list { CanLeave S.waiters S.marked inner.old.me new inner.old.me.0.entry }
     ensures table { inner.new.table_id ≡ inner.old.table_id }
     ensures step { inner.new.me ≡ (gone_of inner.old.me.0, rest inner.old.me.1) }
 {
-    let _ = id;
     shared.swap::<Gone>(inner, LIST, new)
 }
 
