@@ -1,6 +1,6 @@
 -- What the calls on a list do to who stands in it.
 use Rattle.std.proofs.Common.{eq-eqb, ◌≡◌, ◌≢◌, ℕ, zero, suc, ◌+◌, ◌<◌, ◌≤◌, Bool, true, false, ◌||◌, ◌==◌, nat_le, if◌then◌else◌, List, [], ◌∷◌, ◌++◌, length, refl, sym, ap, ◌∙◌, subst, arith, rules, true≢false, MatchBool, Result, Ok, Err, IfOk, Option, None, Some}
-use Rattle.std.proofs.lemmas.Bool.{eqb-true, le-leb}
+use Rattle.std.proofs.lemmas.Bool.{eqb-true, le-leb, leb-true}
 use mathlib.Core.Option.{some, some-injective, some-ne-none}
 use lib.ListN.{get_elem?}
 use Rattle.lock_event.specs.declared.event.Entry.{Entry}
@@ -15,6 +15,7 @@ use Rattle.lock_event.specs.Loads.{weight_of, laden, weight_at, lightened, witho
 use Rattle.lock_event.specs.Slots.{has_id}
 use Rattle.lock_event.specs.Weights.{is_enough, fit_first, fitted, is_wanted}
 use Rattle.lock_event.proofs.Counts.{marked_count-without_waiting}
+use Rattle.lock_event.proofs.Weights.{fitted_none}
 use Rattle.lock_event.proofs.Marks.{marked_count-joined, marked_count-with_key}
 use Rattle.words_base.specs.Sums.{weight, number}
 use Rattle.words_mutex.proofs.Flags.{number-zero}
@@ -139,6 +140,20 @@ module _ {W : Type 0} where
   wanted a (x ∷ es) zero w e few = or_left (is_enough its a x) (is_wanted its a es) (le-leb (weight_of x.key) a (subst (λ (n : ℕ). n ≤ a) (sym (ap (λ (u : Waiter). u.weight) (some-injective (waiter x.key.id.number (weight_of x.key)) w e))) few))
   wanted a (x ∷ es) (suc k) w e few = or_right (is_enough its a x) (is_wanted its a es) (wanted a es k w e few)
 
+  -- whom they are enough for
+  wanted-by : (a : ℕ) (es : List (Entry (Slot (Load W)))) → is_wanted its a es ≡ true → (w : Waiter) × StandsIn (waiters_in es) w × (w.weight ≤ a)
+  wanted-by a [] is = absurd (cc)
+  wanted-by a (x ∷ es) is = by (λ rest. wanted-by a es rest) (is_enough its a x) refl is
+    where
+      by : (is_wanted its a es ≡ true → (w : Waiter) × StandsIn (waiters_in es) w × (w.weight ≤ a)) → (b : Bool) → is_enough its a x ≡ b → (b || is_wanted its a es) ≡ true → (w : Waiter) × StandsIn (waiters_in (x ∷ es)) w × (w.weight ≤ a)
+      by r true enough is = (waiter x.key.id.number (weight_of x.key), (0, refl), leb-true (weight_of x.key) a enough)
+      by r false enough is = let w = r is in (w.0, (suc w.1.0, w.1.1), w.2)
+
+  -- of nobody's being notified before, and one's after
+  chosen : (a : ℕ) (old : List (Entry (Slot (Load W)))) (b : Bool) → is_wanted its a old ≡ b → marked_count old ≡ 0 → 1 ≤ marked_count (fitted its a old) → (w : Waiter) × StandsIn (waiters_in old) w × (w.weight ≤ a)
+  chosen a old true is before after = wanted-by a old is
+  chosen a old false is before after = let m : marked_count (fitted its a old) ≡ marked_count old = ap marked_count (fitted_none its a old is) in absurd (omega arith)
+
   pub told : (a : ℕ) (old mid new : List (Entry (Slot (Load W)))) → mid ≡ fitted its a old → (is_wanted its a old ≡ true → 0 < marked_count mid) → new ≡ without_marked_waker mid → IsTold old new a
   told a old mid new fit tells light =
       let f = waiters-fitted a old in
@@ -147,7 +162,10 @@ module _ {W : Type 0} where
       let more : marked_count old ≤ marked_count mid = subst (λ (m : List (Entry (Slot (Load W)))). marked_count old ≤ marked_count m) (sym fit) f.1 in (
         same,
         omega arith,
-        λ w s few. let o : StandsIn (waiters_in old) w = subst (λ (m : List Waiter). StandsIn m w) same s in let t = tells (wanted a old o.0 w o.1 few) in omega arith,
+        (λ w s few. let o : StandsIn (waiters_in old) w = subst (λ (m : List Waiter). StandsIn m w) same s in let t = tells (wanted a old o.0 w o.1 few) in omega arith),
+        λ before after.
+            let some : 1 ≤ marked_count (fitted its a old) = let m : marked_count mid ≡ marked_count (fitted its a old) = ap marked_count fit in omega arith in
+            let c = chosen a old (is_wanted its a old) refl before some in (c.0, subst (λ (m : List Waiter). StandsIn m c.0) (sym same) c.1, c.2),
       )
 
   -- ---- asking

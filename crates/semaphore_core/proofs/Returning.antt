@@ -59,8 +59,9 @@ module _ {S : Type 0} (waiters_of : S → List Waiter) (marked_of : S → ℕ) (
   joined entry_of k now left n (Err b) e says some f g = stays now left n e says g
 
   pub pays : (available : ℕ) (now left : S) (n : ℕ) → m.1 ≡ (0, now) ∷ rest m.1 → Says (waiters_of left) n
-      → (waiters_of left ≡ waiters_of now) × (marked_of now ≤ marked_of left) × ((w : Waiter) → StandsIn (waiters_of left) w → w.weight ≤ available → 1 ≤ marked_of left) → CanPay waiters_of marked_of (After left) n available
-  pays available now left n e says f = (left, has left n says, f.0 ∙ waiters-now now e, subst (λ (k : ℕ). k ≤ marked_of left) (marked-now now e) f.1, f.2)
+      → (waiters_of left ≡ waiters_of now) × (marked_of now ≤ marked_of left) × ((w : Waiter) → StandsIn (waiters_of left) w → w.weight ≤ available → 1 ≤ marked_of left)
+      × (marked_of now ≡ 0 → 1 ≤ marked_of left → (w : Waiter) × StandsIn (waiters_of left) w × (w.weight ≤ available)) → CanPay waiters_of marked_of (After left) n available
+  pays available now left n e says f = (left, has left n says, f.0 ∙ waiters-now now e, subst (λ (k : ℕ). k ≤ marked_of left) (marked-now now e) f.1, f.2, (λ before after. f.3 (marked-now now e ∙ before) after))
 
   hears : (now left : S) (n : ℕ) → m.1 ≡ (0, now) ∷ rest m.1 → Says (waiters_of left) n → (IsSound (waiters_of now) → IsSound (waiters_of left)) → CanHear waiters_of marked_of (After left) n
   hears now left n e says f = (left, has left n says, f (sound-now now e))

@@ -32,9 +32,10 @@ module _ {W : Type 0} where
     abbrev pub HasLeft : ℕ → Type 0
     HasLeft entry = (IsSound (waiters_in old) → (w : Waiter) → StandsIn (waiters_in new) w → StandsIn (waiters_in old) w × (w.entry ≢ entry)) × (marked_count new ≡ marked_count old)
 
-    -- The first whom so many are enough for is notified, unless one is notified or these are enough for none.
+    -- One is notified, if so many are enough for any, and none if they aren't and none was before.
     abbrev pub IsTold : ℕ → Type 0
     IsTold available =
         (waiters_in new ≡ waiters_in old)
         × (marked_count old ≤ marked_count new)
         × ((w : Waiter) → StandsIn (waiters_in new) w → w.weight ≤ available → 1 ≤ marked_count new)
+        × (marked_count old ≡ 0 → 1 ≤ marked_count new → (w : Waiter) × StandsIn (waiters_in new) w × (w.weight ≤ available))

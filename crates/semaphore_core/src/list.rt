@@ -1,7 +1,9 @@
 //! What is done to the list's entries while the list is out.
 
-ghost use Rattle.std.specs.Prelude.{◌≡◌, true, false, IfOk, OnErr, MatchBool};
+ghost use Rattle.std.specs.Prelude.{◌≡◌, ⊤, true, false, IfOk, OnErr, MatchBool};
 ghost use Rattle.futures.specs.Task.{Keeps};
+ghost use Rattle.lock_event.specs.Lists.{is_marked_at};
+ghost use Rattle.lock_event.specs.Slots.{has_id};
 ghost use Rattle.semaphore_core.specs.Asking.{ByHeard};
 ghost use Rattle.semaphore_core.specs.Entries.{HasJoined, HasLeft, IsSame, IsTold, StaysSound};
 ghost use Rattle.semaphore_core.specs.Receipts.{KeepsAt, IsReceipt};
@@ -66,6 +68,7 @@ pub(crate) fn ask(
     source: &Source,
     cx: &mut Context<'_>,
 ) -> Heard<Whose>
+    ensures answer { ByHeard result ⊤ (λ _. is_marked_at (has_id id) event.old.entries ≡ false) }
     ensures asked { ByHeard result (StaysSound event.old.entries event.new.entries) (λ _. IsSame event.old.entries event.new.entries) }
     ensures waits { ByHeard result (cx.new ≡ cx.old) (λ whose. KeepsAt id whose event.new.entries × IsReceipt source.now.id cx.new whose) }
     ensures kept { Keeps cx.old cx.new }
@@ -86,7 +89,8 @@ pub(crate) fn ask(
 
 // The same, of an entry that keeps the waker that it has.
 pub(crate) fn ask_again(event: &mut WeightedEvent<Waker>, id: EntryId) -> Heard<()>
-    ensures { ByHeard result (StaysSound event.old.entries event.new.entries) (λ _. IsSame event.old.entries event.new.entries) }
+    ensures answer { ByHeard result ⊤ (λ _. is_marked_at (has_id id) event.old.entries ≡ false) }
+    ensures asked { ByHeard result (StaysSound event.old.entries event.new.entries) (λ _. IsSame event.old.entries event.new.entries) }
 {
     if event.contains(id) && !event.is_notified(id) {
         return Heard::Waits(());

@@ -1,7 +1,9 @@
 //! What lies in the slot of a semaphore's table.
 
-ghost use Rattle.std.specs.Prelude.{◌≡◌, ◌%◌, [], IfOk, IsSome, OnOk, OnErr, MatchBool, true};
+ghost use Rattle.std.specs.Prelude.{◌≡◌, ◌%◌, [], IfOk, IsSome, OnOk, OnErr, MatchBool, ⊤, true, false};
 ghost use Rattle.futures.specs.Task.{Keeps};
+ghost use Rattle.lock_event.specs.Lists.{is_marked_at};
+ghost use Rattle.lock_event.specs.Slots.{has_id};
 ghost use Rattle.semaphore_core.specs.Asking.{ByHeard};
 ghost use Rattle.semaphore_core.specs.Entries.{HasJoined, HasLeft, IsSame, IsTold, StaysSound, waiters_in};
 ghost use Rattle.semaphore_core.specs.Queues.{entries_of};
@@ -145,6 +147,7 @@ impl Queue {
 
     // An entry asks for its notification. One that waits keeps a waker of the task of `cx`, which registers with `source`.
     pub(crate) fn ask(&mut self, id: EntryId, source: &Source, cx: &mut Context<'_>) -> Heard<Whose>
+        ensures answer { ByHeard result ⊤ (λ _. is_marked_at (has_id id) (entries_of self.old) ≡ false) }
         ensures asked { ByHeard result (StaysSound (entries_of self.old) (entries_of self.new)) (λ _. IsSame (entries_of self.old) (entries_of self.new)) }
         ensures waits { ByHeard result (cx.new ≡ cx.old) (λ whose. KeepsAt id whose (entries_of self.new) × IsReceipt source.now.id cx.new whose) }
         ensures kept { Keeps cx.old cx.new }
@@ -157,7 +160,8 @@ impl Queue {
 
     // The same, of an entry that keeps what it has.
     pub(crate) fn ask_again(&mut self, id: EntryId) -> Heard<()>
-        ensures { ByHeard result (StaysSound (entries_of self.old) (entries_of self.new)) (λ _. IsSame (entries_of self.old) (entries_of self.new)) }
+        ensures answer { ByHeard result ⊤ (λ _. is_marked_at (has_id id) (entries_of self.old) ≡ false) }
+        ensures asked { ByHeard result (StaysSound (entries_of self.old) (entries_of self.new)) (λ _. IsSame (entries_of self.old) (entries_of self.new)) }
     {
         match &mut self.entries {
             Some(event) => list::ask_again(event, id),

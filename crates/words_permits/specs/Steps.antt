@@ -45,8 +45,8 @@ abbrev pub newest : {S : Type 0} → (S → List Waiter) → List (ℕ × S) →
 newest waiters_of [] = waiter 0 0
 newest waiters_of (x ∷ xs) = last_or (waiter 0 0) (waiters_of x.1)
 
--- The list may be given back with this word: an entry has joined, one has left that was notified, one has left that was not, who waits for so many
--- permits has been notified, or nothing has changed.
+-- The list may be given back with this word: an entry has joined, one has left that was notified, one has left that was not, one has
+-- been notified, if so many permits are enough for any, and none if they aren't, or nothing has changed.
 module _ {S : Type 0} (waiters_of : S → List Waiter) (marked_of : S → ℕ) (m : Me S View) (n : ℕ) where
   -- The list is out with the seat, and may be given back with this word.
   abbrev pub Has : S → Type 0
@@ -73,6 +73,7 @@ module _ {S : Type 0} (waiters_of : S → List Waiter) (marked_of : S → ℕ) (
       × (waiters_of list ≡ m.0.waiters)
       × (m.0.marked ≤ marked_of list)
       × ((w : Waiter) → StandsIn (waiters_of list) w → w.weight ≤ available → 1 ≤ marked_of list)
+      × (m.0.marked ≡ 0 → 1 ≤ marked_of list → (w : Waiter) × StandsIn (waiters_of list) w × (w.weight ≤ available))
 
   abbrev pub CanStay : Type 0
   CanStay = (list : S) × Has list × (waiters_of list ≡ m.0.waiters) × (marked_of list ≡ m.0.marked)
