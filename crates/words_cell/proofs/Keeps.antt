@@ -1,0 +1,387 @@
+-- Each step on the table keeps its rule: of one state.
+use Rattle.std.proofs.Common.{◌≡◌, ◌≢◌, ℕ, zero, suc, ◌+◌, ◌*◌, ◌-◌, ◌%◌, ◌^◌, ◌<◌, ◌≤◌, bit_or, lt_of_not-le, Bool, true, false, ◌&&◌, not, List, [], ◌∷◌, ◌++◌, length, get_or, set, sym, refl, ap, ◌∙◌, subst, arith, ◌⊎◌, ⊎_elim, inl, inr, length-set, get_or-set_same, get_or-set_other}
+use mathlib.Core.Option.{Option, none, some, some-injective, some-ne-none}
+use mathlib.Core.Logic.{dite}
+use native.Mathlib.Decide.{dec_le, ℕ_discrete}
+use lib.ListN.{get_elem?}
+use Rattle.atomic_table.specs.Table.{State, Me, keeps, takes, gives, stepped, put_back, rest, opening}
+use Rattle.atomic_table.proofs.Lists.{set_here, set_else, at_set}
+use Rattle.words_base.specs.Sums.{weight, number, total}
+use Rattle.words_base.proofs.Sums.{number-set, number-at, total-set}
+use Rattle.words_cell.specs.Rule.{first_view, makes_of, has_lists_out, filled_of, taken_of, Has, NoneWaits, Owes, OwesActive, OwesPassive, IsFreshActive, IsFreshPassive, SomeSeat, AreFresh, LosesNoneEmpty, LosesNoneFull, IsCell, IsListWord, SaysEmpty, Ruled}
+use Rattle.words_cell.specs.Seats.{saw_of, saw_full_of, claimed_of, missed_of, late_of, filled_by, emptied_by, taken_by, having_found, eased_of, listing_of, back, joined_active_of, joined_passive_of, told_of, gone_of, paid_of, paid_active_of, paid_passive_of}
+use Rattle.words_cell.specs.Steps.{Fewer, JoinedBy, LeftBy, StaysTold}
+use Rattle.words_cell.specs.declared.view.View.{View}
+use Rattle.words_cell.proofs.Flags.{never}
+use Rattle.words_cell.proofs.Views.{own, apart, stays, fresh_stays}
+
+module _ (S : Type 0) (active_of passive_of : S → List ℕ) (marked_of : S → ℕ) where
+  module _ (lists : S) (a : active_of lists ≡ []) (p : passive_of lists ≡ []) where
+    nobody : (i : ℕ) (v : View) → get_elem? (first_view ∷ []) i ≡ some v → v.has_lists ≡ true → (v.active ≡ []) × (v.passive ≡ []) × (v.marked ≡ marked_of lists)
+    nobody zero v e is = never (ap (λ (u : View). u.has_lists) (some-injective first_view v e) ∙ is)
+    nobody (suc i) v e is = absurd (some-ne-none v (sym e))
+
+    -- an empty cell, and a full one
+    pub opens_empty : Ruled active_of passive_of marked_of false (opening (0 ∷ 0 ∷ []) (lists ∷ []) first_view)
+    opens_empty = record {
+      two_words = omega arith;
+      cell = record { full = 0; one_maker = omega arith; word = refl; values = refl };
+      list_word = (omega arith, refl);
+      active = [];
+      passive = [];
+      marked = marked_of lists;
+      empty = λ _. inr (inr (λ n h. absurd h));
+      filled = λ e. absurd (omega (arith, e));
+      unlisted = λ _. (refl, refl);
+      home = λ _. (lists, refl, a, p, refl);
+      out = nobody;
+    }
+
+    pub opens_full : Ruled active_of passive_of marked_of true (opening (2 ∷ 0 ∷ []) (lists ∷ []) first_view)
+    opens_full = record {
+      two_words = omega arith;
+      cell = record { full = 1; one_maker = omega arith; word = refl; values = refl };
+      list_word = (omega arith, refl);
+      active = [];
+      passive = [];
+      marked = marked_of lists;
+      empty = λ e. absurd (omega (arith, e));
+      filled = λ _. (inr (λ n h. absurd h), inr (λ n h. absurd h));
+      unlisted = λ _. (refl, refl);
+      home = λ _. (lists, refl, a, p, refl);
+      out = nobody;
+    }
+
+  module _ (start : Bool) where
+    abbrev R : State S View → Type 0
+    R = Ruled active_of passive_of marked_of start
+
+    module _ (s : State S View) (id : ℕ) (me : Me S View) (r : R s) (at : get_elem? s.views id ≡ some me.0) where
+      abbrev x : ℕ
+      x = get_or s.words 0 0
+
+      abbrev y : ℕ
+      y = get_or s.words 1 0
+
+      abbrev after : View → List View
+      after w = set s.views id w
+
+      one_word : 0 < length s.words
+      one_word = let t = r.two_words in omega arith
+
+      mine : (P : View → Type 0) (w : View) → P w → SomeSeat P (after w)
+      mine = own s.views id me.0 at
+
+      some_stays : (P : View → Type 0) (w : View) → (P me.0 → P w) → SomeSeat P s.views → SomeSeat P (after w)
+      some_stays = stays s.views id me.0 at
+
+      all_stay : (P : ℕ → View → Type 0) (waiting : List ℕ) (w : View) → ((n : ℕ) → P n me.0 → P n w) → AreFresh P waiting s.views → AreFresh P waiting (after w)
+      all_stay = fresh_stays s.views id me.0 at
+
+      out_set : (w : View) → (w.has_lists ≡ true → (w.active ≡ r.active) × (w.passive ≡ r.passive) × (w.marked ≡ r.marked)) → (i : ℕ) (v : View) → get_elem? (after w) i ≡ some v → v.has_lists ≡ true → (v.active ≡ r.active) × (v.passive ≡ r.passive) × (v.marked ≡ r.marked)
+      out_set w good i v e is = ⊎_elim (λ here. subst (λ (u : View). (u.active ≡ r.active) × (u.passive ≡ r.passive) × (u.marked ≡ r.marked)) here.1 (good (ap (λ (u : View). u.has_lists) here.1 ∙ is))) (λ else. r.out i v else.1 is) (at_set s.views id i w v e)
+
+      -- what a step on the word 0 leaves of a seat, and what one on the word 1 does
+      abbrev Leaves : View → Type 0
+      Leaves w = (w.has_lists ≡ me.0.has_lists) × (w.active ≡ me.0.active) × (w.passive ≡ me.0.passive) × (w.marked ≡ me.0.marked)
+
+      abbrev Does : View → Type 0
+      Does w = (w.makes ≡ me.0.makes) × (w.filled ≡ me.0.filled) × (w.taken ≡ me.0.taken)
+
+      out_left : (w : View) → Leaves w → (i : ℕ) (v : View) → get_elem? (after w) i ≡ some v → v.has_lists ≡ true → (v.active ≡ r.active) × (v.passive ≡ r.passive) × (v.marked ≡ r.marked)
+      out_left w left = out_set w (λ is. let o = r.out id me.0 at (sym left.0 ∙ is) in (left.1 ∙ o.0, left.2 ∙ o.1, left.3 ∙ o.2))
+
+      same_out : (w : View) → w.has_lists ≡ me.0.has_lists → number has_lists_out (after w) ≡ number has_lists_out s.views
+      same_out w e = let c = number-set has_lists_out s.views id me.0 w at in let e' : weight (has_lists_out w) ≡ weight (has_lists_out me.0) = ap weight e in omega arith
+
+      -- the cell's word becomes n; what is known of the lists stays
+      moved : (n : ℕ) (w : View) → IsCell start (set s.words 0 n) (after w) → Leaves w → (n ≡ 0 → LosesNoneEmpty r.active r.marked (after w)) → (n ≡ 2 → LosesNoneFull r.active r.passive (after w)) → R (stepped s 0 n id me.1 w keeps)
+      moved n w cell left empty filled =
+          let same = same_out w left.0 in let one = r.list_word.0 in let is = r.list_word.1 in
+          let here : get_or (set s.words 0 n) 0 0 ≡ n = get_or-set_same s.words 0 n 0 one_word in
+          let there : get_or (set s.words 0 n) 1 0 ≡ y = get_or-set_other s.words 0 1 n 0 (λ q. omega arith) in record {
+            two_words = subst (λ (z : ℕ). 1 < z) (sym (length-set s.words 0 n)) r.two_words;
+            cell = cell;
+            list_word = (omega arith, ap (λ k. k % 2) there ∙ is ∙ sym same);
+            active = r.active;
+            passive = r.passive;
+            marked = r.marked;
+            empty = λ e. empty (sym here ∙ e);
+            filled = λ e. filled (sym here ∙ e);
+            unlisted = λ low. r.unlisted (subst SaysEmpty there low);
+            home = λ absent. r.home (sym same ∙ absent);
+            out = out_left w left;
+          }
+
+      cell_of : (w : View) (n f : ℕ) → number makes_of (after w) + f ≤ 1 → n ≡ number makes_of (after w) + 2 * f → f + total taken_of (after w) ≡ weight start + total filled_of (after w) → IsCell start (set s.words 0 n) (after w)
+      cell_of w n f one is values = record { full = f; one_maker = one; word = get_or-set_same s.words 0 n 0 one_word ∙ is; values = values }
+
+      cell_same : (words : List ℕ) (w : View) → get_or words 0 0 ≡ x → Does w → IsCell start words (after w)
+      cell_same words w is does =
+          let ms = number-set makes_of s.views id me.0 w at in let ts = total-set taken_of s.views id me.0 w at in let fs = total-set filled_of s.views id me.0 w at in
+          let m' : weight (makes_of w) ≡ weight (makes_of me.0) = ap weight does.0 in let f' : filled_of w ≡ filled_of me.0 = does.1 in let t' : taken_of w ≡ taken_of me.0 = does.2 in
+          let one = r.cell.one_maker in let word = r.cell.word in let values = r.cell.values in
+          record { full = r.cell.full; one_maker = omega arith; word = is ∙ (omega arith); values = omega arith }
+
+      -- the cell's word stays
+      unmoved : (w : View) → Leaves w → Does w → (x ≡ 0 → LosesNoneEmpty r.active r.marked (after w)) → (x ≡ 2 → LosesNoneFull r.active r.passive (after w)) → R (stepped s 0 x id me.1 w keeps)
+      unmoved w left does = moved x w (cell_same (set s.words 0 x) w (get_or-set_same s.words 0 x 0 one_word) does) left
+
+      pub few : x ≤ 2
+      few = let one = r.cell.one_maker in let is = r.cell.word in omega arith
+
+      -- who owes and who is fresh stay
+      abbrev IsAs : View → Type 0
+      IsAs w = (Owes me.0 → Owes w) × (OwesActive me.0 → OwesActive w) × (OwesPassive me.0 → OwesPassive w) × ((n : ℕ) → IsFreshActive n me.0 → IsFreshActive n w) × ((n : ℕ) → IsFreshPassive n me.0 → IsFreshPassive n w)
+
+      empty_as : (w : View) → IsAs w → x ≡ 0 → LosesNoneEmpty r.active r.marked (after w)
+      empty_as w is e = ⊎_elim (λ m. inl m)
+          (λ b. inr (⊎_elim (λ c. inl (some_stays (λ v. Owes v ⊎ OwesActive v) w (λ o. ⊎_elim (λ q. inl (is.0 q)) (λ q. inr (is.1 q)) o) c)) (λ all. inr (all_stay IsFreshActive r.active w is.3 all)) b)) (r.empty e)
+
+      full_as : (w : View) → IsAs w → x ≡ 2 → LosesNoneFull r.active r.passive (after w)
+      full_as w is e = let f = r.filled e in (
+        ⊎_elim (λ c. inl (some_stays OwesActive w is.1 c)) (λ all. inr (all_stay IsFreshActive r.active w is.3 all)) f.0,
+        ⊎_elim (λ c. inl (some_stays OwesPassive w is.2 c)) (λ all. inr (all_stay IsFreshPassive r.passive w is.4 all)) f.1,
+      )
+
+      -- a look that doesn't find the cell full, by a seat that is not of those that would make
+      pub sees : x ≢ 2 → me.0.in_active ≡ false → R (stepped s 0 x id me.1 (saw_of x me.0) keeps)
+      sees ne away = let w : View = saw_of x me.0 in unmoved w (refl, refl, refl, refl) (refl, refl, refl)
+          (λ e. ⊎_elim (λ m. inl m)
+          (λ b. inr (⊎_elim (λ c. inl (some_stays (λ v. Owes v ⊎ OwesActive v) w (λ o. o) c)) (λ all. inr (all_stay IsFreshActive r.active w (λ n f. never (sym away ∙ f.1)) all)) b)) (r.empty e))
+          (λ e. absurd (ne e))
+
+      pub sees_full : x ≡ 2 → R (stepped s 0 x id me.1 (saw_full_of me.0) keeps)
+      sees_full is = let w : View = saw_full_of me.0 in unmoved w (refl, refl, refl, refl) (refl, refl, refl) (empty_as w ((λ o. o), (λ o. o), (λ o. o), (λ n f. f), λ n f. f)) (full_as w ((λ o. o), (λ o. o), (λ o. o), (λ n f. f), λ n f. f))
+
+      -- the seat gets the right to make
+      pub claims : x ≡ 0 → R (stepped s 0 1 id me.1 (claimed_of me.0) keeps)
+      claims is =
+          let w : View = claimed_of me.0 in
+          let ms = number-set makes_of s.views id me.0 w at in let ts = total-set taken_of s.views id me.0 w at in let fs = total-set filled_of s.views id me.0 w at in
+          let m = number-at makes_of s.views id me.0 at in let m' : weight (makes_of w) ≡ 1 = refl in
+          let one = r.cell.one_maker in let word = r.cell.word in let values = r.cell.values in
+          moved 1 w (cell_of w 1 0 (omega arith) (omega arith) (omega arith)) (refl, refl, refl, refl) (λ e. absurd (omega (arith, e))) (λ e. absurd (omega (arith, e)))
+
+      -- another makes
+      pub misses : x ≡ 1 → R (stepped s 0 x id me.1 (missed_of me.0) keeps)
+      misses is = unmoved (missed_of me.0) (refl, refl, refl, refl) (refl, refl, refl) (λ e. absurd (omega (arith, e, is))) (λ e. absurd (omega (arith, e, is)))
+
+      -- the cell is full
+      pub comes_late : x ≡ 2 → R (stepped s 0 x id me.1 (late_of me.0) keeps)
+      comes_late is = let w : View = late_of me.0 in unmoved w (refl, refl, refl, refl) (refl, refl, refl) (λ e. absurd (omega (arith, e, is)))
+          (λ e. let f = r.filled e in (
+            ⊎_elim (λ c. inl (some_stays OwesActive w (λ o. o) c)) (λ all. inr (all_stay IsFreshActive r.active w (λ n q. q) all)) f.0,
+            ⊎_elim (λ c. inl (some_stays OwesPassive w (λ o. o) c)) (λ all. inr (all_stay IsFreshPassive r.passive w (λ n q. q) all)) f.1,
+          ))
+
+      pub fills : me.0.makes ≡ true → R (stepped s 0 ((x + 1) % 2 ^ 64) id me.1 (filled_by me.0) keeps)
+      fills makes =
+          let w : View = filled_by me.0 in
+          let ms = number-set makes_of s.views id me.0 w at in let ts = total-set taken_of s.views id me.0 w at in let fs = total-set filled_of s.views id me.0 w at in
+          let m = number-at makes_of s.views id me.0 at in let did : weight (makes_of me.0) ≡ 1 = ap weight makes in let m' : weight (makes_of w) ≡ 0 = refl in
+          let one = r.cell.one_maker in let word = r.cell.word in let values = r.cell.values in
+          let up : (x + 1) % 18446744073709551616 ≡ 2 = omega arith in
+          moved ((x + 1) % 2 ^ 64) w (cell_of w ((x + 1) % 2 ^ 64) 1 (omega arith) (up ∙ (omega arith)) (omega arith)) (refl, refl, refl, refl) (λ e. absurd (omega (arith, e, up)))
+          (λ _. (inl (mine OwesActive w refl), inl (mine OwesPassive w refl)))
+
+      pub empties : me.0.makes ≡ true → R (stepped s 0 ((x + (2 ^ 64 - 1)) % 2 ^ 64) id me.1 (emptied_by me.0) keeps)
+      empties makes =
+          let w : View = emptied_by me.0 in
+          let ms = number-set makes_of s.views id me.0 w at in let ts = total-set taken_of s.views id me.0 w at in let fs = total-set filled_of s.views id me.0 w at in
+          let m = number-at makes_of s.views id me.0 at in let did : weight (makes_of me.0) ≡ 1 = ap weight makes in let m' : weight (makes_of w) ≡ 0 = refl in
+          let one = r.cell.one_maker in let word = r.cell.word in let values = r.cell.values in
+          let down : (x + 18446744073709551615) % 18446744073709551616 ≡ 0 = omega arith in
+          moved ((x + (2 ^ 64 - 1)) % 2 ^ 64) w (cell_of w ((x + (2 ^ 64 - 1)) % 2 ^ 64) 0 (omega arith) (down ∙ (omega arith)) (omega arith)) (refl, refl, refl, refl)
+          (λ _. inr (inl (mine (λ v. Owes v ⊎ OwesActive v) w (inl refl)))) (λ e. absurd (omega (arith, e, down)))
+
+      pub takes_value : x ≡ 2 → R (stepped s 0 0 id me.1 (taken_by me.0) keeps)
+      takes_value is =
+          let w : View = taken_by me.0 in
+          let ms = number-set makes_of s.views id me.0 w at in let ts = total-set taken_of s.views id me.0 w at in let fs = total-set filled_of s.views id me.0 w at in
+          let m' : weight (makes_of w) ≡ weight (makes_of me.0) = refl in let f' : filled_of w ≡ filled_of me.0 = refl in let t' : taken_of w ≡ taken_of me.0 + 1 = refl in
+          let one = r.cell.one_maker in let word = r.cell.word in let values = r.cell.values in
+          moved 0 w (cell_of w 0 0 (omega arith) (omega arith) (omega arith)) (refl, refl, refl, refl)
+          (λ _. inr (⊎_elim (λ c. inl (some_stays (λ v. Owes v ⊎ OwesActive v) w (λ o. o) (c.0, c.1, c.2, inr c.3))) (λ all. inr (all_stay IsFreshActive r.active w (λ n f. f) all)) (r.filled is).0))
+          (λ e. absurd (omega (arith, e)))
+
+      pub finds : (n : ℕ) → R (stepped s 0 x id me.1 (having_found n me.0) keeps)
+      finds n = let w : View = having_found n me.0 in unmoved w (refl, refl, refl, refl) (refl, refl, refl) (empty_as w ((λ o. o), (λ o. o), (λ o. o), (λ n f. f), λ n f. f)) (full_as w ((λ o. o), (λ o. o), (λ o. o), (λ n f. f), λ n f. f))
+
+      -- the word of the lists becomes n, and who has them out stays
+      beside : (n : ℕ) → get_or (set s.words 1 n) 0 0 ≡ x
+      beside n = get_or-set_other s.words 1 0 n 0 (λ q. omega arith)
+
+      at_list : (n : ℕ) (w : View) → n % 2 ≡ y % 2 → (SaysEmpty n → SaysEmpty y) → Leaves w → Does w → (x ≡ 0 → LosesNoneEmpty r.active r.marked (after w)) → (x ≡ 2 → LosesNoneFull r.active r.passive (after w)) → R (stepped s 1 n id me.1 w keeps)
+      at_list n w parity below left does empty filled =
+          let same = same_out w left.0 in let one = r.list_word.0 in let is = r.list_word.1 in
+          let here : get_or (set s.words 1 n) 1 0 ≡ n = get_or-set_same s.words 1 n 0 r.two_words in let there = beside n in record {
+            two_words = subst (λ (z : ℕ). 1 < z) (sym (length-set s.words 1 n)) r.two_words;
+            cell = cell_same (set s.words 1 n) w there does;
+            list_word = (omega arith, ap (λ k. k % 2) here ∙ parity ∙ is ∙ sym same);
+            active = r.active;
+            passive = r.passive;
+            marked = r.marked;
+            empty = λ e. empty (sym there ∙ e);
+            filled = λ e. filled (sym there ∙ e);
+            unlisted = λ low. r.unlisted (below (subst SaysEmpty here low));
+            home = λ absent. r.home (sym same ∙ absent);
+            out = out_left w left;
+          }
+
+      -- the lists' word is read, or set by another that finds them out
+      pub busy : (n : ℕ) → n % 2 ≡ y % 2 → (SaysEmpty n → SaysEmpty y) → R (stepped s 1 n id me.1 me.0 keeps)
+      busy n parity below = let w : View = me.0 in at_list n w parity below (refl, refl, refl, refl) (refl, refl, refl) (empty_as w ((λ o. o), (λ o. o), (λ o. o), (λ n f. f), λ n f. f)) (full_as w ((λ o. o), (λ o. o), (λ o. o), (λ n f. f), λ n f. f))
+
+      -- the lists are empty
+      pub eases : SaysEmpty y → R (stepped s 1 y id me.1 (eased_of me.0) keeps)
+      eases low = let z = r.unlisted low in at_list y (eased_of me.0) refl (λ l. l) (refl, refl, refl, refl) (refl, refl, refl) (λ _. inr (inr (λ n h. absurd (subst (Has n) z.0 h))))
+          (λ _. (inr (λ n h. absurd (subst (Has n) z.0 h)), inr (λ n h. absurd (subst (Has n) z.1 h))))
+
+      abbrev pub listing : S → View
+      listing lists = listing_of (active_of lists) (passive_of lists) (marked_of lists) me.0
+
+      -- the seat takes the lists out
+      pub grabbed : y % 2 ≡ 0 → (n : ℕ) → n % 2 ≡ 1 → (SaysEmpty n → SaysEmpty y) → (lists : S) × (get_elem? s.homes 0 ≡ some (some lists)) × R (stepped s 1 n id me.1 (listing lists) (takes 0 lists))
+      grabbed even n odd below = let h = r.home (sym r.list_word.1 ∙ even) in let w : View = listing h.0 in
+          let c = number-set has_lists_out s.views id me.0 w at in let c' : weight (has_lists_out w) ≡ 1 = refl in
+          let m = number-at has_lists_out s.views id me.0 at in let is = r.list_word.1 in
+          let one : number has_lists_out (after w) ≡ 1 = omega arith in
+          let here : get_or (set s.words 1 n) 1 0 ≡ n = get_or-set_same s.words 1 n 0 r.two_words in let there = beside n in (
+            h.0,
+            h.1,
+            record {
+              two_words = subst (λ (z : ℕ). 1 < z) (sym (length-set s.words 1 n)) r.two_words;
+              cell = cell_same (set s.words 1 n) w there (refl, refl, refl);
+              list_word = (omega arith, ap (λ k. k % 2) here ∙ odd ∙ sym one);
+              active = r.active;
+              passive = r.passive;
+              marked = r.marked;
+              empty = λ e. empty_as w ((λ o. o), (λ o. o), (λ o. o), (λ n f. f), λ n f. f) (sym there ∙ e);
+              filled = λ e. full_as w ((λ o. o), (λ o. o), (λ o. o), (λ n f. f), λ n f. f) (sym there ∙ e);
+              unlisted = λ low. r.unlisted (below (subst SaysEmpty here low));
+              home = λ absent. absurd (omega arith);
+              out = out_set w (λ _. (h.2, h.3, h.4));
+            },
+          )
+
+      -- the seat gives the lists back, and has this view then
+      module _ (lists : S) (n : ℕ) (is_out : me.0.has_lists ≡ true) (has : me.1 ≡ (0, lists) ∷ rest me.1) (wide : 0 < length s.homes) (four : n % 4 ≡ 0) (low : SaysEmpty n → (active_of lists ≡ []) × (passive_of lists ≡ [])) where
+        abbrev new_active : List ℕ
+        new_active = active_of lists
+
+        abbrev new_passive : List ℕ
+        new_passive = passive_of lists
+
+        abbrev new_marked : ℕ
+        new_marked = marked_of lists
+
+        returned : (w : View) → w.has_lists ≡ false → Does w → (x ≡ 0 → LosesNoneEmpty new_active new_marked (after w)) → (x ≡ 2 → LosesNoneFull new_active new_passive (after w)) → R (stepped s 1 n id me.1 w gives)
+        returned w off does empty filled =
+            let c = number-set has_lists_out s.views id me.0 w at in let c' : weight (has_lists_out w) ≡ 0 = ap weight off in let l : weight (has_lists_out me.0) ≡ 1 = ap weight is_out in
+            let one = r.list_word.0 in
+            let none_out : number has_lists_out (after w) ≡ 0 = omega arith in
+            let here : get_or (set s.words 1 n) 1 0 ≡ n = get_or-set_same s.words 1 n 0 r.two_words in let there = beside n in record {
+              two_words = subst (λ (z : ℕ). 1 < z) (sym (length-set s.words 1 n)) r.two_words;
+              cell = cell_same (set s.words 1 n) w there does;
+              list_word = (omega arith, ap (λ k. k % 2) here ∙ (omega arith));
+              active = new_active;
+              passive = new_passive;
+              marked = new_marked;
+              empty = λ e. empty (sym there ∙ e);
+              filled = λ e. filled (sym there ∙ e);
+              unlisted = λ below. low (subst SaysEmpty here below);
+              home = λ _. (lists, subst (λ (t : List (ℕ × S)). get_elem? (put_back s.homes t) 0 ≡ some (some lists)) (sym has) (set_here s.homes 0 (some lists) wide), refl, refl, refl);
+              out = λ i v e is. let m = number-at has_lists_out (after w) i v e in let q : weight (has_lists_out v) ≡ 1 = ap weight is in absurd (omega arith);
+            }
+
+        known : (me.0.active ≡ r.active) × (me.0.passive ≡ r.passive) × (me.0.marked ≡ r.marked)
+        known = r.out id me.0 at is_out
+
+        -- who waits now waited before, or is the seat's own
+        abbrev Stands : (ℕ → View → Type 0) → View → List ℕ → List ℕ → Type 0
+        Stands P w old new = (k : ℕ) → Has k new → (Has k old × (P k me.0 → P k w)) ⊎ P k w
+
+        stand : (P : ℕ → View → Type 0) (w : View) (old new : List ℕ) → Stands P w old new → AreFresh P old s.views → AreFresh P new (after w)
+        stand P w old new all fresh k h = ⊎_elim (λ t. some_stays (P k) w t.1 (fresh k t.0)) (λ p. mine (P k) w p) (all k h)
+
+        -- one is notified, or the seat owes, or nobody waits
+        abbrev Ends : View → Type 0
+        Ends w = (0 < new_marked) ⊎ ((Owes w ⊎ OwesActive w) ⊎ NoneWaits new_active)
+
+        ends : (w : View) → Ends w → LosesNoneEmpty new_active new_marked (after w)
+        ends w e = ⊎_elim (λ m. inl m) (λ b. inr (⊎_elim (λ o. inl (mine (λ v. Owes v ⊎ OwesActive v) w o)) (λ none. inr (λ k h. absurd (none k h))) b)) e
+
+        emptying : (w : View) → (0 < me.0.marked → Ends w) → (Owes me.0 ⊎ OwesActive me.0 → Ends w) → Stands IsFreshActive w me.0.active new_active → x ≡ 0 → LosesNoneEmpty new_active new_marked (after w)
+        emptying w told owed all e = let k = known in ⊎_elim (λ m. ends w (told (subst (λ (z : ℕ). 0 < z) (sym k.2) m)))
+            (λ b. ⊎_elim (λ c. ⊎_elim (λ o. ends w (owed o)) (λ other. inr (inl (other w))) (apart s.views id me.0 at (λ v. Owes v ⊎ OwesActive v) c))
+            (λ fresh. inr (inr (stand IsFreshActive w me.0.active new_active all (subst (λ l. AreFresh IsFreshActive l s.views) (sym k.0) fresh)))) b) (r.empty e)
+
+        half : (O : View → Type 0) (P : ℕ → View → Type 0) (w : View) (old new : List ℕ) → (O me.0 → O w ⊎ NoneWaits new) → Stands P w old new → SomeSeat O s.views ⊎ AreFresh P old s.views → SomeSeat O (after w) ⊎ AreFresh P new (after w)
+        half O P w old new duty all f = ⊎_elim (λ c. ⊎_elim (λ own_duty. ⊎_elim (λ q. inl (mine O w q)) (λ none. inr (λ k h. absurd (none k h))) (duty own_duty)) (λ other. inl (other w)) (apart s.views id me.0 at O c))
+            (λ fresh. inr (stand P w old new all fresh)) f
+
+        filling : (w : View) → (OwesActive me.0 → OwesActive w ⊎ NoneWaits new_active) → (OwesPassive me.0 → OwesPassive w ⊎ NoneWaits new_passive) → Stands IsFreshActive w me.0.active new_active → Stands IsFreshPassive w me.0.passive new_passive → x ≡ 2 → LosesNoneFull new_active new_passive (after w)
+        filling w active passive all_active all_passive e = let k = known in let f = r.filled e in (
+          half OwesActive IsFreshActive w me.0.active new_active active all_active (subst (λ l. SomeSeat OwesActive s.views ⊎ AreFresh IsFreshActive l s.views) (sym k.0) f.0),
+          half OwesPassive IsFreshPassive w me.0.passive new_passive passive all_passive (subst (λ l. SomeSeat OwesPassive s.views ⊎ AreFresh IsFreshPassive l s.views) (sym k.1) f.1),
+        )
+
+        fewer : (P : ℕ → View → Type 0) (w : View) (old new : List ℕ) → Fewer old new → ((k : ℕ) → P k me.0 → P k w) → Stands P w old new
+        fewer P w old new all good k h = inl (all k h, good k)
+
+        told_still : (w : View) → StaysTold me.0.marked new_active new_marked → 0 < me.0.marked → Ends w
+        told_still w kept m = ⊎_elim (λ a. inl a) (λ none. inr (inr none)) (kept m)
+
+        -- its entry has joined
+        pub joins_active : (k : ℕ) → JoinedBy k me.0.active new_active → Fewer me.0.passive new_passive → me.0.marked ≤ new_marked → me.0.in_active ≡ false → me.0.in_passive ≡ false → R (stepped s 1 n id me.1 (joined_active_of k me.0) gives)
+        joins_active k joined passive more away off = let w : View = joined_active_of k me.0 in
+            let act : Stands IsFreshActive w me.0.active new_active = λ j h. ⊎_elim (λ old. inl (old, λ f. never (sym away ∙ f.1))) (λ e. inr (refl, refl, sym e)) (joined j h) in
+            let pas : Stands IsFreshPassive w me.0.passive new_passive = fewer IsFreshPassive w me.0.passive new_passive passive (λ j f. never (sym off ∙ f.1)) in
+            returned w refl (refl, refl, refl) (emptying w (λ m. inl (omega arith)) (λ o. inr (inl o)) act) (filling w (λ o. inl o) (λ o. inl o) act pas)
+
+        pub joins_passive : (k : ℕ) → Fewer me.0.active new_active → JoinedBy k me.0.passive new_passive → me.0.marked ≤ new_marked → me.0.in_active ≡ false → me.0.in_passive ≡ false → R (stepped s 1 n id me.1 (joined_passive_of k me.0) gives)
+        joins_passive k active joined more away off = let w : View = joined_passive_of k me.0 in
+            let act : Stands IsFreshActive w me.0.active new_active = fewer IsFreshActive w me.0.active new_active active (λ j f. never (sym away ∙ f.1)) in
+            let pas : Stands IsFreshPassive w me.0.passive new_passive = λ j h. ⊎_elim (λ old. inl (old, λ f. never (sym off ∙ f.1))) (λ e. inr (refl, refl, sym e)) (joined j h) in
+            returned w refl (refl, refl, refl) (emptying w (λ m. inl (omega arith)) (λ o. inr (inl o)) act) (filling w (λ o. inl o) (λ o. inl o) act pas)
+
+        -- its entry was notified, and has left: it owes
+        pub hears : Fewer me.0.active new_active → Fewer me.0.passive new_passive → me.0.fresh ≡ false → R (stepped s 1 n id me.1 (told_of me.0) gives)
+        hears active passive looked = let w : View = told_of me.0 in
+            let act = fewer IsFreshActive w me.0.active new_active active (λ j f. never (sym looked ∙ f.0)) in let pas = fewer IsFreshPassive w me.0.passive new_passive passive (λ j f. never (sym looked ∙ f.0)) in
+            returned w refl (refl, refl, refl) (emptying w (λ _. inr (inl (inl refl))) (λ _. inr (inl (inl refl))) act) (filling w (λ o. inl o) (λ o. inl o) act pas)
+
+        -- its entry has left, and what it was told has gone on
+        pub leaves : Fewer me.0.active new_active → Fewer me.0.passive new_passive → StaysTold me.0.marked new_active new_marked → (me.0.fresh ≡ true → me.0.in_active ≡ true → LeftBy me.0.entry me.0.active new_active)
+            → (me.0.fresh ≡ true → me.0.in_passive ≡ true → LeftBy me.0.entry me.0.passive new_passive) → R (stepped s 1 n id me.1 (gone_of me.0) gives)
+        leaves active passive kept left_active left_passive = let w : View = gone_of me.0 in
+            let act : Stands IsFreshActive w me.0.active new_active = λ j h. inl (active j h, λ f. absurd ((left_active f.0 f.1 j h).1 (sym f.2))) in
+            let pas : Stands IsFreshPassive w me.0.passive new_passive = λ j h. inl (passive j h, λ f. absurd ((left_passive f.0 f.1 j h).1 (sym f.2))) in
+            returned w refl (refl, refl, refl) (emptying w (told_still w kept) (λ o. inr (inl o)) act) (filling w (λ o. inl o) (λ o. inl o) act pas)
+
+        -- it has notified one that would make
+        pub pays : Fewer me.0.active new_active → Fewer me.0.passive new_passive → (0 < new_marked) ⊎ NoneWaits new_active → R (stepped s 1 n id me.1 (paid_of me.0) gives)
+        pays active passive told = let w : View = paid_of me.0 in
+            let end : Ends w = ⊎_elim (λ a. inl a) (λ none. inr (inr none)) told in
+            let act = fewer IsFreshActive w me.0.active new_active active (λ j f. f) in let pas = fewer IsFreshPassive w me.0.passive new_passive passive (λ j f. f) in
+            returned w refl (refl, refl, refl) (emptying w (λ _. end) (λ _. end) act) (filling w (λ o. inl o) (λ o. inl o) act pas)
+
+        -- all that would make
+        pub pays_active : NoneWaits new_active → Fewer me.0.passive new_passive → R (stepped s 1 n id me.1 (paid_active_of me.0) gives)
+        pays_active nobody_waits passive = let w : View = paid_active_of me.0 in
+            let end : Ends w = inr (inr nobody_waits) in
+            let act : Stands IsFreshActive w me.0.active new_active = λ j h. absurd (nobody_waits j h) in let pas = fewer IsFreshPassive w me.0.passive new_passive passive (λ j f. f) in
+            returned w refl (refl, refl, refl) (emptying w (λ _. end) (λ _. end) act) (filling w (λ _. inr nobody_waits) (λ o. inl o) act pas)
+
+        -- all that wait
+        pub pays_passive : Fewer me.0.active new_active → NoneWaits new_passive → StaysTold me.0.marked new_active new_marked → R (stepped s 1 n id me.1 (paid_passive_of me.0) gives)
+        pays_passive active nobody_waits kept = let w : View = paid_passive_of me.0 in
+            let act = fewer IsFreshActive w me.0.active new_active active (λ j f. f) in let pas : Stands IsFreshPassive w me.0.passive new_passive = λ j h. absurd (nobody_waits j h) in
+            returned w refl (refl, refl, refl) (emptying w (told_still w kept) (λ o. inr (inl o)) act) (filling w (λ o. inl o) (λ _. inr nobody_waits) act pas)
+
+        -- nothing has changed
+        pub remains : Fewer me.0.active new_active → Fewer me.0.passive new_passive → StaysTold me.0.marked new_active new_marked → R (stepped s 1 n id me.1 (back me.0) gives)
+        remains active passive kept = let w : View = back me.0 in
+            let act = fewer IsFreshActive w me.0.active new_active active (λ j f. f) in let pas = fewer IsFreshPassive w me.0.passive new_passive passive (λ j f. f) in
+            returned w refl (refl, refl, refl) (emptying w (told_still w kept) (λ o. inr (inl o)) act) (filling w (λ o. inl o) (λ o. inl o) act pas)

@@ -1,0 +1,46 @@
+//! What a seat knows of itself.
+
+ghost use Rattle.std.specs.Prelude.{ℕ, List};
+ghost use Rattle.std.specs.Coded.{coded_list, coded_ℕ};
+
+use std::marker::Model;
+
+/// What a seat knows of itself. No value of it is made.
+pub struct View {
+    /// Whether it has the right to make the cell's value.
+    pub makes: bool,
+    /// Whether it has to notify one that would make the value, or to claim on behalf of the others.
+    pub owes: bool,
+    /// Whether it has to notify all that would make the value.
+    pub owes_active: bool,
+    /// Whether it has to notify all that only wait for it.
+    pub owes_passive: bool,
+    /// Whether it has an entry in the list of those that would make the value.
+    pub in_active: bool,
+    /// Whether it has an entry in the list of those that only wait for it.
+    pub in_passive: bool,
+    /// Whether it has joined a list, and has not looked at the cell since, or found it full.
+    pub fresh: bool,
+    /// Whether it has the lists out.
+    pub has_lists: bool,
+    /// The number of its entry.
+    pub ghost entry: { ℕ },
+    /// What its last look or claim found.
+    pub ghost found: { ℕ },
+    /// How often it has filled the cell.
+    pub ghost filled: { ℕ },
+    /// How often it has emptied the full cell.
+    pub ghost taken: { ℕ },
+    /// Which entries waited to make the value when the seat took the lists out.
+    pub ghost active: { List ℕ } by { coded_list coded_ℕ },
+    /// Which entries waited for the value then.
+    pub ghost passive: { List ℕ } by { coded_list coded_ℕ },
+    /// How many of those that would make the value were notified then.
+    pub ghost marked: { ℕ },
+}
+
+impl Model for View {
+    ghost use base.Fml.{ftrue};
+
+    ghost also_owns = { λ _. ftrue };
+}
