@@ -1,8 +1,8 @@
 -- What a seat has that has taken the lists out.
-use Rattle.std.proofs.Common.{◌≡◌, ℕ, List, ◌∷◌, sym, ap, ◌∙◌}
+use Rattle.std.proofs.Common.{◌≡◌, ℕ, List, [], ◌∷◌, sym, ap, ◌∙◌}
 use Rattle.atomic_table.specs.Table.{Me, rest}
-use Rattle.words_cell.specs.Seats.{listing_of}
-use Rattle.words_cell.specs.Steps.{IsHeld, IsSame}
+use Rattle.words_cell.specs.Seats.{listing_of, joined_active_of, joined_passive_of, last_of}
+use Rattle.words_cell.specs.Steps.{IsHeld, IsSame, CanJoinActive, CanJoinPassive}
 use Rattle.words_cell.specs.declared.view.View.{View}
 
 -- the lists are out now
@@ -27,6 +27,22 @@ held_of {S} active_of passive_of marked_of m m' lists e = (
     ap (λ (n : Me S View). n.0.fresh) e,
     ap (λ (n : Me S View). n.0.entry) e,
     ap (λ (n : Me S View). n.0.found) e,
+    ap (λ (n : Me S View). n.0.taken) e,
   ),
   ap (λ (n : Me S View). rest n.1) e,
 )
+
+-- the lists that are out are one pair
+same_out : {S : Type 0} (x y : S) (l : List (ℕ × S)) → l ≡ (0, x) ∷ rest l → l ≡ (0, y) ∷ rest l → x ≡ y
+same_out {S} x y l e f = ap (λ (k : List (ℕ × S)). first x k) (sym e ∙ f)
+  where
+    first : S → List (ℕ × S) → S
+    first z [] = z
+    first z (k ∷ ks) = k.1
+
+module _ {S : Type 0} (active_of passive_of : S → List ℕ) (marked_of : S → ℕ) (m : Me S View) (n k : ℕ) where
+  pub joined_active_same : CanJoinActive active_of passive_of marked_of m n k → (m' : Me S View) → (lists : S) × (m.1 ≡ (0, lists) ∷ rest m.1) × (m' ≡ (joined_active_of (last_of (active_of lists)) m.0, rest m.1)) → m' ≡ (joined_active_of k m.0, rest m.1)
+  joined_active_same c m' t = t.2 ∙ ap (λ j. (joined_active_of j m.0, rest m.1)) (ap (λ l. last_of (active_of l)) (same_out t.0 c.0 m.1 t.1 c.1.1) ∙ c.3)
+
+  pub joined_passive_same : CanJoinPassive active_of passive_of marked_of m n k → (m' : Me S View) → (lists : S) × (m.1 ≡ (0, lists) ∷ rest m.1) × (m' ≡ (joined_passive_of (last_of (passive_of lists)) m.0, rest m.1)) → m' ≡ (joined_passive_of k m.0, rest m.1)
+  joined_passive_same c m' t = t.2 ∙ ap (λ j. (joined_passive_of j m.0, rest m.1)) (ap (λ l. last_of (passive_of l)) (same_out t.0 c.0 m.1 t.1 c.1.1) ∙ c.4)

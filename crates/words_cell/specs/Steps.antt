@@ -28,7 +28,7 @@ module _ {S : Type 0} where
 
 -- What a seat has else is as it was.
 abbrev pub IsSame : View → View → Type 0
-IsSame v w = (w.makes ≡ v.makes) × (w.owes ≡ v.owes) × (w.owes_active ≡ v.owes_active) × (w.owes_passive ≡ v.owes_passive) × (w.in_active ≡ v.in_active) × (w.in_passive ≡ v.in_passive) × (w.fresh ≡ v.fresh) × (w.entry ≡ v.entry) × (w.found ≡ v.found)
+IsSame v w = (w.makes ≡ v.makes) × (w.owes ≡ v.owes) × (w.owes_active ≡ v.owes_active) × (w.owes_passive ≡ v.owes_passive) × (w.in_active ≡ v.in_active) × (w.in_passive ≡ v.in_passive) × (w.fresh ≡ v.fresh) × (w.entry ≡ v.entry) × (w.found ≡ v.found) × (w.taken ≡ v.taken)
 
 module _ {S : Type 0} (active_of passive_of : S → List ℕ) (marked_of : S → ℕ) where
   -- From an even word the seat has the lists, and knows what they have.

@@ -1,6 +1,6 @@
 //! The single steps on the table.
 
-ghost use Rattle.std.specs.Prelude.{◌≡◌, ◌≢◌, ◌≤◌, ℕ, ◌<◌, ◌%◌, true, false};
+ghost use Rattle.std.specs.Prelude.{◌≡◌, ◌≢◌, ◌<◌, ◌%◌, true, false};
 ghost use Rattle.atomic_table.specs.Table.{rest};
 ghost use Rattle.words_cell.specs.Seats.{filled_by, emptied_by, joined_active_of, joined_passive_of, told_of, gone_of, paid_of, paid_active_of, paid_passive_of, back};
 ghost use Rattle.words_cell.specs.Steps.{Looked, Claimed, Took, Peeked, IsHeld, IsSame, CanJoinActive, CanJoinPassive, CanHear, CanLeave, CanPay, CanPayActive, CanPayPassive, CanStay};
@@ -12,6 +12,7 @@ use crate::plays::{
 use crate::rule::{CellRule, Content};
 use crate::view::View;
 use atomic_table::{Seat as TableSeat, Shared};
+use lock_event::EntryId;
 
 /// The tables of cells with their lists.
 pub type Ruled<S> = Shared<S, View, bool, CellRule>;
@@ -131,19 +132,21 @@ pub fn grab_asleep<S: Content>(shared: &Ruled<S>, inner: &mut TableSeat<S, View>
     shared.fetch_or::<Grabs>(inner, LIST, OUT_AND_ASLEEP)
 }
 
-/// Gives the lists back, where an entry of its own stands last of those that would make the value: one step. It answers what it found.
+/// Gives the lists back, where its entry of this id stands last of those that would make the value: one step. It answers what it found.
 #[inline]
 pub fn give_joined_active<S: Content>(
     shared: &Ruled<S>,
     inner: &mut TableSeat<S, View>,
     new: u64,
+    id: EntryId,
 ) -> u64
     requires table { (inner.old.table_id ≡ shared.now.table_id) × (shared.now.table_id.words ≡ 2) × (shared.now.table_id.slots ≡ 1) }
-    requires lists { (k : ℕ) × CanJoinActive S.active S.passive S.marked inner.old.me new k }
+    requires lists { CanJoinActive S.active S.passive S.marked inner.old.me new id.number }
     requires away { (inner.old.me.0.in_active ≡ false) × (inner.old.me.0.in_passive ≡ false) }
     ensures table { inner.new.table_id ≡ inner.old.table_id }
-    ensures step { (k : ℕ) → CanJoinActive S.active S.passive S.marked inner.old.me new k → inner.new.me ≡ (joined_active_of k inner.old.me.0, rest inner.old.me.1) }
+    ensures step { inner.new.me ≡ (joined_active_of id.number inner.old.me.0, rest inner.old.me.1) }
 {
+    let _ = id;
     shared.swap::<JoinsActive>(inner, LIST, new)
 }
 
@@ -153,13 +156,15 @@ pub fn give_joined_passive<S: Content>(
     shared: &Ruled<S>,
     inner: &mut TableSeat<S, View>,
     new: u64,
+    id: EntryId,
 ) -> u64
     requires table { (inner.old.table_id ≡ shared.now.table_id) × (shared.now.table_id.words ≡ 2) × (shared.now.table_id.slots ≡ 1) }
-    requires lists { (k : ℕ) × CanJoinPassive S.active S.passive S.marked inner.old.me new k }
+    requires lists { CanJoinPassive S.active S.passive S.marked inner.old.me new id.number }
     requires away { (inner.old.me.0.in_active ≡ false) × (inner.old.me.0.in_passive ≡ false) }
     ensures table { inner.new.table_id ≡ inner.old.table_id }
-    ensures step { (k : ℕ) → CanJoinPassive S.active S.passive S.marked inner.old.me new k → inner.new.me ≡ (joined_passive_of k inner.old.me.0, rest inner.old.me.1) }
+    ensures step { inner.new.me ≡ (joined_passive_of id.number inner.old.me.0, rest inner.old.me.1) }
 {
+    let _ = id;
     shared.swap::<JoinsPassive>(inner, LIST, new)
 }
 

@@ -1,0 +1,133 @@
+-- What contracts see of a cell, and of a seat.
+use Rattle.std.specs.Prelude.{◌≡◌, ℕ, ◌&&◌, not, Bool, true, false, ⊤, refl}
+use Rattle.std.specs.Coded.{Coded, code_by, coded×, coded_ℕ, coded_bool}
+use Rattle.atomic_table.specs.Seated.{TableId, table_id_coded}
+use Rattle.words_cell.specs.declared.view.View.{View}
+use Rattle.cell_core.specs.declared.state.State.{State}
+use Rattle.cell_core.specs.declared.state.State.TheVariants.{Empty, Making, Full}
+
+-- The cell's table, whether it began full, and where its value lies.
+pub record Words : Type 0 where
+  pub table : TableId
+  pub start : Bool
+  pub store : ℕ
+
+-- A cell: its table and value, and with which source its waiters register.
+pub record Cell : Type 0 where
+  pub word : Words
+  pub source : ℕ
+
+abbrev pub cell_coded : Coded Cell
+cell_coded = code_by (TableId × (Bool × (ℕ × ℕ))) (coded× table_id_coded (coded× coded_bool (coded× coded_ℕ coded_ℕ))) (λ c. (c.word.table, (c.word.start, (c.word.store, c.source)))) (λ p. record { word = record { table = p.0; start = p.1.0; store = p.1.1.0 }; source = p.1.1.1 }) (λ _. refl)
+
+-- A seat: of which table it is; whether it makes, and what it owes; in which list it has an entry, of which number, and whether it has not looked since it
+-- joined, or found the cell full; what its last look found, and how often it has emptied the full cell.
+pub record Seated : Type 0 where
+  pub table : TableId
+  pub makes : Bool
+  pub owes : Bool
+  pub owes_active : Bool
+  pub owes_passive : Bool
+  pub in_active : Bool
+  pub in_passive : Bool
+  pub fresh : Bool
+  pub entry : ℕ
+  pub found : ℕ
+  pub taken : ℕ
+
+abbrev pub seated_coded : Coded Seated
+seated_coded = code_by (TableId × (Bool × (Bool × (Bool × (Bool × (Bool × (Bool × (Bool × (ℕ × (ℕ × ℕ))))))))))
+    (coded× table_id_coded (coded× coded_bool (coded× coded_bool (coded× coded_bool (coded× coded_bool (coded× coded_bool (coded× coded_bool (coded× coded_bool (coded× coded_ℕ (coded× coded_ℕ coded_ℕ))))))))))
+    (λ s. (s.table, (s.makes, (s.owes, (s.owes_active, (s.owes_passive, (s.in_active, (s.in_passive, (s.fresh, (s.entry, (s.found, s.taken)))))))))))
+    (λ p. record { table = p.0; makes = p.1.0; owes = p.1.1.0; owes_active = p.1.1.1.0; owes_passive = p.1.1.1.1.0; in_active = p.1.1.1.1.1.0; in_passive = p.1.1.1.1.1.1.0; fresh = p.1.1.1.1.1.1.1.0; entry = p.1.1.1.1.1.1.1.1.0; found = p.1.1.1.1.1.1.1.1.1.0; taken = p.1.1.1.1.1.1.1.1.1.1 })
+    (λ _. refl)
+
+abbrev pub seated : TableId → View → Seated
+seated table v = record { table = table; makes = v.makes; owes = v.owes; owes_active = v.owes_active; owes_passive = v.owes_passive; in_active = v.in_active; in_passive = v.in_passive; fresh = v.fresh; entry = v.entry; found = v.found; taken = v.taken }
+
+-- The seat is one of the cell.
+abbrev pub IsOf : Cell → Seated → Type 0
+IsOf cell seat = seat.table ≡ cell.word.table
+
+-- a seat with nothing
+abbrev pub entering : Cell → Seated
+entering cell = record { table = cell.word.table; makes = false; owes = false; owes_active = false; owes_passive = false; in_active = false; in_passive = false; fresh = false; entry = 0; found = 0; taken = 0 }
+
+-- what a look, a claim and each other step makes of a seat
+abbrev pub with_seen : ℕ → Seated → Seated
+with_seen n s = record s { found = n; fresh = false }
+
+abbrev pub with_full : Seated → Seated
+with_full s = record s { found = 2 }
+
+abbrev pub with_claim : Seated → Seated
+with_claim s = record s { makes = true; owes = false; fresh = false; found = 0 }
+
+abbrev pub with_miss : Seated → Seated
+with_miss s = record s { owes = s.owes && not s.in_active; fresh = false; found = 1 }
+
+abbrev pub with_late : Seated → Seated
+with_late s = record s { owes = false; found = 2 }
+
+abbrev pub with_filled : Seated → Seated
+with_filled s = record s { makes = false; owes_active = true; owes_passive = true }
+
+abbrev pub with_emptied : Seated → Seated
+with_emptied s = record s { makes = false; owes = true }
+
+abbrev pub with_ease : Seated → Seated
+with_ease s = record s { owes = false; owes_active = false; owes_passive = false }
+
+abbrev pub with_joined_active : ℕ → Seated → Seated
+with_joined_active n s = record s { in_active = true; fresh = true; entry = n }
+
+abbrev pub with_joined_passive : ℕ → Seated → Seated
+with_joined_passive n s = record s { in_passive = true; fresh = true; entry = n }
+
+abbrev pub with_told : Seated → Seated
+with_told s = record s { in_active = false; owes = true }
+
+abbrev pub with_gone : Seated → Seated
+with_gone s = record s { in_active = false; in_passive = false; fresh = false }
+
+abbrev pub with_paid : Seated → Seated
+with_paid s = record s { owes = false }
+
+abbrev pub with_paid_active : Seated → Seated
+with_paid_active s = record s { owes = false; owes_active = false }
+
+abbrev pub with_paid_passive : Seated → Seated
+with_paid_passive s = record s { owes_passive = false }
+
+-- it owes nothing
+abbrev pub OwesNothing : Seated → Type 0
+OwesNothing s = (s.owes ≡ false) × (s.owes_active ≡ false) × (s.owes_passive ≡ false)
+
+-- it has no entry, and owes nothing
+abbrev pub IsAlone : Seated → Type 0
+IsAlone s = OwesNothing s × (s.in_active ≡ false) × (s.in_passive ≡ false) × (s.fresh ≡ false)
+
+-- it has and owes nothing
+abbrev pub IsIdle : Seated → Type 0
+IsIdle s = (s.makes ≡ false) × IsAlone s
+
+-- it has the right to make, and nothing else
+abbrev pub IsMaking : Seated → Type 0
+IsMaking s = (s.makes ≡ true) × IsAlone s
+
+-- it has no entry, and owes no more than a notification of one that would make, and that only if it was told
+abbrev pub IsBetween : Bool → Seated → Type 0
+IsBetween told s = (s.makes ≡ false) × (told ≡ false → s.owes ≡ false) × (s.owes_active ≡ false) × (s.owes_passive ≡ false) × (s.in_active ≡ false) × (s.in_passive ≡ false) × (s.fresh ≡ false)
+
+-- it has an entry of this number and has looked since; it owes nothing
+abbrev pub WaitsActive : ℕ → Seated → Type 0
+WaitsActive n s = (s.makes ≡ false) × OwesNothing s × (s.in_active ≡ true) × (s.in_passive ≡ false) × (s.fresh ≡ false) × (s.entry ≡ n)
+
+abbrev pub WaitsPassive : ℕ → Seated → Type 0
+WaitsPassive n s = (s.makes ≡ false) × OwesNothing s × (s.in_active ≡ false) × (s.in_passive ≡ true) × (s.fresh ≡ false) × (s.entry ≡ n)
+
+-- What holds by what was found.
+abbrev pub OnState : State → Type 0 → Type 0 → Type 0 → Type 0
+OnState Empty empty making full = empty
+OnState Making empty making full = making
+OnState Full empty making full = full

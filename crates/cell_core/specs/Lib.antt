@@ -1,0 +1,5 @@
+pub mod Entries
+pub mod Contents
+pub mod Asking
+pub mod Cells
+pub mod Receipts

@@ -1,0 +1,24 @@
+//! A once-cell whose word and two waiting lists stand under one rule: no wake-up is lost.
+#![tactic(auto)]
+
+mod calls;
+mod cell;
+mod due;
+mod heard;
+mod list;
+mod list_steps;
+mod lists;
+mod queue;
+mod seat;
+mod state;
+mod stored;
+mod whose;
+
+pub use cell::RawCell;
+pub use due::{AllDue, Called, Due};
+pub use lists::Lists;
+pub use queue::Queue;
+pub use seat::{Right, Seat};
+pub use state::State;
+pub use whose::Whose;
+pub use words_cell::{CellRule, Content, View, no_lost_wakeup};

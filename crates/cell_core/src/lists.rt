@@ -1,0 +1,155 @@
+//! What lies in the slot of a cell's table: its two lists.
+
+ghost use Rattle.std.specs.Prelude.{◌≡◌, ◌%◌, [], IfOk, OnErr};
+ghost use Rattle.futures.specs.Task.{Keeps};
+ghost use Rattle.cell_core.specs.Asking.{ByHeard};
+ghost use Rattle.cell_core.specs.Contents.{active_of, passive_of, Says, HaveFewer, AreKept, HasJoinedActive, HasJoinedPassive, HasLeftActive, HasLeftPassive, IsOneTold, AreActiveTold, ArePassiveTold};
+ghost use Rattle.cell_core.specs.Receipts.{IsReceipt};
+
+use crate::due::{AllDue, Due};
+use crate::heard::Heard;
+use crate::queue::Queue;
+use crate::whose::Whose;
+use futures::task::{Context, Source, Waker};
+use lock_event::{EntryId, Memory};
+use std::alloc::Global;
+use words_cell::Content;
+use words_cell::steps::ENTRIES;
+
+/// A cell's two lists.
+pub struct Lists {
+    /// Of those that would make the value.
+    pub(crate) active: Queue,
+    /// Of those that only wait for it.
+    pub(crate) passive: Queue,
+}
+
+impl Drop for Lists {
+    fn drop(self) {
+        let Lists {
+            active: _,
+            passive: _,
+        } = self;
+    }
+}
+
+impl Content for Lists {
+    ghost use Rattle.lock_event.specs.Lists.{marked_count};
+    ghost use Rattle.cell_core.specs.Contents.{entries_of};
+    ghost use Rattle.cell_core.specs.Entries.{waiting_in};
+
+    ghost active = { λ lists. waiting_in (entries_of lists.active) };
+
+    ghost passive = { λ lists. waiting_in (entries_of lists.passive) };
+
+    ghost marked = { λ lists. marked_count (entries_of lists.active) };
+}
+
+impl Lists {
+    // Lists that nobody has joined.
+    pub(crate) fn new() -> Lists
+        ensures { (active_of result ≡ []) × (passive_of result ≡ []) }
+    {
+        Lists {
+            active: Queue::new(),
+            passive: Queue::new(),
+        }
+    }
+
+    // What is to stand in their word: whether one of them has entries.
+    pub(crate) fn says(&self) -> u64
+        ensures { Says self.now result }
+    {
+        if self.active.is_empty() && self.passive.is_empty() {
+            0
+        } else {
+            ENTRIES
+        }
+    }
+
+    pub(crate) fn join_active(&mut self, alloc: Global) -> Result<EntryId, Memory>
+        ensures joined { IfOk result (λ id. HasJoinedActive self.old self.new id.number) }
+        ensures refused { OnErr result (AreKept self.old self.new) }
+    {
+        self.active.join(alloc)
+    }
+
+    pub(crate) fn join_passive(&mut self, alloc: Global) -> Result<EntryId, Memory>
+        ensures joined { IfOk result (λ id. HasJoinedPassive self.old self.new id.number) }
+        ensures refused { OnErr result (AreKept self.old self.new) }
+    {
+        self.passive.join(alloc)
+    }
+
+    pub(crate) fn ask_active(
+        &mut self,
+        id: EntryId,
+        source: &Source,
+        cx: &mut Context<'_>,
+    ) -> Heard<Whose>
+        ensures asked { ByHeard result (HaveFewer self.old self.new) (λ _. AreKept self.old self.new) }
+        ensures waits { ByHeard result (cx.new ≡ cx.old) (IsReceipt source.now.id cx.new) }
+        ensures kept { Keeps cx.old cx.new }
+    {
+        self.active.ask(id, source, cx)
+    }
+
+    pub(crate) fn ask_passive(
+        &mut self,
+        id: EntryId,
+        source: &Source,
+        cx: &mut Context<'_>,
+    ) -> Heard<Whose>
+        ensures asked { ByHeard result (AreKept self.old self.new) (λ _. AreKept self.old self.new) }
+        ensures waits { ByHeard result (cx.new ≡ cx.old) (IsReceipt source.now.id cx.new) }
+        ensures kept { Keeps cx.old cx.new }
+    {
+        self.passive.ask(id, source, cx)
+    }
+
+    pub(crate) fn leave_active(&mut self, id: EntryId) -> (Option<Waker>, Due)
+        ensures { HasLeftActive self.old self.new id.number }
+    {
+        self.active.leave(id)
+    }
+
+    pub(crate) fn leave_passive(&mut self, id: EntryId) -> (Option<Waker>, Due)
+        ensures { HasLeftPassive self.old self.new id.number }
+    {
+        self.passive.leave(id)
+    }
+
+    pub(crate) fn notify_active(&mut self) -> Due
+        ensures { IsOneTold self.old self.new }
+    {
+        self.active.notify()
+    }
+
+    pub(crate) fn notify_passive(&mut self) -> Due
+        ensures { AreKept self.old self.new }
+    {
+        self.passive.notify()
+    }
+
+    pub(crate) fn notify_all_active(&mut self, alloc: Global) -> AllDue
+        ensures { AreActiveTold self.old self.new }
+    {
+        self.active.notify_all(alloc)
+    }
+
+    pub(crate) fn notify_all_passive(&mut self, alloc: Global) -> AllDue
+        ensures { ArePassiveTold self.old self.new }
+    {
+        self.passive.notify_all(alloc)
+    }
+
+    // The next waker that is due, of either list.
+    pub(crate) fn next_due(&mut self) -> Due
+        ensures { AreKept self.old self.new }
+    {
+        match self.active.next_due() {
+            Some(waker) => Due::of(Some(waker)),
+            None => Due::of(self.passive.next_due()),
+        }
+    }
+}
