@@ -1,3 +1,3 @@
-pub mod Waiting
+pub mod Changes
 pub mod Returning
 pub mod Receiving

@@ -3,3 +3,5 @@ pub mod Contents
 pub mod Asking
 pub mod Cells
 pub mod Receipts
+pub mod Purposes
+pub mod Outcomes

@@ -22,7 +22,17 @@ use words_cell::steps::{
     give_gone, give_joined_active, give_joined_passive, give_paid, give_paid_active,
     give_paid_passive, give_same, give_told,
 };
-use words_cell::{take_out, wake_next};
+use words_cell::{Numbered, take_out, wake_next};
+
+// An entry that has joined, by which the rule names it.
+#[derive(Drop)]
+struct Joining {
+    id: EntryId,
+}
+
+impl Numbered for Joining {
+    ghost number = { λ joining. joining.id.number };
+}
 
 impl<T> RawCell<T> {
     /// Adds an entry at the back of those that would make the value, with no waker. The seat has not looked yet then. [`Memory`] comes only if
@@ -38,7 +48,7 @@ impl<T> RawCell<T> {
         let (joined, word) = join_active_in(shared, &mut seat.inner, self.alloc);
         match joined {
             Ok(id) => {
-                let found = give_joined_active(shared, &mut seat.inner, word, id);
+                let found = give_joined_active(shared, &mut seat.inner, word, &Joining { id });
                 wake_next(shared, found);
                 Ok(id)
             }
@@ -62,7 +72,7 @@ impl<T> RawCell<T> {
         let (joined, word) = join_passive_in(shared, &mut seat.inner, self.alloc);
         match joined {
             Ok(id) => {
-                let found = give_joined_passive(shared, &mut seat.inner, word, id);
+                let found = give_joined_passive(shared, &mut seat.inner, word, &Joining { id });
                 wake_next(shared, found);
                 Ok(id)
             }

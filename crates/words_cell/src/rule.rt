@@ -17,6 +17,12 @@ pub trait Content {
     ghost marked: { Self → ℕ };
 }
 
+/// What names an entry, by its number.
+pub trait Numbered {
+    /// The entry's number.
+    ghost number: { Self → ℕ };
+}
+
 /// What always holds of the table of a cell. It is told once whether the cell begins with a value.
 pub struct CellRule;
 

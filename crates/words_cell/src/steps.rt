@@ -9,10 +9,9 @@ use crate::plays::{
     Claims, Empties, Fills, Grabs, Hears, JoinsActive, JoinsPassive, Leaves, Looks, Pays,
     PaysActive, PaysPassive, Peeks, Stays, Takes,
 };
-use crate::rule::{CellRule, Content};
+use crate::rule::{CellRule, Content, Numbered};
 use crate::view::View;
 use atomic_table::{Seat as TableSeat, Shared};
-use lock_event::EntryId;
 
 /// The tables of cells with their lists.
 pub type Ruled<S> = Shared<S, View, bool, CellRule>;
@@ -132,39 +131,39 @@ pub fn grab_asleep<S: Content>(shared: &Ruled<S>, inner: &mut TableSeat<S, View>
     shared.fetch_or::<Grabs>(inner, LIST, OUT_AND_ASLEEP)
 }
 
-/// Gives the lists back, where its entry of this id stands last of those that would make the value: one step. It answers what it found.
+/// Gives the lists back, where this entry, its own, stands last of those that would make the value: one step. It answers what it found.
 #[inline]
-pub fn give_joined_active<S: Content>(
+pub fn give_joined_active<S: Content, N: Numbered>(
     shared: &Ruled<S>,
     inner: &mut TableSeat<S, View>,
     new: u64,
-    id: EntryId,
+    entry: &N,
 ) -> u64
     requires table { (inner.old.table_id ≡ shared.now.table_id) × (shared.now.table_id.words ≡ 2) × (shared.now.table_id.slots ≡ 1) }
-    requires lists { CanJoinActive S.active S.passive S.marked inner.old.me new id.number }
+    requires lists { CanJoinActive S.active S.passive S.marked inner.old.me new (N.number entry.now) }
     requires away { (inner.old.me.0.in_active ≡ false) × (inner.old.me.0.in_passive ≡ false) }
     ensures table { inner.new.table_id ≡ inner.old.table_id }
-    ensures step { inner.new.me ≡ (joined_active_of id.number inner.old.me.0, rest inner.old.me.1) }
+    ensures step { inner.new.me ≡ (joined_active_of (N.number entry.now) inner.old.me.0, rest inner.old.me.1) }
 {
-    let _ = id;
+    let _ = entry;
     shared.swap::<JoinsActive>(inner, LIST, new)
 }
 
 /// The same, of those that only wait for it.
 #[inline]
-pub fn give_joined_passive<S: Content>(
+pub fn give_joined_passive<S: Content, N: Numbered>(
     shared: &Ruled<S>,
     inner: &mut TableSeat<S, View>,
     new: u64,
-    id: EntryId,
+    entry: &N,
 ) -> u64
     requires table { (inner.old.table_id ≡ shared.now.table_id) × (shared.now.table_id.words ≡ 2) × (shared.now.table_id.slots ≡ 1) }
-    requires lists { CanJoinPassive S.active S.passive S.marked inner.old.me new id.number }
+    requires lists { CanJoinPassive S.active S.passive S.marked inner.old.me new (N.number entry.now) }
     requires away { (inner.old.me.0.in_active ≡ false) × (inner.old.me.0.in_passive ≡ false) }
     ensures table { inner.new.table_id ≡ inner.old.table_id }
-    ensures step { inner.new.me ≡ (joined_passive_of id.number inner.old.me.0, rest inner.old.me.1) }
+    ensures step { inner.new.me ≡ (joined_passive_of (N.number entry.now) inner.old.me.0, rest inner.old.me.1) }
 {
-    let _ = id;
+    let _ = entry;
     shared.swap::<JoinsPassive>(inner, LIST, new)
 }
 

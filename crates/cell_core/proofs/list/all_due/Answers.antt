@@ -1,4 +1,4 @@
-use Rattle.cell_core.proofs.Waiting.{kept_same, kept_on}
+use Rattle.cell_core.proofs.Changes.{kept_same, kept_on}
 use Rattle.cell_core.proofs.list.all_due.Goals as goal
 
 pub loop-init : goal.loop-init

@@ -3,7 +3,7 @@ use Rattle.std.proofs.Common.{subst, sym, ap, ◌∙◌}
 use Rattle.futures.specs.Task.{Hears}
 use Rattle.async_driver.specs.Tasks.{woken_by}
 use Rattle.async_driver.proofs.Keeping.{waker_at-waiting}
-use Rattle.cell_core.proofs.Waiting.{kept_keyed}
+use Rattle.cell_core.proofs.Changes.{kept_keyed}
 use Rattle.cell_core.proofs.Receiving.{is_kept}
 use Rattle.cell_core.proofs.list.ask.Goals as goal
 

@@ -1,4 +1,4 @@
-use Rattle.cell_core.proofs.Waiting.{joined_ok}
+use Rattle.cell_core.proofs.Changes.{joined_ok}
 use Rattle.cell_core.proofs.list.join.Goals as goal
 
 pub returns-clause-joined : goal.returns-clause-joined

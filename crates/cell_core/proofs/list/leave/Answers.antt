@@ -1,6 +1,6 @@
 use Rattle.std.proofs.Common.{sym, subst}
 use Rattle.cell_core.specs.Entries.{HasLeft}
-use Rattle.cell_core.proofs.Waiting.{left_without_waker}
+use Rattle.cell_core.proofs.Changes.{left_without_waker}
 use Rattle.cell_core.proofs.list.leave.Goals as goal
 
 pub returns : goal.returns

@@ -1,6 +1,6 @@
 use Rattle.std.proofs.Common.{sym, subst}
 use Rattle.cell_core.specs.Entries.{IsKept}
-use Rattle.cell_core.proofs.Waiting.{kept_without_waker}
+use Rattle.cell_core.proofs.Changes.{kept_without_waker}
 use Rattle.cell_core.proofs.list.next_due.Goals as goal
 
 pub returns : goal.returns

@@ -1,6 +1,6 @@
 use Rattle.std.proofs.Common.{sym, subst}
 use Rattle.cell_core.specs.Entries.{IsTold}
-use Rattle.cell_core.proofs.Waiting.{one_told, told_without_waker}
+use Rattle.cell_core.proofs.Changes.{one_told, told_without_waker}
 use Rattle.cell_core.proofs.list.notify.Goals as goal
 
 pub returns : goal.returns

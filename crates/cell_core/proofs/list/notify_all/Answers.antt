@@ -1,7 +1,7 @@
 use Rattle.std.proofs.Common.{sym, ap, ◌∙◌, subst}
 use Rattle.lock_event.specs.Lists.{notified_additionally}
 use Rattle.cell_core.specs.Entries.{AreTold}
-use Rattle.cell_core.proofs.Waiting.{all_told, told_on}
+use Rattle.cell_core.proofs.Changes.{all_told, told_on}
 use Rattle.cell_core.proofs.list.notify_all.Goals as goal
 
 pub returns : goal.returns

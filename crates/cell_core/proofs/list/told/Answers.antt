@@ -1,7 +1,7 @@
 -- An entry that is there and isn't marked would wait.
 use Rattle.std.proofs.Common.{None, sym, ◌∙◌, true≢false}
 use Rattle.async_driver.proofs.Keeping.{waits_unmarked}
-use Rattle.cell_core.proofs.Waiting.{fewer_asked}
+use Rattle.cell_core.proofs.Changes.{fewer_asked}
 use Rattle.cell_core.proofs.list.told.Goals as goal
 
 pub unreachable-requires : goal.unreachable-requires

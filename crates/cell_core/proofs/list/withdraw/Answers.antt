@@ -1,6 +1,6 @@
 use Rattle.std.proofs.Common.{◌≡◌, sym, ◌∙◌, subst}
 use Rattle.lock_event.specs.Lists.{notified_additionally}
-use Rattle.cell_core.proofs.Waiting.{left_once, left_all}
+use Rattle.cell_core.proofs.Changes.{left_once, left_all}
 use Rattle.cell_core.proofs.list.withdraw.Goals as goal
 
 pub returns-then-contains : goal.returns-then-contains

@@ -1,0 +1,45 @@
+-- How a poll went.
+use Rattle.std.specs.Prelude.{◌≡◌, ℕ, ⊤, Result, Ok, Err, Option, Some, None}
+use Rattle.futures.specs.Task.{Covers}
+use Rattle.futures.specs.declared.task.context.Context.{Context}
+use Rattle.cell_core.specs.Cells.{Cell, IsOf}
+use Rattle.cell_core.specs.Purposes.{IsSetting, IsAwaited, OnSets}
+use Rattle.cell_core.specs.Receipts.{IsReceipt}
+use Rattle.cell_core.specs.declared.maker.Purpose.{Purpose}
+use Rattle.cell_core.specs.declared.turn.Outcome.{Outcome}
+use Rattle.cell_core.specs.declared.turn.Outcome.TheVariants as outcome
+use Rattle.cell_core.specs.declared.turn.Resting.{Resting}
+use Rattle.cell_core.specs.declared.turn.Resting.TheVariants.{Waits, Makes}
+use Rattle.cell_core.specs.declared.turn.Waited.{Waited}
+use Rattle.cell_core.specs.declared.turn.Waited.TheVariants as waited
+
+-- what a party keeps is of this cell
+abbrev pub RestsAt : Cell → Resting → Type 0
+RestsAt cell (Waits w) = IsOf cell w.seat
+RestsAt cell (Makes p) = IsOf cell p.seat
+
+-- What a party keeps is of this cell, with this maker: one in the list was never asked; one that makes may be asked again.
+abbrev pub RestsSo : {M : Type 0} → Purpose → (M → Type 0) → Cell → M → Resting → Type 0
+RestsSo u new cell m (Waits w) = IsOf cell w.seat × new m
+RestsSo u new cell m (Makes p) = IsOf cell p.seat × IsAwaited u
+
+-- What a pending poll leaves: one in the list has a receipt, and its maker is the one that it had. Of one that makes, its maker's own poll has registered,
+-- and promises what it did before.
+abbrev pub Pends : {T E M : Type 0} → (M → Result T E → Type 0) → (M → ℕ → Type 0) → Cell → Context → M → M → Resting → Type 0
+Pends gives needs cell cx m₀ m (Waits w) = IsReceipt cell.source cx w.whose × (m ≡ m₀)
+Pends {T} {E} gives needs cell cx m₀ m (Makes p) = Covers cx (needs m) × ((x : Result T E) → gives m x → gives m₀ x)
+
+-- What a poll answers that began with the maker m₀.
+abbrev pub OnOutcome : {T E M : Type 0} → Purpose → (M → Type 0) → (M → Type 0) → (M → Result T E → Type 0) → (M → ℕ → Type 0) → M → Cell → Context → Outcome T E M → Type 0
+OnOutcome u new can gives needs m₀ cell cx (outcome.Pending m r) = RestsSo u new cell m r × can m × Pends gives needs cell cx m₀ m r
+OnOutcome u new can gives needs m₀ cell cx (outcome.Refused m) = (m ≡ m₀) × new m
+OnOutcome u new can gives needs m₀ cell cx (outcome.Value r) = gives m₀ (Ok r.now)
+OnOutcome u new can gives needs m₀ cell cx (outcome.Back v r) = gives m₀ (Ok v)
+OnOutcome u new can gives needs m₀ cell cx (outcome.Kept m r) = (m ≡ m₀) × new m
+OnOutcome u new can gives needs m₀ cell cx (outcome.Failed e) = gives m₀ (Err e)
+
+-- what a poll of one that only waits answers
+abbrev pub OnWaited : {T : Type 0} → Cell → Context → Waited T → Type 0
+OnWaited cell cx (waited.Waits w) = IsOf cell w.seat × IsReceipt cell.source cx w.whose
+OnWaited cell cx waited.Refused = ⊤
+OnWaited cell cx (waited.Value r) = ⊤

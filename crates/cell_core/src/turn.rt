@@ -1,0 +1,66 @@
+//! Who waits, who makes, and how a poll went.
+
+ghost use Rattle.std.specs.Prelude.{◌≡◌, true, false};
+
+use crate::seat::Seat;
+use crate::whose::Whose;
+use lock_event::EntryId;
+
+/// A party that would make the value and waits between two polls: its seat owes nothing, and its entry stands in the list. It has no
+/// `Drop`: a poll goes on with it, or a cancel ends it.
+///
+/// Contracts see its seat, and whose waker its entry keeps (`whose`).
+pub struct WaitingToMake {
+    pub(crate) seat: Seat,
+    pub(crate) id: EntryId,
+    pub(crate) whose: Whose,
+    ghost idle: { (seat.makes ≡ false) × (seat.owes ≡ false) × (seat.owes_active ≡ false) × (seat.owes_passive ≡ false) × (seat.in_active ≡ true) × (seat.in_passive ≡ false) × (seat.fresh ≡ false) × (seat.entry ≡ id.number) },
+}
+
+/// A party that only waits for the value, between two polls. It is as [`WaitingToMake`], in the other list.
+pub struct Waiting {
+    pub(crate) seat: Seat,
+    pub(crate) id: EntryId,
+    pub(crate) whose: Whose,
+    ghost idle: { (seat.makes ≡ false) × (seat.owes ≡ false) × (seat.owes_active ≡ false) × (seat.owes_passive ≡ false) × (seat.in_active ≡ false) × (seat.in_passive ≡ true) × (seat.fresh ≡ false) × (seat.entry ≡ id.number) },
+}
+
+/// A party that makes the value, whose maker is pending: its seat has the right to make, and nothing else. It has no `Drop`.
+pub struct Making {
+    pub(crate) seat: Seat,
+    ghost makes: { (seat.makes ≡ true) × (seat.owes ≡ false) × (seat.owes_active ≡ false) × (seat.owes_passive ≡ false) × (seat.in_active ≡ false) × (seat.in_passive ≡ false) × (seat.fresh ≡ false) },
+}
+
+/// What a party that would make the value has between two polls, beside its maker.
+pub enum Resting {
+    /// It stands in the list.
+    Waits(WaitingToMake),
+    /// It makes the value.
+    Makes(Making),
+}
+
+/// How a poll of a party went that would make the value.
+pub enum Outcome<'a, T, E, M> {
+    /// It waits, or makes, with this maker.
+    Pending(M, Resting),
+    /// There was no memory for its entry. Nothing is left of the party but its maker.
+    Refused(M),
+    /// The cell has this value, which is its own.
+    Value(&'a T),
+    /// The cell had a value already when its own was to enter, which it has back.
+    Back(T, &'a T),
+    /// The cell was full before its maker was asked.
+    Kept(M, &'a T),
+    /// The maker failed.
+    Failed(E),
+}
+
+/// How a poll of a party went that only waits.
+pub enum Waited<'a, T> {
+    /// It waits.
+    Waits(Waiting),
+    /// There was no memory for its entry, and nothing is left of the party.
+    Refused,
+    /// The cell has this value.
+    Value(&'a T),
+}

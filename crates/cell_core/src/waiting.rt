@@ -1,0 +1,119 @@
+//! Whole calls of a party that only waits for the value, action by action as its program has them.
+
+ghost use Rattle.std.specs.Prelude.{◌≡◌, true, false};
+ghost use Rattle.futures.specs.Task.{Keeps};
+ghost use Rattle.cell_core.specs.Cells.{IsOf, IsIdle};
+ghost use Rattle.cell_core.specs.Outcomes.{OnWaited};
+
+use crate::cell::RawCell;
+use crate::seat::Seat;
+use crate::state::State;
+use crate::turn::{Waited, Waiting};
+use futures::task::Context;
+use lock_event::Memory;
+use std::sync::Wait;
+
+impl<T> RawCell<T> {
+    /// Polls a wait for the first time, or past a refusal.
+    pub fn wait_first<'a, R: Wait>(&'a self, rt: &R, cx: &mut Context<'_>) -> Waited<'a, T>
+        ensures outcome { OnWaited self.now cx.new result }
+        ensures kept { Keeps cx.old cx.new }
+    {
+        let seat = self.sit();
+        self.wait_on(rt, cx, seat, false)
+    }
+
+    /// Polls a wait that stands in the list.
+    pub fn wait_later<'a, R: Wait>(
+        &'a self,
+        rt: &R,
+        cx: &mut Context<'_>,
+        waiting: Waiting,
+    ) -> Waited<'a, T>
+        requires { IsOf self.now waiting.seat }
+        ensures outcome { OnWaited self.now cx.new result }
+        ensures kept { Keeps cx.old cx.new }
+    {
+        let Waiting {
+            mut seat,
+            id,
+            whose: _,
+        } = waiting;
+        // AskPassive
+        if let Some(whose) = self.ask_passive(rt, &mut seat, id, cx) {
+            return Waited::Waits(Waiting { seat, id, whose });
+        }
+        self.wait_on(rt, cx, seat, true)
+    }
+
+    // From Look on: looks, joins, looks and asks, until the cell is full, or it waits.
+    fn wait_on<'a, R: Wait>(
+        &'a self,
+        rt: &R,
+        cx: &mut Context<'_>,
+        seat: Seat,
+        told: bool,
+    ) -> Waited<'a, T>
+        requires of { IsOf self.now seat }
+        requires idle { IsIdle seat }
+        ensures outcome { OnWaited self.now cx.new result }
+        ensures kept { Keeps cx.old cx.new }
+    {
+        let mut seat = seat;
+        let mut told = told;
+        for _ in rt.forever() {
+            // Look
+            if self.look(&mut seat) == State::Full {
+                return Waited::Value(self.found(rt, seat));
+            }
+            // JoinPassive
+            let id = match self.join_passive(rt, &mut seat) {
+                Ok(id) => id,
+                Err(Memory) => {
+                    self.refuse_wait(rt, seat, told);
+                    return Waited::Refused;
+                }
+            };
+            // LookListed: whoever filled the cell before it joined told nobody
+            if self.look(&mut seat) == State::Full {
+                // LeavePassive
+                self.leave_passive(rt, &mut seat, id);
+                return Waited::Value(self.found(rt, seat));
+            }
+            // AskPassive
+            if let Some(whose) = self.ask_passive(rt, &mut seat, id, cx) {
+                return Waited::Waits(Waiting { seat, id, whose });
+            }
+            told = true;
+        }
+        unreachable!()
+    }
+
+    // RefusePassive, of a party for whose entry there was no memory: it notifies, if it took a notification during this poll.
+    #[cold]
+    #[inline(never)]
+    fn refuse_wait<R: Wait>(&self, rt: &R, seat: Seat, told: bool)
+        requires of { IsOf self.now seat }
+        requires idle { IsIdle seat }
+    {
+        let mut seat = seat;
+        if told {
+            self.notify_passive(rt, &mut seat);
+        }
+        seat.rise();
+    }
+
+    /// Gives back what a wait has between two polls.
+    pub fn cancel_wait<R: Wait>(&self, rt: &R, waiting: Waiting)
+        requires { IsOf self.now waiting.seat }
+    {
+        let Waiting {
+            mut seat,
+            id,
+            whose: _,
+        } = waiting;
+        // CancelLeave
+        self.leave_passive(rt, &mut seat, id);
+        seat.rise();
+    }
+}
