@@ -4,14 +4,13 @@ use Rattle.std.specs.Prelude.{Result, Ok, Err, IfOk, IfErr}
 use Rattle.async_once_cell.specs.Faults.{FailedSo}
 use Rattle.lock_program.specs.declared.refusal.Refusal.{Refusal}
 use denote.Ref.{Bor}
-use Rattle.async_driver.specs.declared.waiting_list.Listed.{Listed}
 use Rattle.async_driver.specs.declared.turn.Turn.{Turn}
 use Rattle.async_driver.specs.declared.turn.Turn.TheVariants.{Pending, Ready, Refused}
 use Rattle.async_driver.specs.Turns.{OnPending}
 use Rattle.async_once_cell.specs.Futures.{CanRefuse, FailsSo}
-use Rattle.async_once_cell.specs.Stages.{IsAwaiting}
+use Rattle.async_once_cell.specs.Stages.{IsAwaiting, Listed}
 use Rattle.futures.specs.declared.task.context.Context.{Context}
-use Rattle.once_cell_driver.specs.Cells.{Cell}
+use Rattle.cell_core.specs.Cells.{Cell}
 
 module _ {T E M : Type 0} (gives : M → Result T E → Type 0) (needs : M → ℕ → Type 0) (cell : Cell) (cx : Context) (old now : Option M) where
   kept : (entry : Option Listed) → IsAwaiting gives needs cell cx old now entry → (x : Result (Bor T) E) → FailsSo gives now x → FailsSo gives old x

@@ -3,8 +3,7 @@ use Rattle.std.specs.Prelude.{◌≡◌, ⊤, Bool, true, false, Option, Some, N
 use denote.Ref.{Bor}
 use Rattle.async_driver.specs.declared.turn.Turn.{Turn}
 use Rattle.async_driver.specs.declared.turn.Turn.TheVariants.{Pending, Ready, Refused}
-use Rattle.async_driver.specs.declared.waiting_list.Listed.{Listed}
-use Rattle.async_once_cell.specs.Stages.{Future}
+use Rattle.async_once_cell.specs.Stages.{Future, Listed}
 use Rattle.async_once_cell.specs.declared.makers.Given.{Given}
 use Rattle.lock_program.specs.declared.refusal.Refusal.{Refusal}
 use Rattle.lock_program.specs.declared.refusal.Refusal.TheVariants.{Finished, Memory}
@@ -29,18 +28,15 @@ pub record Setting (C T : Type 0) : Type 0 where
   pub entry : Option Listed
   pub value : Option T
 
-abbrev pub waiting : {C M : Type 0} → Future C M → Waiting C
-waiting f = record { cell = f.cell; is_over = f.is_over; entry = f.passive }
-
 abbrev pub initialising : {C M : Type 0} → Future C M → Initialising C M
-initialising f = record { cell = f.cell; is_over = f.is_over; entry = f.active; maker = f.maker }
+initialising f = record { cell = f.cell; is_over = f.is_over; entry = f.entry; maker = f.maker }
 
 abbrev pub value_in : {T : Type 0} → Option (Given T) → Option T
 value_in None = None
 value_in (Some given) = given.value
 
 abbrev pub setting : {C T : Type 0} → Future C (Given T) → Setting C T
-setting f = record { cell = f.cell; is_over = f.is_over; entry = f.active; value = value_in f.maker }
+setting f = record { cell = f.cell; is_over = f.is_over; entry = f.entry; value = value_in f.maker }
 
 -- Ready, what was got is this and the future is over. One that is over is refused as finished and stays so; no other is, and none for
 -- another reason than memory.

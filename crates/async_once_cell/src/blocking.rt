@@ -1,6 +1,6 @@
 //! The futures that blocking calls wait for. What they give borrows nothing: the cell's value is read afterwards.
 
-ghost use Rattle.std.specs.Prelude.{◌≡◌, IfErr, IfOk, IfSome, IsSomeAnd, Some, false};
+ghost use Rattle.std.specs.Prelude.{◌≡◌, IfErr, IfOk, IfSome, IsSomeAnd, Option, Some, None, false};
 ghost use Rattle.async_once_cell.specs.Closures.{CanMake, CanTry, TryGives};
 ghost use Rattle.async_once_cell.specs.Faults.{EndsWith, FailedSo};
 ghost use Rattle.async_once_cell.specs.Futures.{CanRefuse};
@@ -14,10 +14,18 @@ use async_driver::Turn;
 use futures::Future;
 use futures::task::{Context, Poll};
 use lock_program::Refusal;
-use once_cell_driver::Origin;
-use std::marker::{Model, PhantomData};
+use std::marker::{Brand, Model, PhantomData};
 use std::sync::Wait as Waits;
 use std::time::Clock;
+
+/// What a blocking call began with, for its contracts. Each call picks it.
+pub trait Origin<M> {
+    ghost origin: { Option M };
+}
+
+impl<M> Origin<M> for Brand {
+    ghost origin = { None };
+}
 
 /// A wait of a blocking call.
 #[derive(Drop)]

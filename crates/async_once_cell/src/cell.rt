@@ -6,23 +6,22 @@ ghost use Rattle.lock_program.specs.declared.refusal.Refusal.{Refusal};
 ghost use Rattle.async_once_cell.specs.declared.makers.Trying.TheVariants as tries;
 ghost use Rattle.async_once_cell.specs.declared.makers.Making.TheVariants as makes;
 
-use crate::blocking::{BlockedInit, BlockedSet, BlockedTry, BlockedWait, Ended, Kept};
+use crate::blocking::{BlockedInit, BlockedSet, BlockedTry, BlockedWait, Ended, Kept, Origin};
 use crate::faults::{InitFault, SetFault};
 use crate::init::{GetOrInit, GetOrTryInit};
 use crate::set::Set;
 use crate::wait::Wait;
+use cell_core::{RawCell, State};
 use futures::Future;
 use futures::executor::block_on;
 use futures::future::{self, Ready};
 use lock_program::Refusal;
-use once_cell_driver::{Origin, RawCell};
 use std::alloc::AllocGlobal;
 use std::fmt;
 use std::marker::Brand;
 use std::random::RandomSource;
 use std::sync::{OnceToken, Wait as Waits};
 use std::time::Clock;
-use words_once_cell::State;
 
 /// A value that is made once, and then read by any task.
 ///

@@ -13,6 +13,7 @@ use crate::cell::OnceCell;
 use crate::makers::{Making, Trying};
 use crate::task::{Answer, Stage, drop_stage, find, poll_stage};
 use async_driver::{Polled, Turn};
+use cell_core::Sealed;
 use futures::Future;
 use futures::task::Context;
 use std::convert::Infallible;
@@ -40,13 +41,13 @@ impl<'a, T, E, R: Wait, F, Fut> Model for GetOrTryInit<'a, T, E, R, F, Fut> {
     ghost use Rattle.async_once_cell.specs.Stages.{IsKept, future};
     ghost use Rattle.async_once_cell.specs.declared.cell.OnceCell.{OnceCell};
     ghost use Rattle.async_once_cell.specs.declared.makers.Trying.{Trying};
-    ghost use Rattle.once_cell_driver.specs.declared.maker.Purpose.TheVariants as purposes;
+    ghost use Rattle.cell_core.specs.declared.maker.Purpose.TheVariants as purposes;
 
     ghost Value = { Initialising (OnceCell T R) (Trying F Fut) };
 
     ghost view = { λ g. initialising (future g.cell.now g.stage) };
 
-    ghost invariant = { λ g. IsKept T E purposes.Makes is_new_try g.cell.now.raw g.stage };
+    ghost invariant = { λ g. IsKept purposes.Makes is_new_try g.cell.now.raw g.stage };
 }
 
 impl<
@@ -64,7 +65,7 @@ impl<
     {
         GetOrTryInit {
             cell,
-            stage: Stage::new(Trying::Closure(closure)),
+            stage: Stage::new(Trying::Closure(Sealed::new(closure))),
             fault: PhantomData,
         }
     }
@@ -106,9 +107,10 @@ impl<
         match poll_stage(cell, &mut self.stage, cx) {
             Answer::Pending => Turn::Pending,
             Answer::Refused(refusal) => Turn::Refused(refusal),
-            Answer::Value(value) | Answer::Back(_, value) => Turn::Ready(Ok(value)),
+            Answer::Value(value) | Answer::Back(_, value) | Answer::Kept(_, value) => {
+                Turn::Ready(Ok(value))
+            }
             Answer::Failed(fault) => Turn::Ready(Err(fault)),
-            Answer::Kept(_) => unreachable!(),
         }
     }
 }
@@ -145,7 +147,7 @@ impl<T: Drop, E: Drop, R: Wait, F: Drop, Fut: Drop> Drop for GetOrTryInit<'_, T,
             stage,
             fault: _,
         } = self;
-        drop_stage::<T, E, Trying<F, Fut>, R>(cell, stage);
+        drop_stage::<T, Trying<F, Fut>, R>(cell, stage);
     }
 }
 
@@ -167,14 +169,13 @@ impl<'a, T, R: Wait, F, Fut> Model for GetOrInit<'a, T, R, F, Fut> {
     ghost use Rattle.async_once_cell.specs.Stages.{IsKept, future};
     ghost use Rattle.async_once_cell.specs.declared.cell.OnceCell.{OnceCell};
     ghost use Rattle.async_once_cell.specs.declared.makers.Making.{Making};
-    ghost use Rattle.once_cell_driver.specs.declared.maker.Purpose.TheVariants as purposes;
-    ghost use Rattle.std.specs.declared.convert.Infallible.{Infallible};
+    ghost use Rattle.cell_core.specs.declared.maker.Purpose.TheVariants as purposes;
 
     ghost Value = { Initialising (OnceCell T R) (Making F Fut) };
 
     ghost view = { λ g. initialising (future g.cell.now g.stage) };
 
-    ghost invariant = { λ g. IsKept T Infallible purposes.Makes is_new_make g.cell.now.raw g.stage };
+    ghost invariant = { λ g. IsKept purposes.Makes is_new_make g.cell.now.raw g.stage };
 }
 
 impl<'a, T: Drop, R: Wait, F: FnOnce() -> Fut, Fut: Future<Output = T>> GetOrInit<
@@ -191,7 +192,7 @@ impl<'a, T: Drop, R: Wait, F: FnOnce() -> Fut, Fut: Future<Output = T>> GetOrIni
     {
         GetOrInit {
             cell,
-            stage: Stage::new(Making::Closure(closure)),
+            stage: Stage::new(Making::Closure(Sealed::new(closure))),
         }
     }
 }
@@ -224,9 +225,10 @@ impl<'a, T: Drop, R: Wait + Clock, F: FnOnce() -> Fut, Fut: Future<Output = T>> 
         match poll_stage(cell, &mut self.stage, cx) {
             Answer::Pending => Turn::Pending,
             Answer::Refused(refusal) => Turn::Refused(refusal),
-            Answer::Value(value) | Answer::Back(_, value) => Turn::Ready(value),
+            Answer::Value(value) | Answer::Back(_, value) | Answer::Kept(_, value) => {
+                Turn::Ready(value)
+            }
             Answer::Failed(never) => match never {},
-            Answer::Kept(_) => unreachable!(),
         }
     }
 }
@@ -251,7 +253,7 @@ impl<'a, T: Drop, R: Wait + Clock, F: FnOnce() -> Fut, Fut: Future<Output = T>> 
 impl<T: Drop, R: Wait, F: Drop, Fut: Drop> Drop for GetOrInit<'_, T, R, F, Fut> {
     fn drop(self) {
         let Self { cell, stage } = self;
-        drop_stage::<T, Infallible, Making<F, Fut>, R>(cell, stage);
+        drop_stage::<T, Making<F, Fut>, R>(cell, stage);
     }
 }
 

@@ -1,21 +1,20 @@
 //! What makes the value of a cell: a closure's future, or a value that is there.
 
 ghost use Rattle.std.specs.Prelude.{◌≡◌, Some, IsOkAnd, IsSome};
-ghost use Rattle.once_cell_driver.specs.declared.maker.Purpose.TheVariants as purposes;
+ghost use Rattle.cell_core.specs.declared.maker.Purpose.TheVariants as purposes;
 ghost use Rattle.async_once_cell.specs.Closures.{CanMake, CanTry, MakeGives, MakeNeeds, TryGives, TryNeeds, is_new_make, is_new_try};
 
+use cell_core::{Maker, Right, Sealed};
 use futures::task::{Context, Poll};
 use futures::{Future, ready};
-use once_cell_driver::Maker;
 use std::convert::Infallible;
 use std::mem;
-use sync_program::once_cell::{Left, Maker as By, Position};
 
 /// A closure that answers a future of a value or a failure.
 #[derive(Drop)]
 pub enum Trying<F, Fut> {
-    /// It wasn't called.
-    Closure(F),
+    /// It wasn't called, and is so against the right to make alone.
+    Closure(Sealed<F>),
     /// It was called, and this is what it answered.
     Future(Fut),
     /// Its future was ready.
@@ -33,14 +32,16 @@ impl<T, E, F: FnOnce() -> Fut, Fut: Future<Output = Result<T, E>>> Maker<T, E> f
 
     ghost gives = { TryGives F.post Fut.gives };
 
-    fn first_place() -> Left<()> {
-        Left::Outside(Position::ToMake(By::Closure))
-    }
-
-    fn make(&mut self, cx: &mut Context<'_>) -> Poll<Result<T, E>> {
+    fn make(&mut self, cx: &mut Context<'_>, right: Right) -> Poll<Result<T, E>> {
         match mem::replace(self, Trying::Asked) {
-            Trying::Closure(closure) => *self = Trying::Future(closure()),
-            asked => *self = asked,
+            Trying::Closure(closure) => {
+                let closure = closure.open(right);
+                *self = Trying::Future(closure());
+            }
+            asked => {
+                drop(right);
+                *self = asked;
+            }
         }
         let Trying::Future(future) = self else {
             unreachable!()
@@ -54,8 +55,8 @@ impl<T, E, F: FnOnce() -> Fut, Fut: Future<Output = Result<T, E>>> Maker<T, E> f
 /// A closure that answers a future of a value.
 #[derive(Drop)]
 pub enum Making<F, Fut> {
-    /// It wasn't called.
-    Closure(F),
+    /// It wasn't called, and is so against the right to make alone.
+    Closure(Sealed<F>),
     /// It was called, and this is what it answered.
     Future(Fut),
     /// Its future was ready.
@@ -73,14 +74,16 @@ impl<T, F: FnOnce() -> Fut, Fut: Future<Output = T>> Maker<T, Infallible> for Ma
 
     ghost gives = { MakeGives F.post Fut.gives };
 
-    fn first_place() -> Left<()> {
-        Left::Outside(Position::ToMake(By::Closure))
-    }
-
-    fn make(&mut self, cx: &mut Context<'_>) -> Poll<Result<T, Infallible>> {
+    fn make(&mut self, cx: &mut Context<'_>, right: Right) -> Poll<Result<T, Infallible>> {
         match mem::replace(self, Making::Asked) {
-            Making::Closure(closure) => *self = Making::Future(closure()),
-            asked => *self = asked,
+            Making::Closure(closure) => {
+                let closure = closure.open(right);
+                *self = Making::Future(closure());
+            }
+            asked => {
+                drop(right);
+                *self = asked;
+            }
         }
         let Making::Future(future) = self else {
             unreachable!()
@@ -134,12 +137,9 @@ impl<T: Drop> Maker<T, Infallible> for Given<T> {
 
     ghost gives = { λ given made. IsOkAnd made (λ v. given.value ≡ Some v) };
 
-    fn first_place() -> Left<()> {
-        Left::Outside(Position::ToMake(By::Given(())))
-    }
-
-    fn make(&mut self, cx: &mut Context<'_>) -> Poll<Result<T, Infallible>> {
+    fn make(&mut self, cx: &mut Context<'_>, right: Right) -> Poll<Result<T, Infallible>> {
         let _ = cx;
+        drop(right);
         match self.value.take() {
             Some(value) => Poll::Ready(Ok(value)),
             None => unreachable!(),

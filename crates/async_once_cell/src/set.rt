@@ -3,17 +3,14 @@
 ghost use Rattle.std.specs.Prelude.{◌≡◌, ◌⊎◌, Some, false, true, None};
 ghost use Rattle.futures.specs.Task.{Keeps};
 ghost use Rattle.async_driver.specs.Turns.{OnPending};
-ghost use Rattle.once_cell_driver.specs.Sides.{IsReceipt};
 ghost use Rattle.async_once_cell.specs.Futures.{IsSet, IsTurn, OnMemory, value_in};
-ghost use Rattle.async_once_cell.specs.Stages.{CanDrop, maker_in};
-ghost use Rattle.std.specs.declared.convert.Infallible.{Infallible};
+ghost use Rattle.async_once_cell.specs.Stages.{CanDrop, HasReceiptActive, maker_in};
 
 use crate::cell::OnceCell;
 use crate::makers::Given;
-use crate::task::{Answer, Stage, drop_stage, poll_stage};
-use async_driver::{Polled, Turn, nothing};
+use crate::task::{Answer, Stage, drop_stage, give_back, poll_stage};
+use async_driver::{Polled, Turn};
 use futures::task::Context;
-use once_cell_driver::RawCell;
 use std::convert::Infallible;
 use std::fmt;
 use std::marker::Model;
@@ -34,15 +31,14 @@ impl<'a, T, R: Wait> Model for Set<'a, T, R> {
     ghost use Rattle.async_once_cell.specs.Futures.{Setting, setting};
     ghost use Rattle.async_once_cell.specs.Stages.{IsKept, future};
     ghost use Rattle.async_once_cell.specs.declared.cell.OnceCell.{OnceCell};
-    ghost use Rattle.once_cell_driver.specs.declared.maker.Purpose.TheVariants as purposes;
+    ghost use Rattle.cell_core.specs.declared.maker.Purpose.TheVariants as purposes;
     ghost use Rattle.std.specs.Prelude.{IsSome};
-    ghost use Rattle.std.specs.declared.convert.Infallible.{Infallible};
 
     ghost Value = { Setting (OnceCell T R) T };
 
     ghost view = { λ s. setting (future s.cell.now s.stage) };
 
-    ghost invariant = { λ s. IsKept T Infallible purposes.Sets (λ given. IsSome given.value) s.cell.now.raw s.stage };
+    ghost invariant = { λ s. IsKept purposes.Sets (λ given. IsSome given.value) s.cell.now.raw s.stage };
 }
 
 impl<'a, T: Drop, R: Wait> Set<'a, T, R> {
@@ -72,19 +68,15 @@ impl<'a, T: Drop, R: Wait> Set<'a, T, R> {
 
 // The value that a stage has, whose party gives back what it has.
 fn value_of<'a, T: Drop, R: Wait>(cell: &'a OnceCell<T, R>, stage: Stage<Given<T>>) -> Option<T>
-    requires { CanDrop T Infallible cell.now.raw stage }
+    requires { CanDrop cell.now.raw stage }
     ensures { result ≡ value_in (maker_in stage) }
 {
     let Stage { maker, waiting } = stage;
-    let Some(given) = maker else {
-        nothing(waiting);
-        return None;
-    };
-    let Some(resting) = waiting else {
-        return given.into_option();
-    };
-    let (party, place) = resting.resume::<T, Infallible, Given<T>>(given);
-    RawCell::withdraw(&cell.raw, &cell.rt, party, place).into_option()
+    give_back(cell, waiting);
+    match maker {
+        Some(given) => given.into_option(),
+        None => None,
+    }
 }
 
 impl<'a, T: Drop, R: Wait + Clock> Set<'a, T, R> {
@@ -105,16 +97,16 @@ impl<'a, T: Drop, R: Wait + Clock> Set<'a, T, R> {
         ensures cell { self.new.cell ≡ self.old.cell }
         ensures value { OnPending result (self.new.value ≡ self.old.value) }
         ensures stays { (self.new.value ≡ None) ⊎ (self.new.value ≡ self.old.value) }
-        ensures receipt { OnPending result (IsReceipt cx.new self.old.cell.raw.source self.old.cell.raw.active self.new.entry) }
+        ensures receipt { OnPending result (HasReceiptActive self.old.cell.raw cx.new self.new.entry) }
         ensures kept { Keeps cx.old cx.new }
     {
         let cell = self.cell;
-        match poll_stage(cell, &mut self.stage, cx) {
+        match poll_stage::<T, Infallible, Given<T>, R>(cell, &mut self.stage, cx) {
             Answer::Pending => Turn::Pending,
             Answer::Refused(refusal) => Turn::Refused(refusal),
             Answer::Value(value) => Turn::Ready(Ok(value)),
             Answer::Back(own, _) => Turn::Ready(Err(own)),
-            Answer::Kept(given) => Turn::Ready(Err(given.into_value())),
+            Answer::Kept(given, _) => Turn::Ready(Err(given.into_value())),
             Answer::Failed(_) => unreachable!(),
         }
     }
@@ -137,7 +129,7 @@ impl<'a, T: Drop, R: Wait + Clock> Polled for Set<'a, T, R> {
 impl<T: Drop, R: Wait> Drop for Set<'_, T, R> {
     fn drop(self) {
         let Self { cell, stage } = self;
-        drop_stage::<T, Infallible, Given<T>, R>(cell, stage);
+        drop_stage::<T, Given<T>, R>(cell, stage);
     }
 }
 

@@ -1,14 +1,15 @@
 //! What every future of a cell has: a maker, or a party that waits.
 
-ghost use Rattle.std.specs.Prelude.{◌≡◌, false, IfNone, IfSome};
+ghost use Rattle.std.specs.Prelude.{◌≡◌, false, Some, IfNone, IfSome};
 ghost use Rattle.futures.specs.Task.{Keeps};
-ghost use Rattle.async_once_cell.specs.Stages.{CanDrop, IsKept, OfMaker, OnAnswer, fresh_stage, future, is_over_in, maker_in, over};
+ghost use Rattle.async_once_cell.specs.Stages.{CanDrop, IsKept, KeptBy, OnAnswer, fresh_stage, future, is_over_in, maker_in, over};
+ghost use Rattle.cell_core.specs.Outcomes.{OnOutcome, RestsAt};
 
 use crate::cell::OnceCell;
-use async_driver::{nothing, put};
+use async_driver::put;
+use cell_core::{Maker, Outcome, Resting};
 use futures::task::Context;
 use lock_program::Refusal;
-use once_cell_driver::{Maker, Outcome, RawCell, Resting};
 use std::sync::Wait;
 use std::time::Clock;
 
@@ -43,8 +44,8 @@ pub enum Answer<'a, T, E, M> {
     Value(&'a T),
     /// The value that was to enter, and the one that was in the cell already.
     Back(T, &'a T),
-    /// The maker, which wasn't asked: the cell was full.
-    Kept(M),
+    /// The maker, which wasn't asked: the cell was full, of this value.
+    Kept(M, &'a T),
     /// How the maker failed.
     Failed(E),
 }
@@ -74,24 +75,18 @@ pub(crate) fn poll_stage<'a, T: Drop, E: Drop, M: Maker<T, E>, R: Wait + Clock>(
     stage: &mut Stage<M>,
     cx: &mut Context<'_>,
 ) -> Answer<'a, T, E, M>
-    requires stage { IsKept T E M.purpose M.is_new cell.now.raw stage.old }
-    requires ready { OfMaker M.purpose M.can_make (maker_in stage.old) }
-    ensures stage { IsKept T E M.purpose M.is_new cell.now.raw stage.new }
-    ensures ready { OfMaker M.purpose M.can_make (maker_in stage.new) }
+    requires stage { IsKept M.purpose M.is_new cell.now.raw stage.old }
+    requires ready { IfSome (maker_in stage.old) M.can_make }
+    ensures stage { IsKept M.purpose M.is_new cell.now.raw stage.new }
+    ensures ready { IfSome (maker_in stage.new) M.can_make }
     ensures answer { OnAnswer M.purpose M.is_new M.gives M.needs cell.now.raw cx.new (future cell.now stage.old) result (future cell.now stage.new) }
     ensures kept { Keeps cx.old cx.new }
 {
     let Some(maker) = stage.maker.take() else {
         return Answer::Refused(Refusal::Finished);
     };
-    let resting = match stage.waiting.take() {
-        Some(resting) => resting,
-        None => Resting::first(&cell.raw, &maker),
-    };
-    let (party, place) = resting.resume(maker);
-    match RawCell::poll(&cell.raw, &cell.rt, cx, party, place) {
-        Outcome::Waits(party, place) => {
-            let (resting, maker) = party.rest(&cell.raw, place);
+    match poll_on(cell, cx, maker, stage.waiting.take()) {
+        Outcome::Pending(maker, resting) => {
             stage.maker = Some(maker);
             put(&mut stage.waiting, resting);
             Answer::Pending
@@ -102,26 +97,43 @@ pub(crate) fn poll_stage<'a, T: Drop, E: Drop, M: Maker<T, E>, R: Wait + Clock>(
         }
         Outcome::Value(value) => Answer::Value(value),
         Outcome::Back(own, value) => Answer::Back(own, value),
-        Outcome::Kept(maker) => Answer::Kept(maker),
+        Outcome::Kept(maker, value) => Answer::Kept(maker, value),
         Outcome::Failed(fault) => Answer::Failed(fault),
     }
 }
 
-// What a dropped future of this cell gives back.
-pub(crate) fn drop_stage<'a, T: Drop, E: Drop, M: Drop, R: Wait>(
+// One poll of a party, with its maker.
+fn poll_on<'a, T: Drop, E: Drop, M: Maker<T, E>, R: Wait + Clock>(
     cell: &'a OnceCell<T, R>,
-    stage: Stage<M>,
-)
-    requires { CanDrop T E cell.now.raw stage }
+    cx: &mut Context<'_>,
+    maker: M,
+    waiting: Option<Resting>,
+) -> Outcome<'a, T, E, M>
+    requires kept { KeptBy M.purpose M.is_new cell.now.raw (Some maker) waiting }
+    requires ready { M.can_make maker }
+    ensures outcome { OnOutcome M.purpose M.is_new M.can_make M.gives M.needs maker cell.now.raw cx.new result }
+    ensures kept { Keeps cx.old cx.new }
+{
+    match waiting {
+        Some(resting) => cell.raw.poll_later(&cell.rt, cx, maker, resting),
+        None => cell.raw.poll_first(&cell.rt, cx, maker),
+    }
+}
+
+// What a dropped future of this cell gives back. What made the value is dropped first.
+pub(crate) fn drop_stage<'a, T: Drop, M: Drop, R: Wait>(cell: &'a OnceCell<T, R>, stage: Stage<M>)
+    requires { CanDrop cell.now.raw stage }
 {
     let Stage { maker, waiting } = stage;
-    let Some(maker) = maker else {
-        nothing(waiting);
-        return;
-    };
+    drop(maker);
+    give_back(cell, waiting);
+}
+
+// What a party gives back.
+pub(crate) fn give_back<'a, T: Drop, R: Wait>(cell: &'a OnceCell<T, R>, waiting: Option<Resting>)
+    requires { IfSome waiting (RestsAt cell.now.raw) }
+{
     if let Some(resting) = waiting {
-        let (party, place) = resting.resume::<T, E, M>(maker);
-        let seat = RawCell::cancel(&cell.raw, &cell.rt, party, place);
-        cell.raw.rise(seat);
+        cell.raw.cancel(&cell.rt, resting);
     }
 }

@@ -1,17 +1,18 @@
 //! A future that waits for a cell's value.
 
-ghost use Rattle.std.specs.Prelude.{◌≡◌, ⊤, true, false, None};
-ghost use Rattle.futures.specs.Task.{Covers, Keeps};
+ghost use Rattle.std.specs.Prelude.{◌≡◌, ⊤, true, false, None, IfSome};
+ghost use Rattle.futures.specs.Task.{Keeps};
 ghost use Rattle.async_driver.specs.Turns.{OnPending};
-ghost use Rattle.once_cell_driver.specs.Sides.{IsReceipt};
+ghost use Rattle.cell_core.specs.Cells.{IsOf};
+ghost use Rattle.cell_core.specs.Outcomes.{OnWaited};
 ghost use Rattle.async_once_cell.specs.Futures.{IsTurn, OnMemory};
+ghost use Rattle.async_once_cell.specs.Stages.{HasReceiptPassive};
 
 use crate::cell::OnceCell;
-use crate::task::{Answer, Stage, drop_stage, find, poll_stage};
-use async_driver::{Polled, Turn};
+use async_driver::{Polled, Turn, nothing, put};
+use cell_core::{Waited, Waiting};
 use futures::task::Context;
-use once_cell_driver::Nobody;
-use std::convert::Infallible;
+use lock_program::Refusal;
 use std::fmt;
 use std::marker::Model;
 use std::sync::Wait as Waits;
@@ -24,22 +25,23 @@ use std::time::Clock;
 /// (`entry`).
 pub struct Wait<'a, T, R: Waits> {
     cell: &'a OnceCell<T, R>,
-    stage: Stage<Nobody>,
+    is_over: bool,
+    // What its party has between two polls.
+    waiting: Option<Waiting>,
 }
 
 impl<'a, T, R: Waits> Model for Wait<'a, T, R> {
-    ghost use Rattle.async_once_cell.specs.Futures.{Waiting, waiting};
-    ghost use Rattle.async_once_cell.specs.Stages.{IsKept, future};
+    ghost use Rattle.std.specs.Prelude.{◌≡◌, true, is_some, false, IfSome};
+    ghost use Rattle.async_once_cell.specs.Futures.{Waiting as WaitingFor};
+    ghost use Rattle.async_once_cell.specs.Stages.{passive_of};
     ghost use Rattle.async_once_cell.specs.declared.cell.OnceCell.{OnceCell};
-    ghost use Rattle.once_cell_driver.specs.declared.maker.Purpose.TheVariants as purposes;
-    ghost use Rattle.std.specs.Prelude.{⊤};
-    ghost use Rattle.std.specs.declared.convert.Infallible.{Infallible};
+    ghost use Rattle.cell_core.specs.Cells.{IsOf};
 
-    ghost Value = { Waiting (OnceCell T R) };
+    ghost Value = { WaitingFor (OnceCell T R) };
 
-    ghost view = { λ w. waiting (future w.cell.now w.stage) };
+    ghost view = { λ w. record { cell = w.cell.now; is_over = w.is_over; entry = passive_of w.waiting } };
 
-    ghost invariant = { λ w. IsKept T Infallible purposes.Waits (λ _. ⊤) w.cell.now.raw w.stage };
+    ghost invariant = { λ w. IfSome w.waiting (λ q. IsOf w.cell.now.raw q.seat) × (w.is_over ≡ true → is_some w.waiting ≡ false) };
 }
 
 impl<'a, T: Drop, R: Waits> Wait<'a, T, R> {
@@ -48,8 +50,26 @@ impl<'a, T: Drop, R: Waits> Wait<'a, T, R> {
     {
         Wait {
             cell,
-            stage: Stage::new(Nobody),
+            is_over: false,
+            waiting: None,
         }
+    }
+}
+
+// One poll of a party that only waits.
+#[inline(never)]
+fn poll_on<'a, T: Drop, R: Waits + Clock>(
+    cell: &'a OnceCell<T, R>,
+    cx: &mut Context<'_>,
+    waiting: Option<Waiting>,
+) -> Waited<'a, T>
+    requires { IfSome waiting (λ q. IsOf cell.now.raw q.seat) }
+    ensures outcome { OnWaited cell.now.raw cx.new result }
+    ensures kept { Keeps cx.old cx.new }
+{
+    match waiting {
+        Some(waiting) => cell.raw.wait_later(&cell.rt, cx, waiting),
+        None => cell.raw.wait_first(&cell.rt, cx),
     }
 }
 
@@ -67,18 +87,31 @@ impl<'a, T: Drop, R: Waits + Clock> Wait<'a, T, R> {
         ensures over { self.old.is_over ≡ true → self.new ≡ self.old }
         ensures memory { OnMemory result (self.new.entry ≡ None) }
         ensures cell { self.new.cell ≡ self.old.cell }
-        ensures receipt { OnPending result (IsReceipt cx.new self.old.cell.raw.source self.old.cell.raw.passive self.new.entry) }
+        ensures receipt { OnPending result (HasReceiptPassive self.old.cell.raw cx.new self.new.entry) }
         ensures kept { Keeps cx.old cx.new }
     {
         let cell = self.cell;
-        if let Some(value) = find(cell, &mut self.stage) {
-            return Turn::Ready(value);
+        if self.is_over {
+            return Turn::Refused(Refusal::Finished);
         }
-        match poll_stage(cell, &mut self.stage, cx) {
-            Answer::Pending => Turn::Pending,
-            Answer::Refused(refusal) => Turn::Refused(refusal),
-            Answer::Value(value) => Turn::Ready(value),
-            Answer::Back(..) | Answer::Kept(_) | Answer::Failed(_) => unreachable!(),
+        let waiting = self.waiting.take();
+        if waiting.is_none() {
+            if let Some(value) = cell.get() {
+                nothing(waiting);
+                self.is_over = true;
+                return Turn::Ready(value);
+            }
+        }
+        match poll_on(cell, cx, waiting) {
+            Waited::Waits(waiting) => {
+                put(&mut self.waiting, waiting);
+                Turn::Pending
+            }
+            Waited::Refused => Turn::Refused(Refusal::Memory),
+            Waited::Value(value) => {
+                self.is_over = true;
+                Turn::Ready(value)
+            }
         }
     }
 }
@@ -97,8 +130,14 @@ impl<'a, T: Drop, R: Waits + Clock> Polled for Wait<'a, T, R> {
 
 impl<T: Drop, R: Waits> Drop for Wait<'_, T, R> {
     fn drop(self) {
-        let Self { cell, stage } = self;
-        drop_stage::<T, Infallible, Nobody, R>(cell, stage);
+        let Self {
+            cell,
+            is_over: _,
+            waiting,
+        } = self;
+        if let Some(waiting) = waiting {
+            cell.raw.cancel_wait(&cell.rt, waiting);
+        }
     }
 }
 

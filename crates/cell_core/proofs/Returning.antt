@@ -1,5 +1,5 @@
 -- What is known of lists that are about to be given back.
-use Rattle.std.proofs.Common.{◌≡◌, ◌≢◌, ℕ, ◌<◌, ◌≤◌, List, [], ◌∷◌, true, false, true≢false, refl, sym, ap, ◌∙◌, subst, Result, Ok, Err, IfOk, OnErr, MatchResult}
+use Rattle.std.proofs.Common.{◌≡◌, ◌≢◌, ℕ, ◌<◌, ◌≤◌, List, [], ◌∷◌, true, false, true≢false, refl, sym, ap, ◌∙◌, subst, Result, Ok, Err, IfOk, OnErr, MatchResult, inl}
 use Rattle.atomic_table.specs.Table.{Me, rest}
 use Rattle.words_cell.specs.Steps.{IsHeld, Out, Fewer, JoinedBy, LeftBy, StaysTold, CanJoinActive, CanJoinPassive, CanHear, CanLeave, CanPay, CanPayActive, CanPayPassive, CanStay}
 use Rattle.words_cell.specs.declared.view.View.{View}
@@ -9,6 +9,10 @@ use Rattle.cell_core.specs.Contents.{active_of, passive_of, marked_of, Says, Hav
 use Rattle.cell_core.specs.declared.heard.Heard.{Heard}
 use Rattle.cell_core.specs.declared.heard.Heard.TheVariants.{Told, Waits}
 use Rattle.cell_core.specs.declared.lists.Lists.{Lists}
+
+-- unchanged, they are kept
+pub kept : (lists : Lists) → AreKept lists lists
+kept lists = record { active = λ n h. h; passive = λ n h. h; told = λ some. inl some }
 
 module _ (m : Me Lists View) (held : IsHeld active_of passive_of marked_of m) where
   -- the slot that the seat took last is the lists'

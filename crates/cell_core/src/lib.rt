@@ -16,6 +16,7 @@ mod state;
 mod stored;
 mod turn;
 mod waiting;
+mod watch;
 mod whose;
 
 pub use cell::RawCell;
@@ -26,5 +27,6 @@ pub use queue::Queue;
 pub use seat::{Right, Seat};
 pub use state::State;
 pub use turn::{Making, Outcome, Resting, Waited, Waiting, WaitingToMake};
+pub use watch::{Side, Watched};
 pub use whose::Whose;
 pub use words_cell::{CellRule, Content, View, no_lost_wakeup};

@@ -11,10 +11,11 @@ ghost use Rattle.cell_core.specs.Receipts.{IsReceipt};
 use crate::due::{AllDue, Due};
 use crate::heard::Heard;
 use crate::lists::Lists;
+use crate::watch::Side;
 use crate::whose::Whose;
 use atomic_table::Seat as TableSeat;
 use futures::task::{Context, Source, Waker};
-use lock_event::{EntryId, Memory};
+use lock_event::{EntryId, Mark, Memory};
 use std::alloc::Global;
 use words_cell::View;
 use words_cell::steps::{LIST_SLOT, Ruled};
@@ -222,4 +223,23 @@ pub(crate) fn next_due_in(shared: &Listing, inner: &mut Lister) -> (Due, u64)
     let due = lists.next_due();
     let says = lists.says();
     (due, says)
+}
+
+pub(crate) fn entry_in(
+    shared: &Listing,
+    inner: &mut Lister,
+    side: Side,
+    index: usize,
+) -> (Option<(EntryId, Mark)>, u64)
+    requires table { inner.old.table_id ≡ shared.now.table_id }
+    requires held { IsHeld active_of passive_of marked_of inner.old.me }
+    ensures table { inner.new.table_id ≡ inner.old.table_id }
+    ensures view { inner.new.me.0 ≡ inner.old.me.0 }
+    ensures others { rest inner.new.me.1 ≡ rest inner.old.me.1 }
+    ensures ready { CanStay active_of passive_of marked_of inner.new.me result.1 }
+{
+    let lists = inner.slot_mut(shared, LIST_SLOT);
+    let entry = lists.entry(side, index);
+    let says = lists.says();
+    (entry, says)
 }

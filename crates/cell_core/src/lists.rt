@@ -9,9 +9,10 @@ ghost use Rattle.cell_core.specs.Receipts.{IsReceipt};
 use crate::due::{AllDue, Due};
 use crate::heard::Heard;
 use crate::queue::Queue;
+use crate::watch::Side;
 use crate::whose::Whose;
 use futures::task::{Context, Source, Waker};
-use lock_event::{EntryId, Memory};
+use lock_event::{EntryId, Mark, Memory};
 use std::alloc::Global;
 use words_cell::Content;
 use words_cell::steps::ENTRIES;
@@ -150,6 +151,14 @@ impl Lists {
         match self.active.next_due() {
             Some(waker) => Due::of(Some(waker)),
             None => Due::of(self.passive.next_due()),
+        }
+    }
+
+    // The entry at this index of a list.
+    pub(crate) fn entry(&self, side: Side, index: usize) -> Option<(EntryId, Mark)> {
+        match side {
+            Side::Active => self.active.entry(index),
+            Side::Passive => self.passive.entry(index),
         }
     }
 }

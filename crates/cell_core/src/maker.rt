@@ -7,6 +7,7 @@ ghost use Rattle.cell_core.specs.Purposes.{IsAwaited};
 
 use crate::seat::Right;
 use futures::task::{Context, Poll};
+use std::marker::Model;
 
 /// What a party is there for that would make the value. No value of it is made: contracts name it.
 pub enum Purpose {
@@ -52,6 +53,12 @@ pub struct Sealed<F> {
     inner: F,
 }
 
+impl<F> Model for Sealed<F> {
+    ghost Value = { F };
+
+    ghost view = { λ s. s.inner };
+}
+
 impl<F: Drop> Drop for Sealed<F> {
     fn drop(self) {
         let Sealed { inner: _ } = self;
@@ -61,14 +68,14 @@ impl<F: Drop> Drop for Sealed<F> {
 impl<F> Sealed<F> {
     /// Seals it.
     pub fn new(inner: F) -> Sealed<F>
-        ensures { result.inner ≡ inner }
+        ensures { result ≡ inner }
     {
         Sealed { inner }
     }
 
     /// Opens it, against the right to make.
     pub fn open(self, right: Right) -> F
-        ensures { result ≡ self.inner }
+        ensures { result ≡ self }
     {
         drop(right);
         let Sealed { inner } = self;
