@@ -6,7 +6,7 @@ use Rattle.async_once_cell.specs.declared.task.Stage.{Stage}
 use Rattle.cell_core.specs.Cells.{Cell, IsOf, Seated}
 use Rattle.cell_core.specs.Outcomes.{RestsAt, RestsSo}
 use Rattle.cell_core.specs.Purposes.{IsSetting, OnSets}
-use Rattle.cell_core.specs.Receipts.{IsKept}
+use Rattle.cell_core.specs.Receipts as receipts
 use Rattle.cell_core.specs.declared.maker.Purpose.{Purpose}
 use Rattle.cell_core.specs.declared.maker.Purpose.TheVariants.{Makes, Sets}
 use Rattle.cell_core.specs.declared.turn.Resting.{Resting}
@@ -25,10 +25,10 @@ pub record Listed : Type 0 where
 -- The receipt of one that waits to make, or for the value: an entry in the cell's list of those, which keeps a waker of the task that the context
 -- polls; and the task has registered with the cell's source.
 abbrev pub HasReceiptActive : Cell → Context → Option Listed → Type 0
-HasReceiptActive cell cx entry = IsSomeAnd entry (λ e. IsOf cell e.seat × (e.seat.in_active ≡ true) × IsKept cx e.keeps) × Covers cx (λ s. s ≡ cell.source)
+HasReceiptActive cell cx entry = IsSomeAnd entry (λ e. IsOf cell e.seat × (e.seat.in_active ≡ true) × receipts.IsKept cx e.keeps) × Covers cx (λ s. s ≡ cell.source)
 
 abbrev pub HasReceiptPassive : Cell → Context → Option Listed → Type 0
-HasReceiptPassive cell cx entry = IsSomeAnd entry (λ e. IsOf cell e.seat × (e.seat.in_passive ≡ true) × IsKept cx e.keeps) × Covers cx (λ s. s ≡ cell.source)
+HasReceiptPassive cell cx entry = IsSomeAnd entry (λ e. IsOf cell e.seat × (e.seat.in_passive ≡ true) × receipts.IsKept cx e.keeps) × Covers cx (λ s. s ≡ cell.source)
 
 -- its cell, whether it was ready before, its entry in the cell's list of those that would make the value, and its maker
 pub record Future (C M : Type 0) : Type 0 where
