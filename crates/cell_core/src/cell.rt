@@ -249,8 +249,8 @@ impl<T> RawCell<T> {
     {
         match claim(&self.words.table.shared, &mut seat.inner) {
             EMPTY => State::Empty,
-            MAKING => State::Making,
-            _ => State::Full,
+            FULL => State::Full,
+            _ => State::Making,
         }
     }
 
@@ -290,8 +290,8 @@ impl<T> RawCell<T> {
         empty(&self.words.table.shared, &mut seat.inner);
     }
 
-    // Makes a full cell empty: one exchange. Returns whether it was full.
-    fn empty_full(&self, seat: &mut Seat) -> bool
+    /// Makes a full cell empty, for whoever takes its value out: one exchange. Returns whether it was full.
+    pub fn empty_full(&self, seat: &mut Seat) -> bool
         requires of { IsOf self.now seat.old }
         ensures took { result ≡ true → seat.new ≡ record seat.old { found = 2; taken = seat.old.taken + 1 } }
         ensures not { result ≡ false → seat.new ≡ record seat.old { found = seat.new.found } }

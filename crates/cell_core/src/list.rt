@@ -35,7 +35,8 @@ pub(crate) fn notify(event: &mut Event<Waker>) -> Option<Waker>
 pub(crate) fn notify_all(event: &mut Event<Waker>, alloc: Global) -> AllDue
     ensures { AreTold event.new.entries }
 {
-    event.notify_additional(event.len());
+    let all = event.len();
+    event.notify_additional(all);
     all_due(event, alloc)
 }
 

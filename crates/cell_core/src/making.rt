@@ -153,7 +153,7 @@ impl<T> RawCell<T> {
         value
     }
 
-    // RefuseActive, of a party for whose entry there was no memory: it notifies, if it took a notification during this poll.
+    // Refuses a party for whose entry there was no memory: it notifies, if it took a notification during this poll.
     #[cold]
     #[inline(never)]
     fn refuse<R: Wait>(&self, rt: &R, seat: Seat, told: bool)
@@ -161,6 +161,7 @@ impl<T> RawCell<T> {
         requires between { IsBetween told seat }
     {
         let mut seat = seat;
+        // RefuseActive
         if told {
             self.notify_active(rt, &mut seat);
         }
@@ -201,7 +202,7 @@ impl<T> RawCell<T> {
         }
     }
 
-    // Fill, NotifyActive and NotifyPassive: a value enters the cell, and then the word says so, by the seat that makes. Should a value
+    // Fill, and what follows: a value enters the cell, and then the word says so, by the seat that makes. Should a value
     // stand there already, that one stays, and this one comes back.
     fn enter<'a, R: Wait>(&'a self, rt: &R, seat: Seat, value: T) -> (OnceToken<'a, T>, Option<T>)
         requires of { IsOf self.now seat }
@@ -212,21 +213,26 @@ impl<T> RawCell<T> {
         let mut seat = seat;
         let (shown, back) = self.put(rt, &seat, value);
         self.fill(&mut seat, &shown);
+        // NotifyActive
         if self.may_have_entries(&mut seat) {
             self.notify_all_active(rt, &mut seat);
+        }
+        // NotifyPassive
+        if self.may_have_entries(&mut seat) {
             self.notify_all_passive(rt, &mut seat);
         }
         seat.rise();
         (shown, back)
     }
 
-    // Fail and FailNotify, or CancelMake and CancelNotify: the cell is empty again, by the seat that makes.
+    // Fail, or a cancel, and what follows: the cell is empty again, by the seat that makes.
     fn give_up<R: Wait>(&self, rt: &R, seat: Seat)
         requires of { IsOf self.now seat }
         requires makes { IsMaking seat }
     {
         let mut seat = seat;
         self.empty(&mut seat);
+        // FailNotify, or CancelNotify
         if self.may_have_entries(&mut seat) {
             self.notify_active(rt, &mut seat);
         }
@@ -250,6 +256,7 @@ impl<T> RawCell<T> {
             }
             Resting::Makes(making) => {
                 let Making { seat } = making;
+                // CancelMake
                 self.give_up(rt, seat);
             }
         }

@@ -1,6 +1,7 @@
 //! Who waits, who makes, and how a poll went.
 
 ghost use Rattle.std.specs.Prelude.{◌≡◌, true, false};
+ghost use Rattle.cell_core.specs.Cells.{IsMaking, WaitsActive, WaitsPassive};
 
 use crate::seat::Seat;
 use crate::whose::Whose;
@@ -17,6 +18,16 @@ pub struct WaitingToMake {
     ghost idle: { (seat.makes ≡ false) × (seat.owes ≡ false) × (seat.owes_active ≡ false) × (seat.owes_passive ≡ false) × (seat.in_active ≡ true) × (seat.in_passive ≡ false) × (seat.fresh ≡ false) × (seat.entry ≡ id.number) },
 }
 
+impl WaitingToMake {
+    /// Puts together whoever waits by this seat, with its entry.
+    pub fn of(seat: Seat, id: EntryId, whose: Whose) -> WaitingToMake
+        requires { WaitsActive id.number seat }
+        ensures { (result.seat ≡ seat) × (result.whose ≡ whose) }
+    {
+        WaitingToMake { seat, id, whose }
+    }
+}
+
 /// A party that only waits for the value, between two polls. It is as [`WaitingToMake`], in the other list.
 pub struct Waiting {
     pub(crate) seat: Seat,
@@ -25,10 +36,30 @@ pub struct Waiting {
     ghost idle: { (seat.makes ≡ false) × (seat.owes ≡ false) × (seat.owes_active ≡ false) × (seat.owes_passive ≡ false) × (seat.in_active ≡ false) × (seat.in_passive ≡ true) × (seat.fresh ≡ false) × (seat.entry ≡ id.number) },
 }
 
+impl Waiting {
+    /// Puts together whoever waits by this seat, with its entry.
+    pub fn of(seat: Seat, id: EntryId, whose: Whose) -> Waiting
+        requires { WaitsPassive id.number seat }
+        ensures { (result.seat ≡ seat) × (result.whose ≡ whose) }
+    {
+        Waiting { seat, id, whose }
+    }
+}
+
 /// A party that makes the value, whose maker is pending: its seat has the right to make, and nothing else. It has no `Drop`.
 pub struct Making {
     pub(crate) seat: Seat,
     ghost makes: { (seat.makes ≡ true) × (seat.owes ≡ false) × (seat.owes_active ≡ false) × (seat.owes_passive ≡ false) × (seat.in_active ≡ false) × (seat.in_passive ≡ false) × (seat.fresh ≡ false) },
+}
+
+impl Making {
+    /// Puts together whoever makes by this seat.
+    pub fn of(seat: Seat) -> Making
+        requires { IsMaking seat }
+        ensures { result.seat ≡ seat }
+    {
+        Making { seat }
+    }
 }
 
 /// What a party that would make the value has between two polls, beside its maker.

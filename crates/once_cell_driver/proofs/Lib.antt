@@ -1,3 +1,0 @@
-mod Stays
-mod Works
-mod Ends
