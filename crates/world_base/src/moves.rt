@@ -77,6 +77,12 @@ pub enum Call {
     Forget,
     /// Adds so many permits.
     AddPermits(u64),
+    /// The first poll of a take of an item of a pool.
+    Take,
+    /// Takes an item of a pool at once, or none.
+    TryTake,
+    /// The first poll of a give of a leased item.
+    Give,
     /// The first poll of an initialisation.
     Initialize,
     /// The first poll of a wait, on a cell or on a barrier.

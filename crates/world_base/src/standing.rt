@@ -38,6 +38,8 @@ pub enum Kind {
     Downgrade,
     /// Ends a guard's right for good.
     Forget,
+    /// The first poll of a future that gives a guard's right back.
+    Give,
     /// Leaves a value.
     Put,
     /// Drops the future or the guard.
@@ -71,12 +73,14 @@ impl Call {
             | Call::TryUpgradableRead
             | Call::TryWrite
             | Call::TryAcquire(_)
+            | Call::TryTake
             | Call::TrySet(_) => Kind::Try,
             Call::AddPermits(_) => Kind::Add,
             Call::Upgrade => Kind::Upgrade,
             Call::TryUpgrade => Kind::TryUpgrade,
             Call::Downgrade | Call::DowngradeToUpgradable => Kind::Downgrade,
             Call::Forget => Kind::Forget,
+            Call::Give => Kind::Give,
             Call::Put(_) => Kind::Put,
             Call::Drop => Kind::Drop,
             Call::Poll => Kind::LaterPoll,

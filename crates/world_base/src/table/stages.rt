@@ -22,6 +22,7 @@ pub(crate) fn may_begin(was: Rest, kind: Kind) -> bool
                 | Kind::TryUpgrade
                 | Kind::Downgrade
                 | Kind::Forget
+                | Kind::Give
                 | Kind::Put
                 | Kind::Drop
         ),
