@@ -7,14 +7,14 @@ use Rattle.world_base.specs.declared.moves.Call.TheVariants as call
 use Rattle.world_base.specs.declared.moves.Move.{Move}
 use Rattle.world_base.specs.declared.moves.What.{What}
 use Rattle.world_base.specs.declared.moves.What.TheVariants.{Begin, Go}
-use Rattle.world_base.specs.Rights.{Right, hold, read, upgradable, write, permit, lease}
+use Rattle.world_base.specs.Rights.{Right, hold, read, upgradable, write, permit}
 
 -- The right that a party's call, future or guard is for, and whether the party has it by its answers.
 pub record Account : Type 0 where
   pub seeks : Option Right
   pub has : Bool
 
--- The right that a call is for, of a party that sought this one before. A drop, a forget and a give are for none, and what is polled or put goes on seeking what it sought.
+-- The right that a call is for, of a party that sought this one before. A drop is for none, and what is polled or put goes on seeking what it sought.
 abbrev pub aim : Option Right → Call → Option Right
 aim s call.Lock = Some hold
 aim s call.TryLock = Some hold
@@ -30,9 +30,6 @@ aim s call.Downgrade = Some read
 aim s call.DowngradeToUpgradable = Some upgradable
 aim s (call.Acquire k) = Some permit
 aim s (call.TryAcquire k) = Some permit
-aim s call.Take = Some lease
-aim s call.TryTake = Some lease
-aim s call.Give = None
 aim s call.Drop = None
 aim s call.Forget = None
 aim s _ = s
@@ -52,7 +49,6 @@ takes_away (Begin call.TryUpgrade inputs) = true
 takes_away (Begin call.Downgrade inputs) = true
 takes_away (Begin call.DowngradeToUpgradable inputs) = true
 takes_away (Begin call.Forget inputs) = true
-takes_away (Begin call.Give inputs) = true
 takes_away (Begin call.Drop inputs) = true
 takes_away _ = false
 
