@@ -1,6 +1,6 @@
 -- The names that most proofs here cite, passed on from one place. Declares nothing.
 pub use Rattle.std.specs.List.{list_all, sum_by}
-pub use Rattle.std.proofs.Common.{◌≡◌, ℕ, true, false, Some, None, refl, ◌+◌, ◌⊎◌, inl, inr, if◌then◌else◌, Bool, List, [], ◌∷◌, ◌++◌, Option, arith, ap, sym, ◌∙◌, subst, ◌≢◌, zero, suc, ◌<◌, ◌≤◌, length, get_or, length-set, get_or-set_same, get_or-set_other, replicate, ◌-◌, ◌==◌, ◌||◌, is_some, ◌&&◌, is_none, map}
+pub use Rattle.std.proofs.Common.{◌≡◌, ℕ, true, false, Some, None, refl, ◌+◌, ◌⊎◌, inl, inr, if◌then◌else◌, Bool, List, [], ◌∷◌, ◌++◌, Option, arith, ap, sym, ◌∙◌, subst, ◌≢◌, zero, suc, ◌<◌, ◌≤◌, length, vec_capacity, get_or, length-set, get_or-set_same, get_or-set_other, replicate, ◌-◌, ◌==◌, ◌||◌, is_some, ◌&&◌, is_none, map}
 pub use Rattle.std.proofs.Math.Decide.{ℕ_discrete}
 pub use Rattle.std.proofs.Math.ListN.{set}
 pub use Rattle.std.proofs.lemmas.Bool.{false≢true, true≢false}
