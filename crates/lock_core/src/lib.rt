@@ -31,6 +31,11 @@ pub mod barrier {
     pub use world_barrier::{ListName, World};
 }
 
+/// A pool of items, from the crate `world_pool`.
+pub mod pool {
+    pub use world_pool::{ListName, World};
+}
+
 pub use lock_event::{Entry, Mark, Memory};
 pub use lock_program::Refusal;
 pub use world_base::{Answer, AnyWorld, Call, Got, Inputs, Made, Move, What};

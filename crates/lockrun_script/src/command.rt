@@ -63,6 +63,11 @@ pub enum Model {
         starved: Option<u64>,
         generations: Option<u64>,
     },
+    /// A pool of so many items, from 0 on, with so many parties.
+    Pool {
+        parties: u32,
+        items: u32,
+    },
 }
 
 /// What is asked of a World.
@@ -89,6 +94,9 @@ pub enum Request {
 
 /// The greatest number of parties that a line may ask for.
 pub const PARTIES: u64 = 64;
+
+/// The greatest number of items that a line may ask for.
+pub const ITEMS: u64 = 64;
 
 /// The command of a line that is neither empty nor a comment. A line that is no command is none: one with
 /// a byte that isn't printable or with a space at an end, an unknown word, a missing or spare number, a
@@ -126,6 +134,7 @@ fn of_verb(words: &mut Words<'_>, verb: Verb) -> Option<Command>
         Verb::Semaphore => semaphore(words),
         Verb::Cell => cell(words),
         Verb::Barrier => barrier(words),
+        Verb::Pool => pool(words),
         Verb::Begin => begin(words),
         Verb::Go => go(words),
         Verb::Do => poll_whole(words),
@@ -169,6 +178,17 @@ fn cell(words: &mut Words<'_>) -> Option<Command>
     let parties = parties(words)?;
     end(words)?;
     Some(Command::New(Model::Cell { parties }))
+}
+
+/// A pool, by the words after its name.
+fn pool(words: &mut Words<'_>) -> Option<Command>
+    ensures words { IfSome result (λ c. (verb_of c ≡ Verb.Pool) × Details words.old c) }
+    ensures asked { (c : Command) → verb_of c ≡ Verb.Pool → Details words.old c → result ≡ Some c }
+{
+    let parties = parties(words)?;
+    let items = items(words)?;
+    end(words)?;
+    Some(Command::New(Model::Pool { parties, items }))
 }
 
 /// The number of parties, the number after it, and the limit that the words left write, all of them.
@@ -433,6 +453,9 @@ fn plain_call(word: &[u8]) -> Option<Call>
         _ if is(word, b"wait") => Some(Call::Wait),
         _ if is(word, b"poll") => Some(Call::Poll),
         _ if is(word, b"drop") => Some(Call::Drop),
+        _ if is(word, b"take") => Some(Call::Take),
+        _ if is(word, b"trytake") => Some(Call::TryTake),
+        _ if is(word, b"give") => Some(Call::Give),
         _ => None,
     }
 }

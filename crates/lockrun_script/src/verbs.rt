@@ -18,6 +18,8 @@ pub enum Verb {
     Cell,
     /// A new barrier.
     Barrier,
+    /// A new pool.
+    Pool,
     /// A call begins.
     Begin,
     /// A call goes on.
@@ -43,6 +45,7 @@ pub fn named(word: &[u8]) -> Option<Verb>
         _ if is(word, b"semaphore") => Some(Verb::Semaphore),
         _ if is(word, b"cell") => Some(Verb::Cell),
         _ if is(word, b"barrier") => Some(Verb::Barrier),
+        _ if is(word, b"pool") => Some(Verb::Pool),
         _ if is(word, b"begin") => Some(Verb::Begin),
         _ if is(word, b"go") => Some(Verb::Go),
         _ if is(word, b"do") => Some(Verb::Do),

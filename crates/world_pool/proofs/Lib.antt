@@ -1,2 +1,5 @@
 mod Prelude
 pub mod of_machine
+pub mod table
+pub mod step
+pub mod laws

@@ -1,2 +1,12 @@
 pub mod program
 pub mod machine
+pub mod State
+pub mod View
+pub mod Legal
+pub mod AtOnce
+pub mod Laws
+pub mod Steps
+pub mod Runs
+pub mod Whole
+pub mod Bound
+pub mod Openings

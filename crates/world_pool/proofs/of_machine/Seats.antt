@@ -198,4 +198,3 @@ pops_bare _ h = absurd (false≢true h)
 pub loses_leased : (x : Place) → is_loss (action_of x) ≡ true → is_leased (At x) ≡ true
 loses_leased Lose h = refl
 loses_leased _ h = absurd (false≢true h)
-

@@ -181,6 +181,13 @@ impl Pool {
         self.items.get(index).copied()
     }
 
+    /// Where a party stands in its program; None past the last.
+    pub fn position_of(&self, party: u32) -> Option<Position>
+        ensures { result ≡ slice_get self.now.positions party }
+    {
+        self.positions.get(party as usize).copied()
+    }
+
     /// The item that a party has leased.
     pub fn lease(&self, party: u32) -> Option<u64>
         ensures { result ≡ lease_at self.now.leases party }

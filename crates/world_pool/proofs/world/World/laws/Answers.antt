@@ -1,0 +1,9 @@
+-- What holds of the table holds as callers see it.
+use Rattle.world_pool.proofs.laws.Sound.{sound, awake}
+use Rattle.world_pool.proofs.world.World.laws.Goals as goal
+
+pub returns-clause-sound : goal.returns-clause-sound
+returns-clause-sound c = rw (← c.self.view_is) (sound c.self.inside.table (rw c.machine.ensures at c.laws-2.ensures) c.laws.ensures.fits)
+
+pub returns-clause-awake : goal.returns-clause-awake
+returns-clause-awake c = rw (← c.self.view_is) (λ rests. awake c.self.inside.table (rw c.machine.ensures at c.laws-2.ensures) c.laws.ensures.fits rests)
