@@ -90,6 +90,9 @@ named_call word =
     if bytes_eq word (codes "wait") then Some call.Wait else
     if bytes_eq word (codes "poll") then Some call.Poll else
     if bytes_eq word (codes "drop") then Some call.Drop else
+    if bytes_eq word (codes "take") then Some call.Take else
+    if bytes_eq word (codes "trytake") then Some call.TryTake else
+    if bytes_eq word (codes "give") then Some call.Give else
     None
 
 named : (word : List ℕ) (c : Call) → IsWordOf word c → named_call word ≡ Some c
@@ -111,6 +114,9 @@ named word call.Initialize h = ap named_call h
 named word call.Wait h = ap named_call h
 named word call.Poll h = ap named_call h
 named word call.Drop h = ap named_call h
+named word call.Take h = ap named_call h
+named word call.TryTake h = ap named_call h
+named word call.Give h = ap named_call h
 named word (call.Acquire n) h = absurd h
 named word (call.TryAcquire n) h = absurd h
 named word (call.Put n) h = absurd h

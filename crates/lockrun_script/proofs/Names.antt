@@ -3,7 +3,7 @@ use Rattle.std.proofs.Common.{◌≡◌, ℕ, List, refl, sym, ◌∙◌, ap}
 use Rattle.std.specs.Prelude.{if◌then◌else◌, Option, None, Some, bytes_eq, codes}
 use Rattle.lockrun_script.specs.Verbs.{name_of}
 use Rattle.lockrun_script.specs.declared.verbs.Verb.{Verb}
-use Rattle.lockrun_script.specs.declared.verbs.Verb.TheVariants.{Mutex, RwLock, Semaphore, Cell, Barrier, Begin, Go, Do, GetMut, Take, Show}
+use Rattle.lockrun_script.specs.declared.verbs.Verb.TheVariants.{Mutex, RwLock, Semaphore, Cell, Barrier, Pool, Begin, Go, Do, GetMut, Take, Show}
 
 -- the verb that a word names
 verb_named : List ℕ → Option Verb
@@ -13,6 +13,7 @@ verb_named word =
     if bytes_eq word (codes "semaphore") then Some Semaphore else
     if bytes_eq word (codes "cell") then Some Cell else
     if bytes_eq word (codes "barrier") then Some Barrier else
+    if bytes_eq word (codes "pool") then Some Pool else
     if bytes_eq word (codes "begin") then Some Begin else
     if bytes_eq word (codes "go") then Some Go else
     if bytes_eq word (codes "do") then Some Do else
@@ -28,6 +29,7 @@ own_name RwLock = refl
 own_name Semaphore = refl
 own_name Cell = refl
 own_name Barrier = refl
+own_name Pool = refl
 own_name Begin = refl
 own_name Go = refl
 own_name Do = refl

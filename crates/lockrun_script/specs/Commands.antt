@@ -8,7 +8,7 @@ use Rattle.lockrun_script.specs.declared.verbs.Verb.{Verb}
 use Rattle.lockrun_script.specs.declared.verbs.Verb.TheVariants as verb
 use Rattle.lockrun_script.specs.declared.command.Command.{Command}
 use Rattle.lockrun_script.specs.declared.command.Command.TheVariants.{New, On}
-use Rattle.lockrun_script.specs.declared.command.Model.TheVariants.{Mutex, RwLock, Semaphore, Cell, Barrier}
+use Rattle.lockrun_script.specs.declared.command.Model.TheVariants.{Mutex, RwLock, Semaphore, Cell, Barrier, Pool}
 use Rattle.lockrun_script.specs.declared.command.Request.TheVariants.{Step, Whole, Put, Take, Show}
 use Rattle.lockrun_script.specs.Verbs.{name_of}
 use Rattle.lockrun_script.specs.Inputs.{WritesInputs}
@@ -48,6 +48,17 @@ pub record AreNumbersAndLimits (words : List (List ℕ)) (parties value : ℕ) (
   pub least : 1 ≤ parties
   pub most : parties ≤ 64
 
+-- the number of parties, from 1 to 64, and that of items, at most 64
+pub record ArePartiesAndItems (words : List (List ℕ)) (parties items : ℕ) : Type 0 where
+  pub first : List ℕ
+  pub second : List ℕ
+  pub are : words ≡ first ∷ second ∷ []
+  pub counts : Writes first parties
+  pub holds : Writes second items
+  pub least : 1 ≤ parties
+  pub most : parties ≤ 64
+  pub few : items ≤ 64
+
 -- the word of a call that takes no number
 abbrev pub IsWordOf : List ℕ → Call → Type 0
 IsWordOf word call.Lock = word ≡ codes "lock"
@@ -67,6 +78,9 @@ IsWordOf word call.Initialize = word ≡ codes "init"
 IsWordOf word call.Wait = word ≡ codes "wait"
 IsWordOf word call.Poll = word ≡ codes "poll"
 IsWordOf word call.Drop = word ≡ codes "drop"
+IsWordOf word call.Take = word ≡ codes "take"
+IsWordOf word call.TryTake = word ≡ codes "trytake"
+IsWordOf word call.Give = word ≡ codes "give"
 IsWordOf word _ = ⊥
 
 -- the word is that of a call which takes a number, and this is the call with that number
@@ -122,6 +136,7 @@ verb_of (New (RwLock parties value starved readers)) = verb.RwLock
 verb_of (New (Semaphore parties permits most)) = verb.Semaphore
 verb_of (New (Cell parties)) = verb.Cell
 verb_of (New (Barrier parties size starved generations)) = verb.Barrier
+verb_of (New (Pool parties items)) = verb.Pool
 verb_of (On (Step party (Begin call inputs))) = verb.Begin
 verb_of (On (Step party (Go inputs))) = verb.Go
 verb_of (On (Whole party call inputs)) = verb.Do
@@ -136,6 +151,7 @@ Details words (New (RwLock parties value starved readers)) = AreNumbersAndLimits
 Details words (New (Semaphore parties permits most)) = AreNumbersAndLimit words parties permits most
 Details words (New (Cell parties)) = (word : List ℕ) × (words ≡ word ∷ []) × Writes word parties × (1 ≤ parties) × (parties ≤ 64)
 Details words (New (Barrier parties size starved generations)) = AreNumbersAndLimits words parties size starved generations
+Details words (New (Pool parties items)) = ArePartiesAndItems words parties items
 Details words (On (Step party (Begin call inputs))) = AreOfCall words party call inputs
 Details words (On (Step party (Go inputs))) = AreOfGo words party inputs
 Details words (On (Whole party call inputs)) = AreOfCall words party call inputs

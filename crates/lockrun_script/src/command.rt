@@ -376,6 +376,18 @@ fn parties(words: &mut Words<'_>) -> Option<u32>
     }
 }
 
+/// The number of items, at most [`ITEMS`], that the next word writes.
+fn items(words: &mut Words<'_>) -> Option<u32>
+    ensures taken { IfSome result (λ n. (word : List ℕ) × (words.old ≡ word ∷ words.new) × Writes word n × (n ≤ 64)) }
+    ensures none { (word : List ℕ) (rest : List (List ℕ)) (n : ℕ) → words.old ≡ word ∷ rest → Writes word n
+        → n ≤ 64 → IsSome result }
+{
+    match number(words)? {
+        count if count <= ITEMS => Some(count as u32),
+        _ => None,
+    }
+}
+
 /// The call that the next word names, with the number that it takes.
 fn call(words: &mut Words<'_>) -> Option<Call>
     ensures words { IfSome result (λ c. BeginsWithCall words.old c words.new) }

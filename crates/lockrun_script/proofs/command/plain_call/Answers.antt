@@ -51,3 +51,12 @@ returns-then-is-16 c = let named = c.is-16.ensures.0 c.if-is-16.true in record {
 
 pub returns-then-is-17 : goal.returns-then-is-17
 returns-then-is-17 c = let named = c.is-17.ensures.0 c.if-is-17.true in record { word = named; asked = same_call c.args.word.now _ named }
+
+pub returns-then-is-18 : goal.returns-then-is-18
+returns-then-is-18 c = let named = c.is-18.ensures.0 c.if-is-18.true in record { word = named; asked = same_call c.args.word.now _ named }
+
+pub returns-then-is-19 : goal.returns-then-is-19
+returns-then-is-19 c = let named = c.is-19.ensures.0 c.if-is-19.true in record { word = named; asked = same_call c.args.word.now _ named }
+
+pub returns-then-is-20 : goal.returns-then-is-20
+returns-then-is-20 c = let named = c.is-20.ensures.0 c.if-is-20.true in record { word = named; asked = same_call c.args.word.now _ named }

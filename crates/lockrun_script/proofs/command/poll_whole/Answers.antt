@@ -6,7 +6,7 @@ use Rattle.world_base.specs.declared.moves.What.TheVariants.{Begin, Go}
 use Rattle.lockrun_script.specs.Commands.{verb_of, AreOfCall, Details}
 use Rattle.lockrun_script.specs.declared.command.Command.{Command}
 use Rattle.lockrun_script.specs.declared.command.Command.TheVariants.{New, On}
-use Rattle.lockrun_script.specs.declared.command.Model.TheVariants.{Mutex, RwLock, Semaphore, Cell, Barrier}
+use Rattle.lockrun_script.specs.declared.command.Model.TheVariants.{Mutex, RwLock, Semaphore, Cell, Barrier, Pool}
 use Rattle.lockrun_script.specs.declared.command.Request.TheVariants.{Step, Whole, Put, Take, Show}
 use Rattle.lockrun_script.specs.declared.verbs.Verb.TheVariants.{Do}
 use Rattle.lockrun_script.proofs.command.poll_whole.Goals as goal
@@ -28,6 +28,7 @@ whole_call words party call inputs asked (New (RwLock parties value starved read
 whole_call words party call inputs asked (New (Semaphore parties permits most)) v d = absurd cc
 whole_call words party call inputs asked (New (Cell parties)) v d = absurd cc
 whole_call words party call inputs asked (New (Barrier parties size starved generations)) v d = absurd cc
+whole_call words party call inputs asked (New (Pool parties items)) v d = absurd cc
 
 pub returns-clause-words : goal.returns-clause-words
 returns-clause-words c = (refl, c.in_ok-party.ensures.words)

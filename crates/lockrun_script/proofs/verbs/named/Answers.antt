@@ -33,3 +33,6 @@ returns-then-is-10 c = let named = c.is-10.ensures.0 c.if-is-10.true in record {
 
 pub returns-then-is-11 : goal.returns-then-is-11
 returns-then-is-11 c = let named = c.is-11.ensures.0 c.if-is-11.true in record { is = named; asked = same_verb c.args.word.now _ named }
+
+pub returns-then-is-12 : goal.returns-then-is-12
+returns-then-is-12 c = let named = c.is-12.ensures.0 c.if-is-12.true in record { is = named; asked = same_verb c.args.word.now _ named }
