@@ -10,7 +10,7 @@ use Rattle.std.proofs.lemmas.List.Splits.{slice_split_first}
 use Rattle.lockrun_play.specs.declared.world.World.{World}
 use Rattle.lockrun_script.specs.declared.command.Command.{Command}
 use Rattle.lockrun_script.specs.declared.command.Command.TheVariants.{New, On}
-use Rattle.lockrun_script.specs.declared.command.Model.TheVariants.{Mutex, RwLock, Semaphore, Cell, Barrier}
+use Rattle.lockrun_script.specs.declared.command.Model.TheVariants.{Mutex, RwLock, Semaphore, Cell, Barrier, Pool}
 use Rattle.lockrun_script.specs.declared.command.Request.{Request}
 use Rattle.lockrun_script.specs.declared.command.Request.TheVariants.{Step, Whole, Put, Take, Show}
 use Rattle.world_base.specs.declared.moves.What.TheVariants.{Begin, Go}
@@ -34,6 +34,7 @@ no_comment (New (RwLock parties value starved readers)) rest e = omega (arith, a
 no_comment (New (Semaphore parties permits most)) rest e = omega (arith, ap (λ l. get_or l 0 0) e)
 no_comment (New (Cell parties)) rest e = omega (arith, ap (λ l. get_or l 0 0) e)
 no_comment (New (Barrier parties size starved generations)) rest e = omega (arith, ap (λ l. get_or l 0 0) e)
+no_comment (New (Pool parties items)) rest e = omega (arith, ap (λ l. get_or l 0 0) e)
 no_comment (On (Step party (Begin call inputs))) rest e = omega (arith, ap (λ l. get_or l 0 0) e)
 no_comment (On (Step party (Go inputs))) rest e = omega (arith, ap (λ l. get_or l 0 0) e)
 no_comment (On (Whole party call inputs)) rest e = omega (arith, ap (λ l. get_or l 0 0) e)

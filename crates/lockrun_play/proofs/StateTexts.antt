@@ -1,7 +1,7 @@
 -- What is written of a state, grouped as it is told of.
 use Rattle.std.proofs.Common.{◌≡◌, ℕ, Bool, List, ◌++◌, append_assoc}
 use Rattle.std.specs.Prelude.{codes, decimal, if◌then◌else◌}
-use Rattle.lockrun_play.specs.States.{flag_text, mutex_text, rwlock_text, semaphore_text, barrier_text}
+use Rattle.lockrun_play.specs.States.{flag_text, mutex_text, rwlock_text, semaphore_text, barrier_text, pool_text, pool_lock_text}
 
 grouped_4 : (a b c d : List ℕ) → a ++ (b ++ (c ++ d)) ≡ ((a ++ b) ++ c) ++ d
 grouped_4 a b c d = simp append_assoc
@@ -25,6 +25,12 @@ rwlock_is turn turn_digit starved writer writer_digit readers value is_turn is_w
 
 pub semaphore_is : (available limit : ℕ) → codes "semaphore available=" ++ (decimal available ++ (codes " limit=" ++ decimal limit)) ≡ semaphore_text available limit
 semaphore_is available limit = grouped_4 (codes "semaphore available=") (decimal available) (codes " limit=") (decimal limit)
+
+pub pool_is : (available limit : ℕ) → codes "pool available=" ++ (decimal available ++ (codes " limit=" ++ decimal limit)) ≡ pool_text available limit
+pool_is available limit = grouped_4 (codes "pool available=") (decimal available) (codes " limit=") (decimal limit)
+
+pub pool_lock_is : (locked : Bool) (digit starved : ℕ) → digit ≡ (if locked then 1 else 0) → codes " locked=" ++ (decimal digit ++ (codes " starved=" ++ decimal starved)) ≡ pool_lock_text locked starved
+pool_lock_is locked digit starved is_locked = rw is_locked (grouped_4 (codes " locked=") (flag_text locked) (codes " starved=") (decimal starved))
 
 pub barrier_is : (count generation : ℕ) (locked : Bool) (digit starved : ℕ) → digit ≡ (if locked then 1 else 0) → codes "barrier count=" ++ (decimal count ++ (codes " generation=" ++ (decimal generation ++ (codes " locked=" ++ (decimal digit ++ (codes " starved=" ++ decimal starved)))))) ≡ barrier_text count generation locked starved
 barrier_is count generation locked digit starved is_locked =

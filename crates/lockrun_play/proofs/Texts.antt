@@ -5,8 +5,6 @@ use Rattle.std.proofs.lemmas.Option.{slice_get_within, get_or_from_slice_get}
 use Rattle.std.specs.Prelude.{Option, Some, None, Result, Ok, Err, OnOk, map, take, slice_get}
 use Rattle.std.specs.Io.KnownBytes.{Appends}
 use Rattle.std.specs.List.{join_with_byte}
-use Rattle.lock_event.specs.declared.event.Entry.{Entry}
-use Rattle.lockrun_play.specs.Answers.{entry_text}
 
 -- a text, and then more of it
 pub Appends-more : (a b c : Option (List ℕ)) (first more whole : List ℕ) → Appends a b first → Appends b c more → first ++ more ≡ whole → Appends a c whole
@@ -48,12 +46,12 @@ taken : {A : Type 0} (xs : List A) (i : ℕ) (x : A) → slice_get xs i ≡ Some
 taken xs i x e = take_more xs i x (slice_get_within xs i x e) ∙ ap (λ y. take i xs ++ y ∷ []) (get_or_from_slice_get xs i x x e)
 
 -- the texts of the entries up to this one are those before it, its gap, and its own
-pub listed_more : (entries : List (Entry ℕ)) (i : ℕ) (e : Entry ℕ) → slice_get entries i ≡ Some e → join_with_byte 32 (map entry_text (take i entries)) ++ (gap_at i ++ entry_text e) ≡ join_with_byte 32 (map entry_text (take (i + 1) entries))
-listed_more entries i e s =
+pub listed_more : {A : Type 0} (text : A → List ℕ) (entries : List A) (i : ℕ) (e : A) → slice_get entries i ≡ Some e → join_with_byte 32 (map text (take i entries)) ++ (gap_at i ++ text e) ≡ join_with_byte 32 (map text (take (i + 1) entries))
+listed_more text entries i e s =
     let here : i < length entries = slice_get_within entries i e s in
-    let many : length (map entry_text (take i entries)) ≡ i = length-map (take i entries) entry_text ∙ length-take-le i entries (omega arith) in
-    let more : map entry_text (take (i + 1) entries) ≡ map entry_text (take i entries) ++ entry_text e ∷ [] = ap (map entry_text) (taken entries i e s) ∙ map-append entry_text (take i entries) (e ∷ []) in
-    sym (ap (join_with_byte 32) more ∙ join_at (map entry_text (take i entries)) (entry_text e) ∙ ap (λ n. join_with_byte 32 (map entry_text (take i entries)) ++ (gap_at n ++ entry_text e)) many)
+    let many : length (map text (take i entries)) ≡ i = length-map (take i entries) text ∙ length-take-le i entries (omega arith) in
+    let more : map text (take (i + 1) entries) ≡ map text (take i entries) ++ text e ∷ [] = ap (map text) (taken entries i e s) ∙ map-append text (take i entries) (e ∷ []) in
+    sym (ap (join_with_byte 32) more ∙ join_at (map text (take i entries)) (text e) ∙ ap (λ n. join_with_byte 32 (map text (take i entries)) ++ (gap_at n ++ text e)) many)
 
 -- where no entry stands, the list is over
 pub listed_all : {A : Type 0} (xs : List A) (i : ℕ) → slice_get xs i ≡ None → length xs ≤ i

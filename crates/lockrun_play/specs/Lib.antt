@@ -7,6 +7,7 @@ pub mod RwLock
 pub mod Semaphore
 pub mod Cell
 pub mod Barrier
+pub mod Pool
 pub mod Worlds
 pub mod Faults
 pub mod Scripts

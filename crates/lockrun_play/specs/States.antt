@@ -24,6 +24,16 @@ abbrev pub semaphore_text : ℕ → ℕ → List ℕ
 semaphore_text available limit = codes "semaphore available=" ++ decimal available
     ++ codes " limit=" ++ decimal limit
 
+-- a pool: how many permits are available, and how many there are
+abbrev pub pool_text : ℕ → ℕ → List ℕ
+pool_text available limit = codes "pool available=" ++ decimal available
+    ++ codes " limit=" ++ decimal limit
+
+-- and of the lock of its list whether somebody has it, and how many are starved for it
+abbrev pub pool_lock_text : Bool → ℕ → List ℕ
+pool_lock_text locked starved = codes " locked=" ++ flag_text locked
+    ++ codes " starved=" ++ decimal starved
+
 -- a once-cell: the value, or where there is none whether one is being made
 abbrev pub cell_text : Option ℕ → Bool → List ℕ
 cell_text (Some value) making = codes "cell full " ++ decimal value

@@ -20,14 +20,19 @@ use Rattle.world_barrier.specs.State as barrier
 use Rattle.world_barrier.specs.Steps as barrier_steps
 use Rattle.world_barrier.specs.Whole as barrier_whole
 use Rattle.world_barrier.specs.Bound as barrier_bound
+use Rattle.world_pool.specs.State as pool
+use Rattle.world_pool.specs.Steps as pool_steps
+use Rattle.world_pool.specs.Whole as pool_whole
+use Rattle.world_pool.specs.Bound as pool_bound
 use Rattle.lockrun_script.specs.declared.command.Request.{Request}
 use Rattle.lockrun_play.specs.declared.world.World.{World}
-use Rattle.lockrun_play.specs.declared.world.World.TheVariants.{Mutex, RwLock, Semaphore, Cell, Barrier}
+use Rattle.lockrun_play.specs.declared.world.World.TheVariants.{Mutex, RwLock, Semaphore, Cell, Barrier, Pool}
 use Rattle.lockrun_play.specs.Mutex as mutex_played
 use Rattle.lockrun_play.specs.RwLock as rwlock_played
 use Rattle.lockrun_play.specs.Semaphore as semaphore_played
 use Rattle.lockrun_play.specs.Cell as cell_played
 use Rattle.lockrun_play.specs.Barrier as barrier_played
+use Rattle.lockrun_play.specs.Pool as pool_played
 use Rattle.lockrun_play.specs.Requests.{Does}
 
 -- what is asked for leads to a World of the same lock, and is answered by this text
@@ -37,3 +42,4 @@ CarriesOut request (RwLock old) new text = (v : rwlock.World) × (new ≡ RwLock
 CarriesOut request (Semaphore old) new text = (v : semaphore.World) × (new ≡ Semaphore v) × Does semaphore_steps.Steps semaphore_whole.IsWholeCall semaphore_bound.Promises semaphore_played.put_gives semaphore_played.take_gives semaphore_played.text_of request old v text
 CarriesOut request (Cell old) new text = (v : cell.World) × (new ≡ Cell v) × Does cell_steps.Steps cell_whole.IsWholeCall cell_bound.Promises cell_played.put_gives cell_played.take_gives cell_played.text_of request old v text
 CarriesOut request (Barrier old) new text = (v : barrier.World) × (new ≡ Barrier v) × Does barrier_steps.Steps barrier_whole.IsWholeCall barrier_bound.Promises barrier_played.put_gives barrier_played.take_gives barrier_played.text_of request old v text
+CarriesOut request (Pool old) new text = (v : pool.World) × (new ≡ Pool v) × Does pool_steps.Steps pool_whole.IsWholeCall pool_bound.Promises pool_played.put_gives pool_played.take_gives pool_played.text_of request old v text

@@ -10,6 +10,7 @@ ghost use Rattle.lockrun_play.specs.Requests.{Does};
 mod barrier;
 mod cell;
 mod mutex;
+mod pool;
 mod rwlock;
 mod semaphore;
 

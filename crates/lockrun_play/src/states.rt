@@ -2,7 +2,7 @@
 
 ghost use Rattle.std.specs.Prelude.{OnOk};
 ghost use Rattle.std.specs.Io.KnownBytes.{Appends};
-ghost use Rattle.lockrun_play.specs.States.{barrier_text, cell_text, mutex_text, rwlock_text, semaphore_text};
+ghost use Rattle.lockrun_play.specs.States.{barrier_text, cell_text, mutex_text, pool_text, pool_lock_text, rwlock_text, semaphore_text};
 
 use std::io;
 use std::io::Write;
@@ -48,6 +48,21 @@ pub fn write_semaphore<O: Write>(available: u64, limit: u64, output: &mut O) -> 
     ensures { OnOk result (Appends (O.contents output.old) (O.contents output.new) (semaphore_text available limit)) }
 {
     write!(output, "semaphore available={available} limit={limit}")
+}
+
+/// Writes of a pool how many permits are available, and how many there are.
+pub fn write_pool<O: Write>(available: u64, limit: u64, output: &mut O) -> io::Result<()>
+    ensures { OnOk result (Appends (O.contents output.old) (O.contents output.new) (pool_text available limit)) }
+{
+    write!(output, "pool available={available} limit={limit}")
+}
+
+/// Writes of a pool whether somebody has the lock of its list, and how many are starved for that.
+pub fn write_pool_lock<O: Write>(locked: bool, starved: u32, output: &mut O) -> io::Result<()>
+    ensures { OnOk result (Appends (O.contents output.old) (O.contents output.new) (pool_lock_text locked starved)) }
+{
+    let locked = u8::from(locked);
+    write!(output, " locked={locked} starved={starved}")
 }
 
 /// Writes of a once-cell its value, or where it has none whether one is being made.

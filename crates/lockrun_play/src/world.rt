@@ -10,7 +10,7 @@ ghost use Rattle.lockrun_play.specs.Worlds.{CarriesOut};
 use crate::played;
 use lock_core::mutex::MOST_STARVED;
 use lock_core::rwlock::{MOST_READERS, MOST_STARVED_FOR_THE_TURN};
-use lock_core::{Refusal, barrier, cell, mutex, rwlock, semaphore};
+use lock_core::{Refusal, barrier, cell, mutex, pool, rwlock, semaphore};
 use lockrun_script::command::{Model, Request};
 use lockrun_script::limits::limit;
 use std::alloc::Global;
@@ -24,6 +24,7 @@ pub enum World {
     Semaphore(semaphore::World),
     Cell(cell::World),
     Barrier(barrier::World),
+    Pool(pool::World),
 }
 
 // By hand, so that a drop is one call to prove, and not all of its parts again.
@@ -35,6 +36,7 @@ impl Drop for World {
             World::Semaphore(world) => drop(world),
             World::Cell(world) => drop(world),
             World::Barrier(world) => drop(world),
+            World::Pool(world) => drop(world),
         }
     }
 }
@@ -71,6 +73,7 @@ impl World {
                 starved,
                 generations,
             } => new_barrier(alloc, parties, size, starved, generations),
+            Model::Pool { parties, items } => new_pool(alloc, parties, items),
         }
     }
 
@@ -86,6 +89,7 @@ impl World {
             World::Semaphore(world) => played::carry_out(request, world, output),
             World::Cell(world) => played::carry_out(request, world, output),
             World::Barrier(world) => played::carry_out(request, world, output),
+            World::Pool(world) => played::carry_out(request, world, output),
         }
     }
 }
@@ -159,4 +163,12 @@ fn new_barrier(
     let most = generations.unwrap_or(u64::MAX);
     let world = barrier::World::with_limits(alloc, parties, size, starved, most)?;
     Ok(World::Barrier(world))
+}
+
+/// A pool by the numbers of a line.
+fn new_pool(alloc: Global, parties: u32, items: u32) -> Result<World, Refusal>
+    ensures made { IfOk result (λ w. w ≡ world_of (model.Pool parties items)) }
+    ensures refused { IfErr result (λ r. r ≡ Refusal.Memory) }
+{
+    Ok(World::Pool(pool::World::new(alloc, parties, items)?))
 }

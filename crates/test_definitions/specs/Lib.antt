@@ -1,5 +1,6 @@
 pub mod Never
 pub mod Barrier
+pub mod Pool
 pub mod Cell
 pub mod Mutex
 pub mod ReadWrite

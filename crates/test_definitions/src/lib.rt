@@ -6,5 +6,6 @@
 mod barrier;
 mod cell;
 mod mutex;
+mod pool;
 mod rwlock;
 mod semaphore;

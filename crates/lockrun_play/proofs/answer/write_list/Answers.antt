@@ -16,7 +16,7 @@ loop-index-preserved g c =
       | then-index-eq0 w ↦ gap_first _ w.if-index-eq0.true ∙ ap (λ s. s.now) (sym w.gap-is)
       | else-index-eq0 w ↦ gap_later _ w.if-index-eq0.false ∙ ap (λ s. s.now) (sym w.gap-is)
     ] in
-    let more = listed_more (g.L.Listed.entries c.args.list.now) c.loop-index.index c.in-Some.entry (sym c.in-Some.ensures) in
+    let more = listed_more entry_text (g.L.Listed.entries c.args.list.now) c.loop-index.index c.in-Some.entry (sym c.in-Some.ensures) in
     Appends-more _ _ _ _ _ _ c.loop-index.invariant c.in_ok-write_entry.ensures
     (ap (λ t. 91 ∷ t) (ap (λ s. join_with_byte 32 (map entry_text (take c.loop-index.index (g.L.Listed.entries c.args.list.now))) ++ (s ++ entry_text c.in-Some.entry)) (sym gap) ∙ more))
 
