@@ -3,3 +3,4 @@ pub mod of_machine
 pub mod table
 pub mod step
 pub mod laws
+pub mod whole

@@ -40,8 +40,3 @@ ends_outside w m a v s ended possible = by_call (call_of w m) (is_poll_after_rea
   by_call None b e f = let no = s.legal.possible.exactly.1 e in absurd (cc (no, possible))
   by_call (Some u) true e f = ap (λ x. is_outside (standing_of x m.party)) (s.legal.ends_properly.after_ready f).1 ∙ after_poll (standing_of w m.party) m f
   by_call (Some u) false e f = by_answer (gives w m.party) u a (standing_of v m.party) ended (s.legal.ends_properly.stands u e f)
-
-pub keeps_promise : (known : ℕ → Option ℕ) (w : World) (p : ℕ) (c : Call) (i : Inputs) (n : ℕ) (a : Answer) (v : World) → Runs known w (moves_of p c i n) (answers_of n a) v → a ≢ Answer.Stepped → Promises w p c i a v
-keeps_promise known w p c i n a v runs ended =
-    let last = last_of Steps items_after HoldsWell known w p i n (Begin c i) a v runs in
-    record { sound = is_sound v last.legal.did.stands; awake = is_awake v last.legal.did.stands }

@@ -1,5 +1,6 @@
 -- What follows from a step of the World.
 use Rattle.world_pool.proofs.laws.WorldLaws as law
+use Rattle.world_pool.proofs.whole.Promises.{keeps_promise}
 use Rattle.world_pool.proofs.world.WorldAnyWorld.step_laws.Goals as goal
 
 pub returns : goal.returns
@@ -9,5 +10,5 @@ returns c = record {
   begins = law.begins_few;
   falls = law.falls;
   ends_outside = law.ends_outside;
-  keeps_promise = law.keeps_promise;
+  keeps_promise = keeps_promise;
 }

@@ -1,0 +1,3 @@
+-- What whole calls come to.
+pub mod Free
+pub mod Promises
