@@ -57,7 +57,8 @@ pub(crate) fn fit(event: &mut WeightedEvent<Waker>, available: u64) -> Option<Wa
 pub(crate) fn remove(event: &mut WeightedEvent<Waker>, id: EntryId) -> (bool, Option<Waker>)
     ensures { MatchBool result.0 (StaysSound event.old.entries event.new.entries) (StaysSound event.old.entries event.new.entries × HasLeft event.old.entries event.new.entries id.number) }
 {
-    event.withdraw(id)
+    let (was_notified, kept) = event.withdraw(id);
+    (was_notified, kept)
 }
 
 // An entry asks for its notification. One that waits keeps a waker of the task of `cx`, which registers with `source`.
