@@ -33,7 +33,7 @@ REFUSED = 400
 
 # The first allocation of what is tried, and the number after that of the last one: that run is refused nothing. (Of the workers' last
 # two allocations either may come first.)
-CALLS = (22, 155)
+CALLS = (22, 161)
 SCRIPT = (3, 36)
 THREADS = (4, 21)
 
@@ -57,10 +57,10 @@ HELD = {
     "semaphore_acquire_arc_blocking": 4,
     "semaphore_acquire_many_blocking": 4,
     "semaphore_acquire_many_arc_blocking": 4,
-    "cell_wait_blocking": 3,
-    "cell_set_blocking": 24,
-    "cell_get_or_init_blocking": 24,
-    "cell_get_or_try_init_blocking": 24,
+    "cell_wait_blocking": 4,
+    "cell_set_blocking": 25,
+    "cell_get_or_init_blocking": 25,
+    "cell_get_or_try_init_blocking": 25,
     "barrier_wait_blocking": 5,
 }
 BLOCKING = 9
