@@ -1,4 +1,4 @@
-"""A small model of the five locks, written from the tables of docs/PROGRAMS.md, which replays a script of scripts/.
+"""A small model of the five locks and of a pool, written from the tables of docs/PROGRAMS.md, which replays a script of scripts/.
 
 A call is a generator: it does one action, and yields where the call goes on; what it returns is the call's answer. It shares nothing
 with the programs in crates/, so answers that both give were had in two ways.
@@ -885,7 +885,132 @@ class Barrier(World):
         )
 
 
-WORLDS = {"mutex": Mutex, "rwlock": RwLock, "semaphore": Semaphore, "cell": Cell, "barrier": Barrier}
+class Pool(World):
+    first = ("take",)
+    others = ("trytake",)
+
+    def __init__(self, parties, number):
+        super().__init__(parties)
+        self.permits = Semaphore(0, number)
+        self.lock = Lock()
+        self.items = list(range(number))
+        for party in self.parties:
+            party.leased, party.paid = None, False
+
+    def poll(self, party):
+        return (yield from self.poll_give(party) if party.call == "give" else self.poll_take(party))
+
+    def poll_take(self, party):
+        if not party.paid:
+            answer = yield from self.permits.poll(party)
+            if answer != "ready":
+                return answer
+            party.paid = True
+            yield
+        result = yield from self.lock.poll(party)
+        if result == "got":
+            yield
+            return f"ready {(yield from self.pop(party))}"
+        if result != "pending":
+            yield
+            yield from self.give_permit(party)
+        return ended(party, result, None, None)
+
+    def pop(self, party):
+        party.leased = self.items.pop()
+        yield
+        yield from self.lock.release()
+        party.status = "holding"
+        return party.leased
+
+    def give_permit(self, party):
+        yield from self.permits.drop(party)
+        party.paid = False
+
+    def trytake(self, party, value):
+        party.value = value
+        if not self.permits.take_permits(party):
+            return "none"
+        party.paid = True
+        yield
+        if self.lock.take() != "free":
+            yield
+            yield from self.give_permit(party)
+            return "none"
+        yield
+        return f"granted {(yield from self.pop(party))}"
+
+    def give(self, party, _):
+        party.call, party.inner = "give", "Out"
+        return (yield from self.poll_give(party))
+
+    def poll_give(self, party):
+        result = yield from self.lock.poll(party)
+        if result != "got":
+            return ended(party, result, None, None)
+        yield
+        self.items.append(party.leased)
+        party.leased = None
+        yield
+        yield from self.lock.release()
+        yield
+        yield from self.give_permit(party)
+        return "given back"
+
+    def lose(self, party):
+        self.permits.limit -= 1
+        party.leased, party.paid = None, False
+        party.status = "idle"
+        return "given back"
+
+    def drop(self, party):
+        return self.lose(party)
+        yield
+
+    def cancel(self, party):
+        if party.call == "give":
+            if party.inner != "Out":
+                yield from self.lock.cancel(party)
+                yield
+            return self.lose(party)
+        if party.paid:
+            yield from self.lock.cancel(party)
+            yield
+            yield from self.give_permit(party)
+        else:
+            yield from self.permits.cancel(party)
+        return "given back"
+
+    def guard_calls(self, party):
+        return ("give",)
+
+    def getmut(self, value):
+        return None
+
+    def take(self):
+        return None
+
+    def place(self, party):
+        if party.call == "give" or party.paid:
+            return self.place_in(party, f"WaitLock, {party.inner}", self.lock.list)
+        return self.place_in(party, "Retake", self.permits.list)
+
+    def show(self):
+        permits, lock = self.permits, self.lock
+        return (
+            f"pool available={permits.available} limit={permits.limit} list={permits.list} "
+            f"locked={int(lock.held)} starved={lock.starved} lock={lock.list} items=[{' '.join(map(str, self.items))}]"
+        )
+
+
+WORLDS = {
+    "mutex": Mutex,
+    "rwlock": RwLock,
+    "semaphore": Semaphore,
+    "cell": Cell,
+    "barrier": Barrier,
+    "pool": Pool,
+}
 
 
 class Replay:
