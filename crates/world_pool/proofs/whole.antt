@@ -1,3 +1,4 @@
 -- What whole calls come to.
 pub mod Free
+pub mod Acquiring
 pub mod Promises

@@ -6,6 +6,7 @@ use Rattle.world_base.specs.Rosters.{how_many}
 use Rattle.world_base.specs.Standings.{is_outside}
 use Rattle.world_mutex.specs.machine.Mutex.{IsMutex, holders}
 use Rattle.world_semaphore.specs.machine.Permits.{IsPermits, IsFreeAndWanted}
+use Rattle.world_semaphore.specs.machine.Calls.{IsCalled}
 use Rattle.world_pool.specs.machine.Machine.{AreDifferent, how_many_leased}
 use Rattle.world_pool.specs.State.{World, standing_of, lease_of, available, limit, made, lost, HasPermit}
 use Rattle.world_pool.specs.Legal.{HasItsOwn}
@@ -29,4 +30,6 @@ pub record IsAwake (w : World) : Type 0 where
   pub free : holders w.lock ≡ 0
   pub balanced : length w.items ≡ available w + how_many w.seeking
   pub acquires : IsFreeAndWanted w.semaphore → 0 < marked_count w.semaphore.entries
+  -- and it is a pending take's
+  pub called : IsFreeAndWanted w.semaphore → (p : ℕ) × IsCalled w.semaphore p
   pub locks : 0 < length w.lock.entries → 0 < marked_count w.lock.entries

@@ -7,6 +7,7 @@ use Rattle.world_mutex.specs.machine.Course as lock
 use Rattle.world_mutex.specs.machine.Mutex as mutex
 use Rattle.world_semaphore.specs.machine.Permits as semaphore
 use Rattle.world_semaphore.specs.machine.Course as permit
+use Rattle.world_semaphore.proofs.of_machine.callers.InVain.{alone}
 use Rattle.world_pool.proofs.of_machine.Items.{lease_has}
 use Rattle.world_pool.proofs.table.Seen.{seekers}
 use Rattle.world_pool.proofs.step.Owns.{owns, one_guard}
@@ -77,5 +78,6 @@ module _ (t : Table Pool) (laws : IsPool t.machine) (fits : IsPoolTable t) where
         free = free;
         balanced = omega (arith, laws.rests positions, seekers t.machine.positions);
         acquires = laws.semaphore.wakes there;
+        called = (alone t.machine.permits laws.semaphore).some_called there;
         locks = laws.mutex.wakes here free;
       }

@@ -110,7 +110,7 @@ Way p e s = (x : Place) × (position_at s.positions p ≡ At x) × OnWay p e x s
 abbrev pub Ended : End → Answer → Type 0
 Ended e a = (l : Option ℕ) × (a ≡ answer_of (got_with l) e)
 
-never_stepped : (g : Got) (d : End) → answer_of g d ≡ Answer.Stepped → ⊥
+pub never_stepped : (g : Got) (d : End) → answer_of g d ≡ Answer.Stepped → ⊥
 never_stepped g End.Got e = cc e
 never_stepped g End.Granted e = cc e
 never_stepped g End.Pending e = cc e
@@ -124,7 +124,7 @@ then_onward p e (next.Do y) v a l is at h = record { going = λ st. (y, at, h); 
 then_onward p e (next.End d z) v a l is at h = record { going = λ st. absurd (never_stepped (got_with l) d (sym is ∙ st)); ended = λ ne. (l, is ∙ ap (answer_of (got_with l)) h) }
 
 -- a party that stands at a place is inside its call
-stage_inside : (st : Stage) (x : Place) → goes_with st (At x) ≡ true → (w : Within) × (st ≡ Inside w)
+pub stage_inside : (st : Stage) (x : Place) → goes_with st (At x) ≡ true → (w : Within) × (st ≡ Inside w)
 stage_inside (Inside w) x h = (w, refl)
 stage_inside (Outside Rest.Idle) x h = absurd (false≢true h)
 stage_inside (Outside Rest.Pending) x h = absurd (false≢true h)
@@ -149,7 +149,7 @@ module _ (x : World) (p : ℕ) (what : What) (a : Answer) (v : World) (s : Steps
       then_onward p e (next_of k.acts.from k.acts.found) v a (lease_at new.leases p) k.acts.answer at
       (goes (inputs_of what) p old new e k.acts.from k.acts.found way k.acts.acts.permits k.acts.acts.lock pl ll)
 
-inside_positions : (s : Pool) (p : ℕ) (x : Place) → position_at s.positions p ≡ At x → p < length s.positions
+pub inside_positions : (s : Pool) (p : ℕ) (x : Place) → position_at s.positions p ≡ At x → p < length s.positions
 inside_positions s p x e = elim (cases_lt p (length s.positions)) as (λ _. p < length s.positions) [ inl h ↦ h | inr h ↦ (let out : Out ≡ At x = sym (past_last s.positions p Out (omega arith)) ∙ e in absurd (cc out)) ]
 
 goes_on : (i : Inputs) (p : ℕ) (e : End) (x : World) (a : Answer) (v : World) → Way p e x.behind.machine → Steps x (going_on p i) a v → Onward (λ (y : World). Way p e y.behind.machine) (λ b (y : World). Ended e b) a v
