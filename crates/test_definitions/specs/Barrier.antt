@@ -408,12 +408,12 @@ pub record CountsUnwaited : Type 0 where
   pub starved : is_starved whole.new.lock whole.party ≡ true
   pub kept : Keeps whole
 
--- A newcomer's first poll leads its generation while another is starved for the inner lock.
+-- A newcomer's first poll has the inner lock while another is starved for it: it leads its generation, or is refused since it would.
 pub record OvertakesStarved : Type 0 where
   pub whole : Whole
   pub first : is_first_poll (standing_of whole.old whole.party) (Begin whole.call whole.inputs) (entries_in whole.old whole.party) ≡ true
   pub some_starved : 0 < how_many whole.old.lock.starved
-  pub ready : whole.answer ≡ answer.Ready (got.Leader true)
+  pub leads : (whole.answer ≡ answer.Ready (got.Leader true)) ⊎ (whole.answer ≡ refused refusal.Generations)
   pub kept : Keeps whole
 
 -- At rest a notified party that isn't starved has the inner lock before a starved one: it isn't starved afterwards.

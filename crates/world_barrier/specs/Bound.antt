@@ -115,8 +115,8 @@ pub record Promises (w : World) (p : ℕ) (c : Call) (inputs : Inputs) (a : Answ
   pub tells_nobody : inputs.starving ≡ false → how_many w.lock.starved ≡ 0 → a ≡ answer.Pending → 0 < entries_of p v.lock_list → MarksNobody p w.lock_list v.lock_list
   -- Nor is a first poll refused so then, whatever the clock says, nor its party starved at its end: it hasn't waited.
   pub first_patient : is_first_poll (standing_of w p) (Begin c inputs) (entries_in w p) ≡ true → how_many w.lock.starved ≡ 0 → (a ≢ refused refusal.Starved) × (is_starved v.lock p ≡ false)
-  -- Beside a starved party a first poll is pending, and its party is starved from then on; or it is refused.
-  pub newcomer : is_first_poll (standing_of w p) (Begin c inputs) (entries_in w p) ≡ true → 0 < how_many w.lock.starved → ((a ≡ answer.Pending) × (is_starved v.lock p ≡ true)) ⊎ (is_refusal a ≡ true)
+  -- Beside a starved party a first poll is pending, and its party is starved from then on; or it is refused, and not for what only the lock's holder finds.
+  pub newcomer : is_first_poll (standing_of w p) (Begin c inputs) (entries_in w p) ≡ true → 0 < how_many w.lock.starved → ((a ≡ answer.Pending) × (is_starved v.lock p ≡ true)) ⊎ ((a ≡ refused refusal.Memory) ⊎ (a ≡ refused refusal.Starved))
   -- A notified party that has waited for too long, or beside whom somebody is starved, is starved at its poll's end, where it found the lock held, if it finds memory and fewer are starved than may be.
   pub held : c ≡ call.Poll → IsSolo w p inputs → (inputs.starving ≡ true) ⊎ (0 < how_many w.lock.starved) → how_many w.lock.starved < w.starved_limit → w.lock.holder ≢ None → is_starved v.lock p ≡ true
   -- A refused poll of a party that stood in the inner lock's list hands on what it was told: some entry is marked, if there is any.

@@ -58,7 +58,7 @@ module _ (p : ℕ) (i : Inputs) (b : Bool) where
   Going z x = ⊥
 
   abbrev EndAs : Bool → Answer → Position → Barrier → Type 0
-  EndAs true a z y = ((a ≡ Answer.Pending) × (counted (there y) ≡ 1)) ⊎ (is_refusal a ≡ true)
+  EndAs true a z y = ((a ≡ Answer.Pending) × (counted (there y) ≡ 1)) ⊎ ((a ≡ refused Refusal.Memory) ⊎ (a ≡ refused Refusal.Starved))
   EndAs false a z y = (counted (there y) ≡ 0) ⊎ PastAt z p y
 
   inside : (z : Position) (x : Barrier) → Going z x → (y : Place) × (z ≡ At y)
@@ -73,8 +73,8 @@ module _ (p : ℕ) (i : Inputs) (b : Bool) where
   pends false a z y is e = inl (ap counted e)
 
   refuses : (c : Bool) (r : Refusal) (z : Position) (y : Barrier) → Takes (LockStep.End (LockEnd.Refused r)) (there y) → EndAs c (refused r) z y
-  refuses true Refusal.Memory z y h = inr refl
-  refuses true Refusal.Starved z y h = inr refl
+  refuses true Refusal.Memory z y h = inr (inl refl)
+  refuses true Refusal.Starved z y h = inr (inr refl)
   refuses false Refusal.Memory z y h = inl (ap counted h)
   refuses false Refusal.Starved z y h = inl (ap counted h)
   refuses c _ z y h = absurd h
@@ -158,11 +158,11 @@ module _ (known : ℕ → Account) (w : World) (p : ℕ) (c : Call) (i : Inputs)
   starved_then : is_starved v.lock p ≡ (counted (course_at v.behind.machine.lock.courses p) == 1)
   starved_then = ap (λ x. is_starved x.lock p) stands.seen ∙ sees.starved_at v.behind.machine.lock.courses p
 
-  pub newcomer : 0 < how_many w.lock.starved → ((a ≡ Answer.Pending) × (is_starved v.lock p ≡ true)) ⊎ (is_refusal a ≡ true)
+  pub newcomer : 0 < how_many w.lock.starved → ((a ≡ Answer.Pending) × (is_starved v.lock p ≡ true)) ⊎ ((a ≡ refused Refusal.Memory) ⊎ (a ≡ refused Refusal.Starved))
   newcomer some =
       let many : how_many w.lock.starved ≡ starved t.machine.lock = ap (λ x. how_many x.lock.starved) stood.seen ∙ sees.how_many_counted t.machine.lock.courses in
       let there = some_so (starved t.machine.lock) (omega (arith, some, many)) in
-      elim (ends true there).ended as (λ _. ((a ≡ Answer.Pending) × (is_starved v.lock p ≡ true)) ⊎ (is_refusal a ≡ true)) [
+      elim (ends true there).ended as (λ _. ((a ≡ Answer.Pending) × (is_starved v.lock p ≡ true)) ⊎ ((a ≡ refused Refusal.Memory) ⊎ (a ≡ refused Refusal.Starved))) [
         | inl q ↦ inl (q.0, starved_then ∙ ap (λ (k : ℕ). k == 1) q.1)
         | inr r ↦ inr r
       ]

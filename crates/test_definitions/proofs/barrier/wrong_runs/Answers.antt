@@ -1,5 +1,5 @@
 -- No wrong run of a barrier is legal.
-use Rattle.std.proofs.Common.{◌≡◌, ◌≢◌, Some, ℕ, zero, suc, ◌+◌, ◌*◌, ◌/◌, ◌%◌, ◌≤◌, inl, inr, if◌then◌else◌, Bool, true, false, List, [], ◌∷◌, arith, ap, sym, ◌∙◌, subst}
+use Rattle.std.proofs.Common.{◌≡◌, ◌≢◌, ◌⊎◌, Some, ℕ, zero, suc, ◌+◌, ◌*◌, ◌/◌, ◌%◌, ◌≤◌, inl, inr, if◌then◌else◌, Bool, true, false, List, [], ◌∷◌, arith, ap, sym, ◌∙◌, subst}
 use Rattle.std.proofs.Math.Nat.{mul_comm, div-add-mod}
 use Rattle.std.proofs.lemmas.Bool.{false≢true}
 use Rattle.std.proofs.lemmas.Nat.{le-div}
@@ -308,7 +308,14 @@ pub returns-clause-counts_unwaited : goal.returns-clause-counts_unwaited
 returns-clause-counts_unwaited c = λ r. false≢true (sym (r.kept.first_patient r.first r.none_starved).1 ∙ r.starved)
 
 pub returns-clause-overtakes_starved : goal.returns-clause-overtakes_starved
-returns-clause-overtakes_starved c = λ r. elim (r.kept.newcomer r.first r.some_starved) as (λ _. ⊥) [ inl waits ↦ (let pending = waits.0 in cc (pending, r.ready)) | inr turned ↦ (let ready = r.ready in cc (turned, ready)) ]
+returns-clause-overtakes_starved c = λ r. neither r.whole.answer r.leads (r.kept.newcomer r.first r.some_starved) where
+  neither : {P : Type 0} (a : Answer) → (a ≡ answer.Ready (got.Leader true)) ⊎ (a ≡ refused refusal.Generations) → ((a ≡ answer.Pending) × P) ⊎ ((a ≡ refused refusal.Memory) ⊎ (a ≡ refused refusal.Starved)) → ⊥
+  neither a (inl leads) (inl waits) = cc (leads, waits.0)
+  neither a (inl leads) (inr (inl memory)) = cc (leads, memory)
+  neither a (inl leads) (inr (inr starved)) = cc (leads, starved)
+  neither a (inr past) (inl waits) = cc (past, waits.0)
+  neither a (inr past) (inr (inl memory)) = cc (past, memory)
+  neither a (inr past) (inr (inr starved)) = cc (past, starved)
 
 pub returns-clause-two_told_of_lock : goal.returns-clause-two_told_of_lock
 returns-clause-two_told_of_lock c = λ r. (let one = r.sound.one_told in absurd (omega (arith, one, r.two)))
