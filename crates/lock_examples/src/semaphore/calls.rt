@@ -11,13 +11,13 @@ where
 {
     let semaphore = Semaphore::new(rt, 0)?;
     let is_empty = semaphore.try_acquire().is_none();
-    let given = semaphore.add_permits(2)?;
+    let added = semaphore.add_permits(2)?;
     let Some(guard) = semaphore.try_acquire() else {
         return Ok(false);
     };
     Ok(
         is_empty
-            && given.available() == 2
+            && added.available() == 2
             && guard.permits() == 1
             && semaphore.available_permits() == 1,
     )
