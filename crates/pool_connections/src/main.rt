@@ -1,7 +1,7 @@
 //! A pool of connections: four threads use two connections, each of which one has alone, by calls that block.
 #![tactic(auto)]
 
-use async_lock::Runtime;
+use async_driver::Runtime;
 use bounded_pool::{Lease, Pool, Refusal};
 use std::io;
 use std::process::ExitCode;

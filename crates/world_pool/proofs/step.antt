@@ -2,5 +2,6 @@
 pub mod Owns
 pub mod Ends
 pub mod Acting
+pub mod Vain
 pub mod AtOnce
 pub mod Stepping

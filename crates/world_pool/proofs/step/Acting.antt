@@ -361,7 +361,7 @@ module _ (t u : Table Pool) (m : Move) (a : Answer) (w : Within) (k : Acting t u
       let Q : Position → Type 0 = λ x. goes_with (stage_after Rest.Holding w a) x ≡ true in
       subst Q here_now (subst P own_stage (k.new_fits.stands p now_inside))
 
-  now_standing : standing_of (view_of u) p ≡ stands_as (verdict_in v p) (stage_after Rest.Holding w a)
+  pub now_standing : standing_of (view_of u) p ≡ stands_as (verdict_in v p) (stage_after Rest.Holding w a)
   now_standing = seen.standing_seen u p ∙ ap (stands_as (verdict_in v p)) own_stage
 
   -- who is answered with a lease has it

@@ -8,6 +8,7 @@ use Rattle.world_semaphore.specs.machine.Seats.{Share, guard_of}
 use Rattle.world_pool.specs.AtOnce.{is_try}
 use Rattle.world_pool.proofs.table.Seen as seen
 use Rattle.world_pool.proofs.step.Acting.{Acting, loss}
+use Rattle.world_pool.proofs.step.Vain.{vain_so}
 
 -- where such a call begins
 take_from : (s : Standing) (what : What) (x : Position) (from : Place) → is_first_take s what ≡ true → place_for what x ≡ Some from → from ≡ Acquire
@@ -69,6 +70,7 @@ module _ (t u : Table Pool) (m : Move) (a : Answer) (w : Within) (k : Acting t u
         let both = vainly (inputs_of m.what) p t.machine.permits u.machine.permits l k.found (subst P from k.acts.permits) in
         let same : a ≡ answer_by (next_of TryPermit k.found) l = k.answer ∙ ap (λ x. answer_by (next_of x k.found) l) from in
         ((λ e. both.0 (sym same ∙ e)), (λ less. same ∙ both.1 less)));
+    vain = λ d. vain_so t u m a w k d;
     drops = λ h. (
         let here = drop_from (verdict_in t.machine p) (stage_at t.stages p) m.what (position_at t.machine.positions p) k.from (ap (λ z. is_lease_drop z m.what) (sym (seen.standing_seen t p)) ∙ h) (k.old_fits.stands p k.inside) k.starts in
         let I : Place → Type 0 = λ x. OnItems (action_of x) t.machine.items (lease_at t.machine.leases p) u.machine.items (lease_at u.machine.leases p) in

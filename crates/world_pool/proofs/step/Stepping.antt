@@ -59,6 +59,7 @@ module _ (w : World) (m : Move) (well : (p : ℕ) → HasItsOwn w p (standing_of
 
   impossible_at_once : call_of w m ≡ None → AnswersAtOnce w m Answer.NotPossible w
   impossible_at_once none = record {
+    vain = λ d. (let e = idle.same_decides s Answer.NotPossible Answer.None d in absurd (cc e));
     takes = λ h. absurd (take_possible s m.what h none);
     tries = λ h. absurd (try_possible s m.what h none);
     in_vain = λ h. absurd (try_possible s m.what h none);
@@ -76,6 +77,7 @@ module _ (w : World) (m : Move) (well : (p : ℕ) → HasItsOwn w p (standing_of
 
   over_at_once : is_poll_after_ready s m.what ≡ true → AnswersAtOnce w m (refused Refusal.Finished) w
   over_at_once h = let so = again s m.what h in record {
+    vain = λ d. (let e = idle.same_decides s (refused Refusal.Finished) Answer.None d in absurd (cc e));
     takes = λ g. absurd (false≢true (sym so.take ∙ g));
     tries = λ g. absurd (false≢true (sym so.try ∙ g));
     in_vain = λ g. absurd (false≢true (sym so.try ∙ g));
