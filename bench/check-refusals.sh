@@ -33,8 +33,8 @@ REFUSED = 400
 
 # The first allocation of what is tried, and the number after that of the last one: that run is refused nothing. (Of the workers' last
 # two allocations either may come first.)
-CALLS = (22, 161)
-SCRIPT = (3, 36)
+CALLS = (22, 176)
+SCRIPT = (3, 47)
 THREADS = (4, 21)
 
 # More than the allocations of a book of forty moves, and how often its history grows at least.
@@ -53,10 +53,10 @@ HELD = {
     "rwlock_write_arc_blocking": 6,
     "rwlock_upgrade_blocking": 6,
     "rwlock_upgrade_arc_blocking": 6,
-    "semaphore_acquire_blocking": 4,
-    "semaphore_acquire_arc_blocking": 4,
-    "semaphore_acquire_many_blocking": 4,
-    "semaphore_acquire_many_arc_blocking": 4,
+    "semaphore_acquire_blocking": 5,
+    "semaphore_acquire_arc_blocking": 5,
+    "semaphore_acquire_many_blocking": 5,
+    "semaphore_acquire_many_arc_blocking": 5,
     "cell_wait_blocking": 4,
     "cell_set_blocking": 25,
     "cell_get_or_init_blocking": 25,
