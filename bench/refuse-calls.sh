@@ -1,5 +1,5 @@
 #!/bin/sh
-# Refuses each allocation of tests/refused_memory in turn, which makes the public calls of the five locks that take memory, and
+# Refuses each allocation of tests/refused_memory in turn, which makes the public calls of the five locks and of a pool that take memory, and
 # checks that each run prints what the program prints with ample memory: the call that was refused said so by name, lost nothing, and
 # went on when it was repeated. Prints how often each call was refused. Status 1 at a run that does otherwise, or where a call that
 # takes memory was never refused.
