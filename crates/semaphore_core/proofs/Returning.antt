@@ -1,5 +1,5 @@
 -- What is known of a list that is about to be given back.
-use Rattle.std.proofs.Common.{◌≡◌, ◌≢◌, ℕ, ◌<◌, ◌≤◌, ◌+◌, Bool, true, false, List, [], ◌∷◌, ◌++◌, refl, sym, ap, ◌∙◌, subst, Result, Ok, Err, IfOk, OnErr, MatchBool, MatchResult}
+use Rattle.std.proofs.Common.{◌≡◌, ◌≢◌, ℕ, ◌<◌, ◌≤◌, Bool, true, false, List, [], ◌∷◌, ◌++◌, refl, sym, ap, ◌∙◌, subst, Result, Ok, Err, IfOk, OnErr, MatchBool, MatchResult}
 use Rattle.atomic_table.specs.Table.{Me, rest}
 use Rattle.words_permits.specs.Steps.{Says, IsHeld, CanJoin, CanHear, CanLeave, CanPay, CanStay, Has}
 use Rattle.words_permits.specs.Waiters.{Waiter, waiter, StandsIn, HasNo, IsSound}

@@ -1,7 +1,7 @@
 -- Each step on the table keeps its rule.
-use Rattle.std.proofs.Common.{◌≡◌, ◌≢◌, ℕ, zero, suc, ◌+◌, ◌-◌, ◌%◌, ◌^◌, ◌<◌, ◌≤◌, ◌⊎◌, ◌&&◌, leb, eqb, bit_or, lt_of_not-le, Bool, true, false, List, [], ◌∷◌, ◌++◌, length, get_or, set, sym, refl, ap, ◌∙◌, subst, arith, ⊎_elim, inl, inr, length-set, get_or-set_same, get_or-set_other}
+use Rattle.std.proofs.Common.{◌≡◌, ◌≢◌, ℕ, zero, suc, ◌+◌, ◌-◌, ◌%◌, ◌^◌, ◌<◌, ◌≤◌, leb, eqb, bit_or, lt_of_not-le, true, false, List, [], ◌∷◌, ◌++◌, length, get_or, set, sym, refl, ap, ◌∙◌, subst, arith, ⊎_elim, inl, inr, length-set, get_or-set_same, get_or-set_other}
 use Rattle.std.proofs.lemmas.Bool.{le-leb}
-use mathlib.Core.Option.{Option, none, some, some-injective, some-ne-none}
+use mathlib.Core.Option.{none, some, some-injective, some-ne-none}
 use mathlib.Core.Logic.{dite}
 use native.Mathlib.Decide.{dec_le, ℕ_discrete}
 use prog.Atomic.{either}
@@ -11,8 +11,8 @@ use Rattle.atomic_table.proofs.Lists.{set_here, set_else, at_set, at_snoc}
 use Rattle.words_base.specs.Sums.{weight, number, total}
 use Rattle.words_base.proofs.Sums.{number-set, number-at, number-none, total-set, total-at, total-snoc}
 use Rattle.words_base.proofs.Exchanges.{exchanged}
-use Rattle.words_mutex.proofs.Flags.{never, and_true, and_false, many-owes, SetsLow}
-use Rattle.words_permits.specs.Rule.{permits_of, under_way_of, added_of, forgotten_of, has_list_out, SaysEmpty, OwesOf, IsFreshIn, SomeSeat, LosesNone, Ruled}
+use Rattle.words_mutex.proofs.Flags.{never, and_true, many-owes, SetsLow}
+use Rattle.words_permits.specs.Rule.{permits_of, under_way_of, added_of, forgotten_of, has_list_out, SaysEmpty, OwesOf, IsFreshIn, LosesNone, Ruled}
 use Rattle.words_permits.specs.Seats.{first_view, looking, having_taken, having_given, having_given_new, having_lowered, having_raised, having_found_limit, peeking, listing_of, back, joined_of, told_of, gone_of, paid_of}
 use Rattle.words_permits.specs.Steps.{Takes, Gives, GivesNew, Raises, Says, Grabbed, newest, CanJoin, CanHear, CanLeave, CanPay, CanStay}
 use Rattle.words_permits.specs.Waiters.{Waiter, waiter, StandsIn, last_or, HasNo, IsSound}

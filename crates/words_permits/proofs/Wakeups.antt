@@ -1,7 +1,6 @@
 -- What the rule says of who waits.
 use Rattle.std.proofs.Common.{◌≡◌, ℕ, ◌<◌, ◌≤◌, true, List, sym, ◌∙◌, subst, arith, ◌⊎◌, inl, inr, ⊎_elim}
 use Rattle.atomic_table.specs.Table.{State}
-use Rattle.words_base.specs.Sums.{number}
 use Rattle.words_mutex.proofs.Flags.{never, number-no}
 use Rattle.words_permits.specs.Rule.{has_list_out, SomeSeat, IsFreshIn, Ruled}
 use Rattle.words_permits.specs.Laws.{available, IsListHome, Lies, IsAtRest}

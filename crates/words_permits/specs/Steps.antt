@@ -1,8 +1,8 @@
 -- What steps tell, and what a seat has that has the list out.
-use Rattle.std.specs.Prelude.{◌≡◌, ◌≢◌, ℕ, ◌%◌, ◌+◌, ◌-◌, ◌<◌, ◌≤◌, true, false, List, [], ◌∷◌, ◌++◌}
+use Rattle.std.specs.Prelude.{◌≡◌, ◌≢◌, ℕ, ◌%◌, ◌+◌, ◌-◌, ◌<◌, ◌≤◌, true, List, [], ◌∷◌, ◌++◌}
 use Rattle.atomic_table.specs.Table.{Me, Step, rest}
 use Rattle.words_permits.specs.Rule.{SaysEmpty}
-use Rattle.words_permits.specs.Seats.{looking, having_taken, having_given, having_given_new, having_raised, listing_of}
+use Rattle.words_permits.specs.Seats.{having_taken, having_given, having_given_new, having_raised, listing_of}
 use Rattle.words_permits.specs.Waiters.{Waiter, waiter, StandsIn, last_or, HasNo, IsSound}
 use Rattle.words_permits.specs.declared.view.View.{View}
 

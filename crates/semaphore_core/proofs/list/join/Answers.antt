@@ -1,4 +1,3 @@
-use Rattle.lock_event.specs.declared.event.EntryId.{EntryId}
 use Rattle.semaphore_core.proofs.Listed.{joined-ok}
 use Rattle.semaphore_core.proofs.list.join.Goals as goal
 

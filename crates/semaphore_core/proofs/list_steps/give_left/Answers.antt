@@ -1,4 +1,4 @@
-use Rattle.std.proofs.Common.{◌≡◌, ℕ, Bool, sym, subst, MatchBool}
+use Rattle.std.proofs.Common.{ℕ, Bool, sym, subst, MatchBool}
 use Rattle.words_permits.specs.Steps.{CanHear, CanLeave}
 use Rattle.semaphore_core.specs.Queues.{queue_waiters, queue_marked}
 use Rattle.semaphore_core.proofs.list_steps.give_left.Goals as goal

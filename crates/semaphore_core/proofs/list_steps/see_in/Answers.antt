@@ -1,6 +1,5 @@
-use Rattle.std.proofs.Common.{refl}
 use Rattle.semaphore_core.specs.Queues.{queue_waiters, queue_marked}
-use Rattle.semaphore_core.proofs.Returning.{lent, stays}
+use Rattle.semaphore_core.proofs.Returning.{lent}
 use Rattle.semaphore_core.proofs.list_steps.see_in.Goals as goal
 
 pub slot_mut-list-requires : goal.slot_mut-list-requires

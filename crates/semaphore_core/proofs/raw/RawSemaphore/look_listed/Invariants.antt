@@ -1,5 +1,5 @@
 use Rattle.std.proofs.Common.{◌≡◌, true, false}
-use Rattle.semaphore_core.specs.Semaphores.{IsOf, Has}
+use Rattle.semaphore_core.specs.Semaphores.{IsOf}
 use Rattle.semaphore_core.proofs.raw.RawSemaphore.look_listed.Given as goal
 
 abbrev pub invariant-loop : goal.invariant-loop

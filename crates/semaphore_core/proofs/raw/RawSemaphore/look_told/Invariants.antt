@@ -1,5 +1,5 @@
 use Rattle.std.proofs.Common.{◌≡◌, true}
-use Rattle.semaphore_core.specs.Semaphores.{IsOf, Has}
+use Rattle.semaphore_core.specs.Semaphores.{IsOf}
 use Rattle.semaphore_core.proofs.raw.RawSemaphore.look_told.Given as goal
 
 abbrev pub invariant-loop : goal.invariant-loop

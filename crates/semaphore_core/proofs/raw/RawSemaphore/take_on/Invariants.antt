@@ -1,5 +1,4 @@
-use Rattle.std.proofs.Common.{◌≡◌}
-use Rattle.semaphore_core.specs.Semaphores.{IsOf, Has}
+use Rattle.semaphore_core.specs.Semaphores.{Has}
 use Rattle.semaphore_core.proofs.raw.RawSemaphore.take_on.Given as goal
 
 abbrev pub invariant-loop : goal.invariant-loop
