@@ -33,7 +33,7 @@ REFUSED = 400
 
 # The first allocation of what is tried, and the number after that of the last one: that run is refused nothing. (Of the workers' last
 # two allocations either may come first.)
-CALLS = (22, 176)
+CALLS = (22, 177)
 SCRIPT = (3, 47)
 THREADS = (4, 21)
 
