@@ -12,3 +12,4 @@ pub mod ReadWriteTable
 pub mod SemaphoreTable
 pub mod CellTable
 pub mod BarrierTable
+pub mod PoolTable

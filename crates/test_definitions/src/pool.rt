@@ -1,5 +1,8 @@
-//! Wrong runs of a pool.
+//! Wrong runs, and the table of places, of a pool.
 
+ghost use Rattle.test_definitions.specs.Tables.{AreRowsOf, AreRowsOfTwo};
+ghost use Rattle.test_definitions.specs.PoolTable.{beginnings, actions, followings};
+ghost use Rattle.world_pool.specs.program.Program.{start_of, action_of, next_of};
 ghost use Rattle.test_definitions.specs.Never.{Never};
 ghost use Rattle.test_definitions.specs.Pool.{LeasedTwice, LeasedAndListed, GivesPermitFirst, DropReturnsPermit, PopsWithoutLock, PopsWithoutPermit, LostComesBack, SleepsBesideAnItem, MissesAPermit, InVainBesideAPermit, GiveIsReady, HoldsUnsaid, SaysAnotherItem, Unbalanced, ItemsVanish};
 
@@ -20,4 +23,11 @@ fn wrong_runs()
     ensures says_another_item { Never (SaysAnotherItem) }
     ensures unbalanced { Never (Unbalanced) }
     ensures items_vanish { Never (ItemsVanish) }
+{}
+
+/// The programs' places, each with its action and what follows what it finds, as docs/PROGRAMS.md lists them.
+fn table()
+    ensures beginnings { AreRowsOfTwo start_of beginnings }
+    ensures actions { AreRowsOf action_of actions }
+    ensures followings { AreRowsOfTwo next_of followings }
 {}
