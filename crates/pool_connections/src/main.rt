@@ -1,8 +1,11 @@
-//! A pool of connections: four threads use two connections, each of which one has alone, by calls that block.
+//! A pool of connections, each of which one has alone: four threads use two of them by calls that block, and tasks on one executor
+//! wait for a single one.
 #![tactic(auto)]
 
 use async_driver::Runtime;
-use bounded_pool::{Lease, Pool, Refusal};
+use bounded_pool::{Give, Lease, Pool, Refusal, Settled};
+use futures::executor::block_on;
+use futures::{TryFutureExt, future};
 use std::io;
 use std::process::ExitCode;
 use std::thread::{self, Threads};
@@ -48,11 +51,39 @@ where
     one.and(other).and(third).and(fourth)
 }
 
+// A task uses a connection that it has taken, and gives it back.
+fn use_once<'a, R: Runtime>(
+    mut lease: Lease<'a, Connection, R>,
+) -> Settled<Give<'a, Connection, R>> {
+    lease.uses = lease.uses.saturating_add(1);
+    Settled(Pool::give(lease))
+}
+
+// Three tasks on one executor: two of them wait for the only connection, which the third one gives back.
+fn in_three_tasks<'a, R: Runtime>(rt: &R, pool: &'a Pool<Connection, R>) -> Result<(), Refusal> {
+    let lease = pool.take_blocking()?;
+    let one = Settled(pool.take()).and_then(use_once);
+    let other = Settled(pool.take()).and_then(use_once);
+    let third = Settled(Pool::give(lease));
+    match block_on(rt, future::join3(one, other, third)) {
+        Ok((one, other, third)) => one.and(other).and(third),
+        Err(_) => Err(Refusal::Memory),
+    }
+}
+
 // How often the connections were used that are in the pool now.
 fn all_uses<R: Runtime>(pool: &Pool<Connection, R>) -> u64 {
     match (pool.try_take(), pool.try_take()) {
         (Some(one), Some(other)) => one.uses.saturating_add(other.uses),
         _ => 0,
+    }
+}
+
+// How often the only connection was used.
+fn its_uses<R: Runtime>(pool: &Pool<Connection, R>) -> u64 {
+    match pool.try_take() {
+        Some(lease) => lease.uses,
+        None => 0,
     }
 }
 
@@ -62,7 +93,10 @@ where
 {
     let pool = new_pool(rt, 2)?;
     in_four_threads(&rt, &pool)?;
-    println!(rt; "uses: {}", all_uses(&pool))
+    println!(rt; "uses: {}", all_uses(&pool))?;
+    let single = new_pool(rt, 1)?;
+    in_three_tasks(&rt, &single)?;
+    println!(rt; "uses by tasks: {}", its_uses(&single))
 }
 
 fn main(rt: HostRuntime) -> ExitCode {
