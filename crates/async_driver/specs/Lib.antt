@@ -1,5 +1,4 @@
 pub mod Tasks
 pub mod Heard
 pub mod Turns
-pub mod Weighted
 pub mod Waited

@@ -5,20 +5,18 @@
 
 ghost use Rattle.std.specs.Prelude.{◌≡◌, ◌≤◌, IfSome};
 ghost use Rattle.async_driver.specs.Heard.{IsOfStep, IsTold};
-ghost use Rattle.lock_event.specs.Loads.{weight_of};
-ghost use Rattle.lock_event.specs.Weights.{fitted};
 
 use crate::cause::Cause;
 use crate::list_id::ListId;
 use crate::summary::Summary;
-use lock_event::{Event, WeightedEvent};
+use lock_event::Event;
 
 /// A duty to notify somebody who waits in one list.
 ///
 /// It has no bytes and no `Drop`. Releasing a lock creates one, and so does taking a notification out of the list. It ends
-/// when the list has been notified ([`WaitingList::notify`](crate::WaitingList::notify),
-/// [`WeightedList::fit`](crate::WeightedList::fit)), or by the list's key ([`Owed::end`]). Anybody may create one, and must
-/// then notify. In clauses it is its list, and whether it came of a notification.
+/// when the list has been notified ([`WaitingList::notify`](crate::WaitingList::notify)), or by the list's key
+/// ([`Owed::end`]). Anybody may create one, and must then notify. In clauses it is its list, and whether it came of a
+/// notification.
 pub struct Owed {
     // Private, since whoever sees all fields may take the duty apart.
     list: ListId,
@@ -88,14 +86,6 @@ impl Owed {
         requires { 1 ≤ n }
     {
         entries.notify_additional(n);
-        let Owed { list: _, cause: _ } = self;
-    }
-
-    // Notifies the first entry that so many are enough for, unless one is notified, under the list's lock.
-    pub(crate) fn fit<W: Drop>(self, entries: &mut WeightedEvent<W>, available: u64)
-        ensures { entries.new.entries ≡ fitted weight_of available entries.old.entries }
-    {
-        entries.fit(available);
         let Owed { list: _, cause: _ } = self;
     }
 

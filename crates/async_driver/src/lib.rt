@@ -1,8 +1,7 @@
 //! What the running types of all locks share: the waiting list with its duties, the driver, and what a poll answers.
 //!
 //! A [`WaitingList`] is an event list under a short lock of its own. Whoever stands in it has a [`Listed`], and whoever has to
-//! notify it an [`Owed`]; neither can be dropped. A [`WeightedList`] is the same of entries that each wait for a number of
-//! units. [`Carries`] carries out a lock's program, which is a table: at a place one
+//! notify it an [`Owed`]; neither can be dropped. [`Carries`] carries out a lock's program, which is a table: at a place one
 //! action is done, and what it finds gives the next place. An action is a single try on a lock's words or one function of
 //! a list, and between two actions nothing is held. [`Turn`] is what a poll answers, [`Settled`] makes a lock's future
 //! a `Future`, and [`wait_for`] waits for it in the calling thread. [`Runtime`] has what the locks ask of the runtime.
@@ -19,10 +18,8 @@ mod runtime;
 mod settled;
 mod summary;
 mod turn;
-mod units;
 mod wait;
 mod waiting_list;
-mod weighted_list;
 
 pub use carries::Carries;
 pub use cause::Cause;
@@ -33,7 +30,5 @@ pub use list_id::ListId;
 pub use runtime::Runtime;
 pub use settled::{Polled, Settled};
 pub use turn::Turn;
-pub use units::Units;
 pub use wait::wait_for;
 pub use waiting_list::{Heard, Joined, Listed, WaitingList, Wakes};
-pub use weighted_list::{WeightedHeard, WeightedJoined, WeightedList, WeightedListed};

@@ -1,6 +1,6 @@
 //! What a list shows to whoever doesn't take its lock.
 
-use lock_event::{Event, WeightedEvent};
+use lock_event::Event;
 use std::sync::atomic::{AtomicU64, Ordering};
 
 // How much the word grows by a notification.
@@ -67,15 +67,6 @@ impl Summary {
         let now = self.word.load(Ordering::SeqCst);
         if now < u64::MAX - NOTIFICATION {
             self.word.store(now + NOTIFICATION, Ordering::SeqCst);
-        }
-    }
-
-    /// The same of a list whose entries have weights.
-    pub(crate) fn fitted<W: Drop>(&self, entries: &WeightedEvent<W>) {
-        if entries.len() == 0 {
-            self.say(false);
-        } else {
-            self.passed_on();
         }
     }
 

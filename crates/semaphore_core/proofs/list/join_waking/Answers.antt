@@ -6,9 +6,9 @@ use Rattle.lock_event.specs.Loads.{kept_at, load}
 use Rattle.lock_event.specs.Slots.{has_id}
 use Rattle.async_driver.specs.Tasks.{woken_by}
 use Rattle.async_driver.proofs.Keeping.{waits_isnt_marked, waits_joined, waits_listed}
-use Rattle.async_driver.proofs.KeepingWeights.{kept_at-with_key}
+use Rattle.semaphore_core.proofs.Keeping.{kept_at-with_key}
 use Rattle.semaphore_core.proofs.Listed.{has-joined, same-keyed, joined-keyed}
-use Rattle.semaphore_core.proofs.Receiving.{is_kept}
+use Rattle.lock_queue.proofs.Receiving.{is_kept}
 use Rattle.semaphore_core.proofs.list.join_waking.Goals as goal
 
 pub unreachable-requires : goal.unreachable-requires
