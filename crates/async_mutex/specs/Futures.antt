@@ -14,13 +14,13 @@ use Rattle.lock_program.specs.declared.refusal.Refusal.{Refusal}
 use Rattle.lock_program.specs.declared.refusal.Refusal.TheVariants.{Finished}
 use Rattle.mutex_core.specs.Locks.{IsOf, Seated}
 use Rattle.mutex_core.specs.Outcomes.{IsGivenUp, IsHeldOf}
-use Rattle.mutex_core.specs.Receipts.{IsKept}
+use Rattle.lock_queue.specs.Receipts.{IsKept}
 use Rattle.mutex_core.specs.declared.turn.Held.{Held}
 use Rattle.mutex_core.specs.declared.turn.Outcome.{Outcome}
 use Rattle.mutex_core.specs.declared.turn.Outcome.TheVariants as outcome
 use Rattle.mutex_core.specs.declared.turn.Vain.{Vain}
 use Rattle.mutex_core.specs.declared.turn.Waiting.{Waiting}
-use Rattle.mutex_core.specs.declared.whose.Whose.{Whose}
+use Rattle.lock_queue.specs.declared.whose.Whose.{Whose}
 
 -- an entry in a mutex's list: the seat whose it is, and whose waker it keeps
 pub record Listed : Type 0 where

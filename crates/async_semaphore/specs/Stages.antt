@@ -10,7 +10,7 @@ use Rattle.futures.specs.declared.task.context.Context.{Context}
 use Rattle.lock_program.specs.declared.refusal.Refusal.{Refusal}
 use Rattle.lock_program.specs.declared.refusal.Refusal.TheVariants.{Memory, Finished}
 use Rattle.semaphore_core.specs.Outcomes.{WaitsFor}
-use Rattle.semaphore_core.specs.Receipts.{IsReceipt}
+use Rattle.lock_queue.specs.Receipts.{IsReceipt}
 use Rattle.semaphore_core.specs.Semaphores.{Seated, Has, IsShort}
 use Rattle.semaphore_core.specs.declared.turn.Outcome.{Outcome}
 use Rattle.semaphore_core.specs.declared.turn.Outcome.TheVariants as outcome

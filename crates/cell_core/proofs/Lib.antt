@@ -1,3 +1,1 @@
-pub mod Changes
 pub mod Returning
-pub mod Receiving

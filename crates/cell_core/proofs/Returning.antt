@@ -1,13 +1,14 @@
 -- What is known of lists that are about to be given back.
 use Rattle.std.proofs.Common.{◌≡◌, ◌≢◌, ℕ, ◌<◌, ◌≤◌, List, [], ◌∷◌, true, false, true≢false, refl, sym, ap, ◌∙◌, subst, Result, Ok, Err, IfOk, OnErr, MatchResult, inl}
 use Rattle.atomic_table.specs.Table.{Me, rest}
-use Rattle.words_cell.specs.Steps.{IsHeld, Out, Fewer, JoinedBy, LeftBy, StaysTold, CanJoinActive, CanJoinPassive, CanHear, CanLeave, CanPay, CanPayActive, CanPayPassive, CanStay}
+use Rattle.words_base.specs.Waiting.{Fewer, JoinedBy, LeftBy, StaysTold}
+use Rattle.words_cell.specs.Steps.{IsHeld, Out, CanJoinActive, CanJoinPassive, CanHear, CanLeave, CanPay, CanPayActive, CanPayPassive, CanStay}
 use Rattle.words_cell.specs.declared.view.View.{View}
 use Rattle.lock_event.specs.declared.event.EntryId.{EntryId}
-use Rattle.cell_core.specs.Asking.{ByHeard}
+use Rattle.lock_queue.specs.Asking.{ByHeard}
 use Rattle.cell_core.specs.Contents.{active_of, passive_of, marked_of, Says, HaveFewer, AreKept, HasJoinedActive, HasJoinedPassive, HasLeftActive, HasLeftPassive, IsOneTold, AreActiveTold, ArePassiveTold}
-use Rattle.cell_core.specs.declared.heard.Heard.{Heard}
-use Rattle.cell_core.specs.declared.heard.Heard.TheVariants.{Told, Waits}
+use Rattle.lock_queue.specs.declared.heard.Heard.{Heard}
+use Rattle.lock_queue.specs.declared.heard.Heard.TheVariants.{Told, Waits}
 use Rattle.cell_core.specs.declared.lists.Lists.{Lists}
 
 -- unchanged, they are kept

@@ -4,21 +4,12 @@ use Rattle.futures.specs.declared.task.waker.Waker.{Waker}
 use Rattle.lock_event.specs.Lists.{marked_count}
 use Rattle.lock_event.specs.declared.event.Entry.{Entry}
 use Rattle.lock_event.specs.declared.event.Slot.{Slot}
-use Rattle.words_cell.specs.Rule.{NoneWaits, SaysEmpty}
-use Rattle.words_cell.specs.Seats.{last_of}
-use Rattle.words_cell.specs.Steps.{Fewer, JoinedBy, LeftBy, StaysTold}
-use Rattle.cell_core.specs.Entries.{waiting_in}
-use Rattle.cell_core.specs.declared.queue.Queue.{Queue}
+use Rattle.words_base.specs.Waiting.{NoneWaits, Fewer, JoinedBy, LeftBy, StaysTold, last_of}
+use Rattle.words_cell.specs.Rule.{SaysEmpty}
+use Rattle.lock_queue.specs.Entries.{waiting_in}
+use Rattle.lock_queue.specs.Queues.{entries_of}
+use Rattle.lock_queue.specs.declared.queue.Queue.{Queue}
 use Rattle.cell_core.specs.declared.lists.Lists.{Lists}
-
--- what is in the box, or nothing
-abbrev pub items_of : {B E : Type 0} → Option B → (B → List E) → List E
-items_of None items = []
-items_of (Some b) items = items b
-
--- nobody has joined a list that was not made yet
-abbrev pub entries_of : Queue → List (Entry (Slot Waker))
-entries_of queue = items_of queue.entries (λ b. b.value.entries)
 
 -- who waits to make the value, who only waits for it, and how many of the first are notified
 abbrev pub active_of : Lists → List ℕ

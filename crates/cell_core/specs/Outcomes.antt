@@ -4,7 +4,7 @@ use Rattle.futures.specs.Task.{Covers}
 use Rattle.futures.specs.declared.task.context.Context.{Context}
 use Rattle.cell_core.specs.Cells.{Cell, IsOf}
 use Rattle.cell_core.specs.Purposes.{IsSetting, IsAwaited, OnSets}
-use Rattle.cell_core.specs.Receipts.{IsReceipt}
+use Rattle.lock_queue.specs.Receipts.{IsReceipt}
 use Rattle.cell_core.specs.declared.maker.Purpose.{Purpose}
 use Rattle.cell_core.specs.declared.turn.Outcome.{Outcome}
 use Rattle.cell_core.specs.declared.turn.Outcome.TheVariants as outcome

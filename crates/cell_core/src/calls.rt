@@ -3,20 +3,18 @@
 ghost use Rattle.std.specs.Prelude.{◌≡◌, true, false, IfNone, IfOk, IfSome, OnErr};
 ghost use Rattle.futures.specs.Task.{Keeps};
 ghost use Rattle.cell_core.specs.Cells.{IsOf, with_joined_active, with_joined_passive, with_told, with_gone, with_paid, with_paid_active, with_paid_passive};
-ghost use Rattle.cell_core.specs.Receipts.{IsReceipt};
+ghost use Rattle.lock_queue.specs.Receipts.{IsReceipt};
 
 use crate::cell::RawCell;
-use crate::due::AllDue;
-use crate::heard::Heard;
 use crate::list_steps::{
     ask_active_in, ask_passive_in, join_active_in, join_passive_in, leave_active_in,
     leave_passive_in, next_due_in, notify_active_in, notify_all_active_in, notify_all_passive_in,
     notify_passive_in,
 };
 use crate::seat::Seat;
-use crate::whose::Whose;
 use futures::task::Context;
 use lock_event::{EntryId, Memory};
+use lock_queue::{AllDue, Heard, Whose};
 use std::sync::Wait;
 use words_cell::steps::{
     give_gone, give_joined_active, give_joined_passive, give_paid, give_paid_active,

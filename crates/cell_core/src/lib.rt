@@ -3,30 +3,22 @@
 
 mod calls;
 mod cell;
-mod due;
-mod heard;
-mod list;
 mod list_steps;
 mod lists;
 mod maker;
 mod making;
-mod queue;
 mod seat;
 mod state;
 mod stored;
 mod turn;
 mod waiting;
 mod watch;
-mod whose;
 
 pub use cell::RawCell;
-pub use due::{AllDue, Called, Due};
 pub use lists::Lists;
 pub use maker::{Maker, Purpose, Sealed};
-pub use queue::Queue;
 pub use seat::{Right, Seat};
 pub use state::State;
 pub use turn::{Making, Outcome, Resting, Waited, Waiting, WaitingToMake};
 pub use watch::{Side, Watched};
-pub use whose::Whose;
 pub use words_cell::{CellRule, Content, View, no_lost_wakeup};

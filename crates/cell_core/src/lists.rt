@@ -2,17 +2,14 @@
 
 ghost use Rattle.std.specs.Prelude.{◌≡◌, ◌%◌, [], IfOk, OnErr};
 ghost use Rattle.futures.specs.Task.{Keeps};
-ghost use Rattle.cell_core.specs.Asking.{ByHeard};
+ghost use Rattle.lock_queue.specs.Asking.{ByHeard};
 ghost use Rattle.cell_core.specs.Contents.{active_of, passive_of, Says, HaveFewer, AreKept, HasJoinedActive, HasJoinedPassive, HasLeftActive, HasLeftPassive, IsOneTold, AreActiveTold, ArePassiveTold};
-ghost use Rattle.cell_core.specs.Receipts.{IsReceipt};
+ghost use Rattle.lock_queue.specs.Receipts.{IsReceipt};
 
-use crate::due::{AllDue, Due};
-use crate::heard::Heard;
-use crate::queue::Queue;
 use crate::watch::Side;
-use crate::whose::Whose;
 use futures::task::{Context, Source, Waker};
 use lock_event::{EntryId, Mark, Memory};
+use lock_queue::{AllDue, Due, Heard, Queue, Whose};
 use std::alloc::Global;
 use words_cell::Content;
 use words_cell::steps::ENTRIES;
@@ -36,8 +33,8 @@ impl Drop for Lists {
 
 impl Content for Lists {
     ghost use Rattle.lock_event.specs.Lists.{marked_count};
-    ghost use Rattle.cell_core.specs.Contents.{entries_of};
-    ghost use Rattle.cell_core.specs.Entries.{waiting_in};
+    ghost use Rattle.lock_queue.specs.Queues.{entries_of};
+    ghost use Rattle.lock_queue.specs.Entries.{waiting_in};
 
     ghost active = { λ lists. waiting_in (entries_of lists.active) };
 

@@ -4,8 +4,8 @@ ghost use Rattle.std.specs.Prelude.{◌≡◌, true, false};
 ghost use Rattle.cell_core.specs.Cells.{IsMaking, WaitsActive, WaitsPassive};
 
 use crate::seat::Seat;
-use crate::whose::Whose;
 use lock_event::EntryId;
+use lock_queue::Whose;
 
 /// A party that would make the value and waits between two polls: its seat owes nothing, and its entry stands in the list. It has no
 /// `Drop`: a poll goes on with it, or a cancel ends it.

@@ -2,9 +2,9 @@
 use Rattle.std.proofs.Common.{◌≡◌, ℕ, ◌<◌, ◌≤◌, ◌+◌, List, [], ◌∷◌, refl, sym, ap, ◌∙◌, subst, Result, Ok, Err, OnOk, OnErr, MatchResult}
 use Rattle.atomic_table.specs.Table.{Me, rest}
 use Rattle.words_mutex.specs.Steps.{Has, Says, IsHeld, CanJoin, CanHear, CanPay, CanLeave, CanStay}
-use Rattle.mutex_core.specs.Asking.{ByHeard}
-use Rattle.mutex_core.specs.declared.heard.Heard.{Heard}
-use Rattle.mutex_core.specs.declared.heard.Heard.TheVariants.{Told, Waits}
+use Rattle.lock_queue.specs.Asking.{ByHeard}
+use Rattle.lock_queue.specs.declared.heard.Heard.{Heard}
+use Rattle.lock_queue.specs.declared.heard.Heard.TheVariants.{Told, Waits}
 use Rattle.words_mutex.specs.declared.view.View.{View}
 
 module _ {S : Type 0} (len_of marked_of : S → ℕ) (m : Me S View) (held : IsHeld len_of marked_of m) where

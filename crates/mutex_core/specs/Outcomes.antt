@@ -5,7 +5,7 @@ use Rattle.lock_place.specs.declared.room.Hold.{Hold}
 use Rattle.lock_program.specs.declared.refusal.Refusal.{Refusal}
 use Rattle.lock_program.specs.declared.refusal.Refusal.TheVariants as refusals
 use Rattle.mutex_core.specs.Locks.{Lock, Seated, IsOf, IsHolding}
-use Rattle.mutex_core.specs.Receipts.{IsReceipt}
+use Rattle.lock_queue.specs.Receipts.{IsReceipt}
 use Rattle.mutex_core.specs.declared.turn.Held.{Held}
 use Rattle.mutex_core.specs.declared.turn.Outcome.{Outcome}
 use Rattle.mutex_core.specs.declared.turn.Outcome.TheVariants.{Got, Waits, Refused}

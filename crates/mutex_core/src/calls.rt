@@ -3,17 +3,17 @@
 ghost use Rattle.std.specs.Prelude.{◌≡◌, true, false, IfNone, IfOk, IfSome, OnOk, OnErr};
 ghost use Rattle.futures.specs.Task.{Keeps};
 ghost use Rattle.mutex_core.specs.Locks.{IsOf, with_joined, with_told, with_paid, with_gone};
-ghost use Rattle.mutex_core.specs.Receipts.{IsReceipt};
+ghost use Rattle.lock_queue.specs.Receipts.{IsReceipt};
 
 use crate::cell::MOST;
 use crate::list_steps::{
     ask_again_in, ask_in, give_asked, join_in, join_waking_in, leave_in, notify_in,
 };
 use crate::seat::Seat;
-use crate::whose::Whose;
 use crate::words::Words;
 use futures::task::Context;
 use lock_event::{EntryId, Memory};
+use lock_queue::Whose;
 use std::sync::Wait;
 use words_mutex::steps::{LIST, NOTIFICATION, give_gone, give_joined, give_paid, give_same};
 use words_mutex::{take_out, wake_next};

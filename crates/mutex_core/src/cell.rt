@@ -4,19 +4,17 @@ ghost use Rattle.std.specs.Prelude.{◌≡◌, ◌<◌, ◌%◌, [], IfOk, IsSom
 ghost use Rattle.futures.specs.Task.{Keeps};
 ghost use Rattle.lock_event.specs.Lists.{is_waiting_at, marked_count};
 ghost use Rattle.lock_event.specs.Slots.{has_id};
-ghost use Rattle.mutex_core.specs.Asking.{ByHeard};
+ghost use Rattle.lock_queue.specs.Asking.{ByHeard};
 ghost use Rattle.mutex_core.specs.Cells.{entries_of};
 ghost use Rattle.mutex_core.specs.Entries.{HasJoined, HasLeft, HasShrunk, IsSameSize, IsTold};
-ghost use Rattle.mutex_core.specs.Receipts.{KeepsAt, IsReceipt};
+ghost use Rattle.lock_queue.specs.Receipts.{KeepsAt, IsReceipt};
 ghost use Rattle.words_mutex.specs.Rule.{SaysEmpty};
 
-use crate::due::Due;
-use crate::heard::Heard;
 use crate::list;
-use crate::whose::Whose;
 use futures::task::{Context, Source, Waker};
 use lock_event::{EntryId, Event, Memory};
 use lock_place::{Rested, Spare};
+use lock_queue::{Due, Heard, Whose};
 use std::alloc::Global;
 use std::mem;
 use words_mutex::Content;

@@ -7,23 +7,18 @@
 
 mod calls;
 mod cell;
-mod due;
-mod heard;
 mod left;
 mod list;
 mod list_steps;
 mod mutex;
 mod seat;
 mod turn;
-mod whose;
 mod words;
 
 pub use cell::Cell;
-pub use due::{Called, Due};
 pub use left::WasHeld;
 pub use lock_place::{Hold, Room};
 pub use seat::Seat;
 pub use turn::{Held, Outcome, Vain, Waiting};
-pub use whose::Whose;
 pub use words::{STARVED_LIMIT, Words};
 pub use words_mutex::{Content, Full, MutexRule, View, no_lost_wakeup};

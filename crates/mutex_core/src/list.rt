@@ -4,14 +4,13 @@ ghost use Rattle.std.specs.Prelude.{◌≡◌, true, false, OnErr, IfOk, OnOk, N
 ghost use Rattle.futures.specs.Task.{Keeps};
 ghost use Rattle.lock_event.specs.Lists.{is_waiting_at};
 ghost use Rattle.lock_event.specs.Slots.{has_id};
-ghost use Rattle.mutex_core.specs.Asking.{ByHeard};
+ghost use Rattle.lock_queue.specs.Asking.{ByHeard};
 ghost use Rattle.mutex_core.specs.Entries.{HasJoined, HasLeft, HasShrunk, IsSameSize, IsTold};
-ghost use Rattle.mutex_core.specs.Receipts.{KeepsAt, IsReceipt};
+ghost use Rattle.lock_queue.specs.Receipts.{KeepsAt, IsReceipt};
 
-use crate::heard::Heard;
-use crate::whose::Whose;
 use futures::task::{Context, Poll, Source, Waker};
 use lock_event::{Asked, EntryId, Event, Memory};
+use lock_queue::{Heard, Whose};
 
 // An entry joins at the back, with no waker.
 pub(crate) fn join(event: &mut Event<Waker>) -> Result<EntryId, Memory>

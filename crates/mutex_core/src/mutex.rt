@@ -9,12 +9,12 @@ ghost use Rattle.mutex_core.specs.Outcomes.{IsGivenUp, IsHeldOf, IsOutcomeOf, Is
 
 use crate::seat::Seat;
 use crate::turn::{Held, Outcome, Vain, Waiting};
-use crate::whose::Whose;
 use crate::words::Words;
 use futures::task::Context;
 use lock_event::{EntryId, Memory};
 use lock_place::Hold;
 use lock_program::Refusal;
+use lock_queue::Whose;
 use std::sync::Wait;
 use std::time::{Clock, Duration, Instant};
 use words_base::{Setting, Taking, TakingAlone};

@@ -4,10 +4,10 @@ ghost use Rattle.std.specs.Prelude.{◌≡◌, true, false};
 ghost use Rattle.mutex_core.specs.Locks.{IsHolding};
 
 use crate::seat::Seat;
-use crate::whose::Whose;
 use lock_event::EntryId;
 use lock_place::Hold;
 use lock_program::Refusal;
+use lock_queue::Whose;
 use std::time::Instant;
 
 /// A party that has looked at the lock in vain: its seat has nothing, and owes nothing. It has no `Drop`: a poll goes on with it, or

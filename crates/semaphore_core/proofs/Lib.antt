@@ -1,3 +1,3 @@
+pub mod Keeping
 pub mod Listed
 pub mod Returning
-pub mod Receiving

@@ -4,9 +4,9 @@ use Rattle.atomic_table.specs.Table.{Me, rest}
 use Rattle.words_permits.specs.Steps.{Says, IsHeld, CanJoin, CanHear, CanLeave, CanPay, CanStay, Has}
 use Rattle.words_permits.specs.Waiters.{Waiter, waiter, StandsIn, HasNo, IsSound}
 use Rattle.words_permits.specs.declared.view.View.{View}
-use Rattle.semaphore_core.specs.Asking.{ByHeard}
-use Rattle.semaphore_core.specs.declared.heard.Heard.{Heard}
-use Rattle.semaphore_core.specs.declared.heard.Heard.TheVariants.{Told, Waits}
+use Rattle.lock_queue.specs.Asking.{ByHeard}
+use Rattle.lock_queue.specs.declared.heard.Heard.{Heard}
+use Rattle.lock_queue.specs.declared.heard.Heard.TheVariants.{Told, Waits}
 
 module _ {S : Type 0} (waiters_of : S → List Waiter) (marked_of : S → ℕ) (m : Me S View) (held : IsHeld waiters_of marked_of m) where
   -- the slot that the seat took last is the list's

@@ -1,5 +1,4 @@
 pub mod Semaphores
-pub mod Asking
 pub mod Entries
 pub mod Queues
 pub mod Receipts

@@ -2,7 +2,7 @@
 use Rattle.std.specs.Prelude.{◌≡◌, ℕ, true, false}
 use Rattle.futures.specs.declared.task.context.Context.{Context}
 use Rattle.lock_program.specs.declared.refusal.Refusal.TheVariants.{Memory}
-use Rattle.semaphore_core.specs.Receipts.{IsReceipt}
+use Rattle.lock_queue.specs.Receipts.{IsReceipt}
 use Rattle.semaphore_core.specs.Semaphores.{Semaphore, Has, IsShort}
 use Rattle.semaphore_core.specs.declared.turn.Notifies.{Notifies}
 use Rattle.semaphore_core.specs.declared.turn.Outcome.{Outcome}

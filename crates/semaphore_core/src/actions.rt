@@ -2,7 +2,7 @@
 
 ghost use Rattle.std.specs.Prelude.{◌≡◌, ◌<◌, true, false, IfErr, IfNone, IfOk, IfSome, MatchBool, OnErr};
 ghost use Rattle.futures.specs.Task.{Keeps};
-ghost use Rattle.semaphore_core.specs.Receipts.{IsReceipt};
+ghost use Rattle.lock_queue.specs.Receipts.{IsReceipt};
 ghost use Rattle.semaphore_core.specs.Semaphores.{IsOf, with_joined, with_told, with_gone, with_paid};
 
 use crate::list_steps::{
@@ -12,9 +12,9 @@ use crate::list_steps::{
 use crate::queue::MOST;
 use crate::raw::RawSemaphore;
 use crate::seat::Seat;
-use crate::whose::Whose;
 use futures::task::Context;
 use lock_event::{EntryId, Memory};
+use lock_queue::Whose;
 use std::sync::Wait;
 use words_permits::steps::{LIST, NOTIFICATION, give_paid, give_same};
 use words_permits::{take_out, wake_next};

@@ -8,8 +8,6 @@
 
 mod actions;
 mod calls;
-mod due;
-mod heard;
 mod list;
 mod list_steps;
 mod polls;
@@ -18,14 +16,11 @@ mod raw;
 mod receipts;
 mod seat;
 mod turn;
-mod whose;
 
 pub use actions::Joined;
-pub use due::{Called, Due};
 pub use queue::Queue;
 pub use raw::RawSemaphore;
 pub use receipts::{Added, Given, Lowered};
 pub use seat::Seat;
 pub use turn::{Notifies, Outcome, Tried, Waiting};
-pub use whose::Whose;
 pub use words_permits::{Content, PermitRule, Raising, Taking, View, no_lost_wakeup};

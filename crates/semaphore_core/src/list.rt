@@ -4,14 +4,14 @@ ghost use Rattle.std.specs.Prelude.{◌≡◌, ⊤, true, false, IfOk, OnErr, Ma
 ghost use Rattle.futures.specs.Task.{Keeps};
 ghost use Rattle.lock_event.specs.Lists.{is_marked_at};
 ghost use Rattle.lock_event.specs.Slots.{has_id};
-ghost use Rattle.semaphore_core.specs.Asking.{ByHeard};
+ghost use Rattle.lock_queue.specs.Asking.{ByHeard};
 ghost use Rattle.semaphore_core.specs.Entries.{HasJoined, HasLeft, IsSame, IsTold, StaysSound};
-ghost use Rattle.semaphore_core.specs.Receipts.{KeepsAt, IsReceipt};
+ghost use Rattle.lock_queue.specs.Receipts.{IsReceipt};
+ghost use Rattle.semaphore_core.specs.Receipts.{KeepsAt};
 
-use crate::heard::Heard;
-use crate::whose::Whose;
 use futures::task::{Context, Poll, Source, Waker};
 use lock_event::{Asked, EntryId, Memory, WeightedEvent};
+use lock_queue::{Heard, Whose};
 
 // An entry joins at the back for so many permits, with no waker.
 pub(crate) fn join(event: &mut WeightedEvent<Waker>, permits: u64) -> Result<EntryId, Memory>

@@ -3,21 +3,19 @@
 ghost use Rattle.std.specs.Prelude.{◌≡◌, ◌<◌, ⊤, false, IfNone, IfOk, IfSome, MatchBool, MatchResult};
 ghost use Rattle.futures.specs.Task.{Keeps};
 ghost use Rattle.atomic_table.specs.Table.{rest};
-ghost use Rattle.semaphore_core.specs.Asking.{ByHeard};
+ghost use Rattle.lock_queue.specs.Asking.{ByHeard};
 ghost use Rattle.semaphore_core.specs.Queues.{queue_waiters, queue_marked};
-ghost use Rattle.semaphore_core.specs.Receipts.{IsReceipt};
-ghost use Rattle.semaphore_core.specs.declared.heard.Heard.TheVariants as heard_as;
+ghost use Rattle.lock_queue.specs.Receipts.{IsReceipt};
+ghost use Rattle.lock_queue.specs.declared.heard.Heard.TheVariants as heard_as;
 ghost use Rattle.words_permits.specs.Seats.{joined_of, told_of, gone_of, back};
 ghost use Rattle.words_permits.specs.Steps.{IsHeld, CanJoin, CanHear, CanLeave, CanPay, CanStay};
 ghost use Rattle.words_permits.specs.Waiters.{waiter};
 
-use crate::due::Due;
-use crate::heard::Heard;
 use crate::queue::Queue;
-use crate::whose::Whose;
 use atomic_table::Seat as TableSeat;
 use futures::task::{Context, Source, Waker};
 use lock_event::{EntryId, Memory};
+use lock_queue::{Due, Heard, Whose};
 use std::alloc::Global;
 use words_permits::steps::{LIST_SLOT, Ruled, give_gone, give_joined, give_same, give_told};
 use words_permits::{View, wake_next};

@@ -4,18 +4,17 @@ ghost use Rattle.std.specs.Prelude.{◌≡◌, ◌%◌, [], IfOk, IsSome, OnOk, 
 ghost use Rattle.futures.specs.Task.{Keeps};
 ghost use Rattle.lock_event.specs.Lists.{is_marked_at};
 ghost use Rattle.lock_event.specs.Slots.{has_id};
-ghost use Rattle.semaphore_core.specs.Asking.{ByHeard};
+ghost use Rattle.lock_queue.specs.Asking.{ByHeard};
 ghost use Rattle.semaphore_core.specs.Entries.{HasJoined, HasLeft, IsSame, IsTold, StaysSound, waiters_in};
 ghost use Rattle.semaphore_core.specs.Queues.{entries_of};
-ghost use Rattle.semaphore_core.specs.Receipts.{KeepsAt, IsReceipt};
+ghost use Rattle.lock_queue.specs.Receipts.{IsReceipt};
+ghost use Rattle.semaphore_core.specs.Receipts.{KeepsAt};
 ghost use Rattle.words_permits.specs.Steps.{Says};
 
-use crate::due::Due;
-use crate::heard::Heard;
 use crate::list;
-use crate::whose::Whose;
 use futures::task::{Context, Source, Waker};
 use lock_event::{EntryId, Memory, WeightedEvent};
+use lock_queue::{Due, Heard, Whose};
 use std::alloc::Global;
 use words_permits::Content;
 use words_permits::steps::{ENTRIES, NOTIFICATION};

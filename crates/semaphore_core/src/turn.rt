@@ -4,9 +4,9 @@ ghost use Rattle.std.specs.Prelude.{◌≡◌, true, false};
 
 use crate::receipts::Given;
 use crate::seat::Seat;
-use crate::whose::Whose;
 use lock_event::EntryId;
 use lock_program::Refusal;
+use lock_queue::Whose;
 
 /// A party that waits between two polls: its seat has no permits and owes nothing, and its entry stands in the list. It has no `Drop`: a
 /// poll goes on with it, or a cancel ends it.

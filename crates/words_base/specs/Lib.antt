@@ -1,3 +1,4 @@
 pub mod Sums
 pub mod MutexWord
 pub mod Tries
+pub mod Waiting

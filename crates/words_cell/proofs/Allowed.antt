@@ -9,8 +9,9 @@ use Rattle.atomic_table.specs.Table.{State, Me, keeps, takes, gives, stepped, re
 use Rattle.atomic_table.proofs.Lists.{at_snoc}
 use Rattle.words_base.specs.Sums.{weight, number, total}
 use Rattle.words_base.proofs.Sums.{number-none, number-snoc, total-snoc}
+use Rattle.words_base.specs.Waiting.{last_of}
 use Rattle.words_cell.specs.Rule.{first_view, makes_of, has_lists_out, filled_of, taken_of, Owes, OwesActive, OwesPassive, IsFreshActive, IsFreshPassive, SaysEmpty, Ruled}
-use Rattle.words_cell.specs.Seats.{saw_of, saw_full_of, claimed_of, missed_of, late_of, filled_by, emptied_by, taken_by, having_found, eased_of, listing_of, back, joined_active_of, joined_passive_of, told_of, gone_of, paid_of, paid_active_of, paid_passive_of, last_of}
+use Rattle.words_cell.specs.Seats.{saw_of, saw_full_of, claimed_of, missed_of, late_of, filled_by, emptied_by, taken_by, having_found, eased_of, listing_of, back, joined_active_of, joined_passive_of, told_of, gone_of, paid_of, paid_active_of, paid_passive_of}
 use Rattle.words_cell.specs.Steps.{Kept, Looked, Claimed, Took, Peeked, Grabbed, CanJoinActive, CanJoinPassive, CanHear, CanLeave, CanPay, CanPayActive, CanPayPassive, CanStay}
 use Rattle.words_cell.specs.declared.view.View.{View}
 use Rattle.words_cell.proofs.Flags.{never, SetsLow}

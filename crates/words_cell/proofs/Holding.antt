@@ -1,7 +1,8 @@
 -- What a seat has that has taken the lists out.
 use Rattle.std.proofs.Common.{◌≡◌, ℕ, List, [], ◌∷◌, sym, ap, ◌∙◌}
 use Rattle.atomic_table.specs.Table.{Me, rest}
-use Rattle.words_cell.specs.Seats.{listing_of, joined_active_of, joined_passive_of, last_of}
+use Rattle.words_base.specs.Waiting.{last_of}
+use Rattle.words_cell.specs.Seats.{listing_of, joined_active_of, joined_passive_of}
 use Rattle.words_cell.specs.Steps.{IsHeld, IsSame, CanJoinActive, CanJoinPassive}
 use Rattle.words_cell.specs.declared.view.View.{View}
 

@@ -8,9 +8,9 @@ use Rattle.atomic_table.specs.Table.{State, Me, keeps, takes, gives, stepped, pu
 use Rattle.atomic_table.proofs.Lists.{set_here, set_else, at_set}
 use Rattle.words_base.specs.Sums.{weight, number, total}
 use Rattle.words_base.proofs.Sums.{number-set, number-at, total-set}
-use Rattle.words_cell.specs.Rule.{first_view, makes_of, has_lists_out, filled_of, taken_of, Has, NoneWaits, Owes, OwesActive, OwesPassive, IsFreshActive, IsFreshPassive, SomeSeat, AreFresh, LosesNoneEmpty, LosesNoneFull, IsCell, IsListWord, SaysEmpty, Ruled}
+use Rattle.words_base.specs.Waiting.{Has, NoneWaits, Fewer, JoinedBy, LeftBy, StaysTold, SomeSeat, AreFresh}
+use Rattle.words_cell.specs.Rule.{first_view, makes_of, has_lists_out, filled_of, taken_of, Owes, OwesActive, OwesPassive, IsFreshActive, IsFreshPassive, LosesNoneEmpty, LosesNoneFull, IsCell, IsListWord, SaysEmpty, Ruled}
 use Rattle.words_cell.specs.Seats.{saw_of, saw_full_of, claimed_of, missed_of, late_of, filled_by, emptied_by, taken_by, having_found, eased_of, listing_of, back, joined_active_of, joined_passive_of, told_of, gone_of, paid_of, paid_active_of, paid_passive_of}
-use Rattle.words_cell.specs.Steps.{Fewer, JoinedBy, LeftBy, StaysTold}
 use Rattle.words_cell.specs.declared.view.View.{View}
 use Rattle.words_cell.proofs.Flags.{never}
 use Rattle.words_cell.proofs.Views.{own, apart, stays, fresh_stays}

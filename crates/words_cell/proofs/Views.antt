@@ -5,7 +5,7 @@ use mathlib.Core.Logic.{dite}
 use native.Mathlib.Decide.{ℕ_discrete}
 use lib.ListN.{get_elem?}
 use Rattle.atomic_table.proofs.Lists.{set_else, at_longer}
-use Rattle.words_cell.specs.Rule.{SomeSeat, AreFresh}
+use Rattle.words_base.specs.Waiting.{SomeSeat, AreFresh}
 use Rattle.words_cell.specs.declared.view.View.{View}
 
 there : (l : List View) (i : ℕ) (v w : View) → get_elem? l i ≡ some v → get_elem? (set l i w) i ≡ some w

@@ -2,7 +2,8 @@
 use Rattle.std.proofs.Common.{◌≡◌, ℕ, ◌<◌, Bool, List, sym, ◌∙◌, subst, arith, ◌⊎◌, inl, inr, ⊎_elim}
 use Rattle.atomic_table.specs.Table.{State}
 use Rattle.words_base.specs.Sums.{number}
-use Rattle.words_cell.specs.Rule.{has_lists_out, Ruled, SomeSeat, AreFresh, IsFreshActive, IsFreshPassive, LosesNoneEmpty, LosesNoneFull, NoneWaits}
+use Rattle.words_base.specs.Waiting.{NoneWaits, SomeSeat, AreFresh}
+use Rattle.words_cell.specs.Rule.{has_lists_out, Ruled, IsFreshActive, IsFreshPassive, LosesNoneEmpty, LosesNoneFull}
 use Rattle.words_cell.specs.Laws.{IsEmpty, IsFull, AreListsHome, Lie, IsAtRest}
 use Rattle.words_cell.specs.declared.view.View.{View}
 use Rattle.words_cell.proofs.Flags.{never, number-no}

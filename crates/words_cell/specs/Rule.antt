@@ -4,6 +4,7 @@ use mathlib.Core.Option.{some}
 use lib.ListN.{get_elem?}
 use Rattle.atomic_table.specs.Table.{State}
 use Rattle.words_base.specs.Sums.{weight, number, total}
+use Rattle.words_base.specs.Waiting.{SomeSeat, AreFresh}
 use Rattle.words_cell.specs.declared.view.View.{View}
 
 abbrev pub first_view : View
@@ -22,15 +23,6 @@ filled_of v = v.filled
 abbrev pub taken_of : View → ℕ
 taken_of v = v.taken
 
--- The number is in the list.
-abbrev pub Has : ℕ → List ℕ → Type 0
-Has n [] = ⊥
-Has n (k ∷ ks) = (k ≡ n) ⊎ Has n ks
-
--- Nobody waits: each entry of the list is notified.
-abbrev pub NoneWaits : List ℕ → Type 0
-NoneWaits waiting = (n : ℕ) → Has n waiting → ⊥
-
 -- It has to notify one that would make the value, or to claim on their behalf.
 abbrev pub Owes : View → Type 0
 Owes v = v.owes ≡ true
@@ -48,14 +40,6 @@ IsFreshActive n v = (v.fresh ≡ true) × (v.in_active ≡ true) × (v.entry ≡
 
 abbrev pub IsFreshPassive : ℕ → View → Type 0
 IsFreshPassive n v = (v.fresh ≡ true) × (v.in_passive ≡ true) × (v.entry ≡ n)
-
--- Some seat's view is so.
-abbrev pub SomeSeat : (View → Type 0) → List View → Type 0
-SomeSeat P views = (i : ℕ) × (v : View) × (get_elem? views i ≡ some v) × P v
-
--- Each of these entries is of a fresh seat.
-abbrev pub AreFresh : (ℕ → View → Type 0) → List ℕ → List View → Type 0
-AreFresh P waiting views = (n : ℕ) → Has n waiting → SomeSeat (P n) views
 
 -- No wake-up is lost of an empty cell: one that would make is notified, or a seat owes, or each that waits is fresh.
 abbrev pub LosesNoneEmpty : List ℕ → ℕ → List View → Type 0

@@ -68,9 +68,3 @@ paid_active_of v = record v { owes = false; owes_active = false; has_lists = fal
 
 abbrev pub paid_passive_of : View → View
 paid_passive_of v = record v { owes_passive = false; has_lists = false; active = []; passive = []; marked = 0 }
-
--- The last one of a list.
-abbrev pub last_of : List ℕ → ℕ
-last_of [] = 0
-last_of (n ∷ []) = n
-last_of (n ∷ m ∷ ms) = last_of (m ∷ ms)

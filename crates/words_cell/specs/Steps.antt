@@ -1,8 +1,9 @@
 -- What steps tell, and what a seat has that has the lists out.
 use Rattle.std.specs.Prelude.{◌≡◌, ◌≢◌, ℕ, ◌%◌, ◌<◌, ◌≤◌, ◌⊎◌, true, List, [], ◌∷◌}
 use Rattle.atomic_table.specs.Table.{Me, rest}
-use Rattle.words_cell.specs.Rule.{Has, NoneWaits, SaysEmpty}
-use Rattle.words_cell.specs.Seats.{saw_of, saw_full_of, claimed_of, missed_of, late_of, taken_by, having_found, eased_of, listing_of, last_of}
+use Rattle.words_base.specs.Waiting.{Has, NoneWaits, Fewer, JoinedBy, LeftBy, StaysTold, last_of}
+use Rattle.words_cell.specs.Rule.{SaysEmpty}
+use Rattle.words_cell.specs.Seats.{saw_of, saw_full_of, claimed_of, missed_of, late_of, taken_by, having_found, eased_of, listing_of}
 use Rattle.words_cell.specs.declared.view.View.{View}
 
 module _ {S : Type 0} where
@@ -38,20 +39,6 @@ module _ {S : Type 0} (active_of passive_of : S → List ℕ) (marked_of : S →
   -- The seat has the lists out, and knows what they have.
   abbrev pub IsHeld : Me S View → Type 0
   IsHeld m = (lists : S) × (m.0.has_lists ≡ true) × (m.0.active ≡ active_of lists) × (m.0.passive ≡ passive_of lists) × (m.0.marked ≡ marked_of lists) × (m.1 ≡ (0, lists) ∷ rest m.1)
-
--- What became of a list: nobody waits in it that didn't before; the same, but one with this number, or none with it.
-abbrev pub Fewer : List ℕ → List ℕ → Type 0
-Fewer old new = (n : ℕ) → Has n new → Has n old
-
-abbrev pub JoinedBy : ℕ → List ℕ → List ℕ → Type 0
-JoinedBy k old new = (n : ℕ) → Has n new → Has n old ⊎ (n ≡ k)
-
-abbrev pub LeftBy : ℕ → List ℕ → List ℕ → Type 0
-LeftBy k old new = (n : ℕ) → Has n new → Has n old × (n ≢ k)
-
--- If one was notified, one is, or nobody waits.
-abbrev pub StaysTold : ℕ → List ℕ → ℕ → Type 0
-StaysTold old active marked = 0 < old → (0 < marked) ⊎ NoneWaits active
 
 -- The lists that are out with a seat may be given back with this word.
 module _ {S : Type 0} (active_of passive_of : S → List ℕ) (marked_of : S → ℕ) (m : Me S View) (n : ℕ) where

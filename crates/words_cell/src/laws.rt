@@ -2,7 +2,8 @@
 
 ghost use Rattle.std.specs.Prelude.{ℕ, Bool, ◌<◌, ◌⊎◌};
 ghost use Rattle.atomic_table.specs.Table.{State};
-ghost use Rattle.words_cell.specs.Rule.{Ruled, LosesNoneEmpty, LosesNoneFull, NoneWaits};
+ghost use Rattle.words_base.specs.Waiting.{NoneWaits};
+ghost use Rattle.words_cell.specs.Rule.{Ruled, LosesNoneEmpty, LosesNoneFull};
 ghost use Rattle.words_cell.specs.Laws.{IsEmpty, IsFull, AreListsHome, Lie, IsAtRest};
 ghost use Rattle.words_cell.specs.declared.view.View.{View};
 

@@ -84,7 +84,8 @@ pub(crate) struct JoinsActive;
 impl<S: Content> Play<S, View> for JoinsActive {
     ghost use Rattle.std.specs.Prelude.{◌≡◌, ◌∷◌};
     ghost use Rattle.atomic_table.specs.Table.{rest};
-    ghost use Rattle.words_cell.specs.Seats.{joined_active_of, last_of};
+    ghost use Rattle.words_base.specs.Waiting.{last_of};
+    ghost use Rattle.words_cell.specs.Seats.{joined_active_of};
 
     ghost then = { λ _ m _ m'. (lists : S) × (m.1 ≡ (0, lists) ∷ rest m.1) × (m' ≡ (joined_active_of (last_of (S.active lists)) m.0, rest m.1)) };
 }
@@ -95,7 +96,8 @@ pub(crate) struct JoinsPassive;
 impl<S: Content> Play<S, View> for JoinsPassive {
     ghost use Rattle.std.specs.Prelude.{◌≡◌, ◌∷◌};
     ghost use Rattle.atomic_table.specs.Table.{rest};
-    ghost use Rattle.words_cell.specs.Seats.{joined_passive_of, last_of};
+    ghost use Rattle.words_base.specs.Waiting.{last_of};
+    ghost use Rattle.words_cell.specs.Seats.{joined_passive_of};
 
     ghost then = { λ _ m _ m'. (lists : S) × (m.1 ≡ (0, lists) ∷ rest m.1) × (m' ≡ (joined_passive_of (last_of (S.passive lists)) m.0, rest m.1)) };
 }

@@ -4,7 +4,7 @@ use Rattle.futures.specs.Task.{Hears}
 use Rattle.async_driver.specs.Tasks.{woken_by}
 use Rattle.async_driver.proofs.Keeping.{waker_at-waiting}
 use Rattle.mutex_core.proofs.Counting.{same-keyed}
-use Rattle.mutex_core.proofs.Receiving.{is_kept}
+use Rattle.lock_queue.proofs.Receiving.{is_kept}
 use Rattle.mutex_core.proofs.list.ask.Goals as goal
 
 pub returns-in-Some-clause-asked : goal.returns-in-Some-clause-asked

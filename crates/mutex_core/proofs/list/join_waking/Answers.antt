@@ -6,7 +6,7 @@ use Rattle.lock_event.specs.Slots.{has_id}
 use Rattle.async_driver.specs.Tasks.{woken_by}
 use Rattle.async_driver.proofs.Keeping.{waker_at-waiting, waits_joined}
 use Rattle.mutex_core.proofs.Counting.{joined-keyed}
-use Rattle.mutex_core.proofs.Receiving.{is_kept}
+use Rattle.lock_queue.proofs.Receiving.{is_kept}
 use Rattle.mutex_core.proofs.list.join_waking.Goals as goal
 
 pub unreachable-requires : goal.unreachable-requires

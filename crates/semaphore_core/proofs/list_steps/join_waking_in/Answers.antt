@@ -1,5 +1,5 @@
 use Rattle.lock_event.specs.declared.event.EntryId.{EntryId}
-use Rattle.semaphore_core.specs.declared.whose.Whose.{Whose}
+use Rattle.lock_queue.specs.declared.whose.Whose.{Whose}
 use Rattle.semaphore_core.specs.Queues.{queue_waiters, queue_marked}
 use Rattle.semaphore_core.proofs.Returning.{lent, joined}
 use Rattle.semaphore_core.proofs.list_steps.join_waking_in.Goals as goal

@@ -1,5 +1,5 @@
 use Rattle.std.proofs.Common.{sym, ap, ◌∙◌, subst}
-use Rattle.semaphore_core.specs.Asking.{ByHeard}
+use Rattle.lock_queue.specs.Asking.{ByHeard}
 use Rattle.semaphore_core.specs.Entries.{IsSame, StaysSound}
 use Rattle.semaphore_core.specs.Queues.{items_of}
 use Rattle.semaphore_core.proofs.queue.Queue.ask_again.Goals as goal

@@ -1,0 +1,220 @@
+-- What the calls on a list do to those that wait in it.
+use Rattle.words_base.specs.Waiting.{Has, NoneWaits, Fewer, JoinedBy, StaysTold, last_of}
+use Rattle.std.proofs.Common.{◌≡◌, ◌≢◌, ℕ, ◌-◌, ◌<◌, ◌≤◌, ◌==◌, ◌||◌, if◌then◌else◌, Bool, true, false, not, List, [], ◌∷◌, ◌++◌, length, refl, sym, ap, ◌∙◌, subst, arith, ◌⊎◌, inl, inr, ⊎_elim, Option, Some, None, Result, Ok, Err, IfOk, eq-eqb, ne_eqb, true≢false}
+use mathlib.Core.Logic.{dite}
+use native.Mathlib.Decide.{ℕ_discrete}
+use Rattle.lock_event.specs.declared.event.Entry.{Entry}
+use Rattle.lock_event.specs.declared.event.EntryId.{EntryId}
+use Rattle.lock_event.specs.declared.event.Mark.{Mark}
+use Rattle.lock_event.specs.declared.event.Mark.TheVariants.{Waiting, Notified, Additional}
+use Rattle.lock_event.specs.declared.event.Slot.{Slot}
+use Rattle.lock_event.specs.declared.event.Asked.{Asked}
+use Rattle.lock_event.specs.declared.event.Asked.TheVariants as asked
+use Rattle.lock_event.specs.Lists.{is_marked, marked_count, entry, joined, mark_waiting, notified, notified_additionally, left, passed_on, without, with_key, mark_at, is_listed}
+use Rattle.lock_event.specs.Slots.{without_waker, has_id, slot_of, is_due, emptied, HasAsked}
+use Rattle.lock_event.proofs.Counts.{marked_count-notified, marked_count-left, length-passed_on}
+use Rattle.lock_event.proofs.Marks.{length-mark_waiting, marked_count-joined, marked_count-with_key}
+use Rattle.lock_queue.specs.Entries.{unless_marked, waiting_in, HasFewer, IsKept, HasJoined, IsTold, AreTold, HasLeft}
+
+-- ---- numbers
+pub fewer_same : (l : List ℕ) → Fewer l l
+fewer_same l n h = h
+
+pub fewer_of : (old new : List ℕ) → new ≡ old → Fewer old new
+fewer_of old new e n h = subst (Has n) e h
+
+skip : (b : Bool) (k : ℕ) (l : List ℕ) → Fewer (unless_marked b k l) l
+skip true k l n h = h
+skip false k l n h = inr h
+
+both : (b : Bool) (k : ℕ) (old new : List ℕ) → Fewer old new → Fewer (unless_marked b k old) (unless_marked b k new)
+both true k old new all n h = all n h
+both false k old new all n h = ⊎_elim (λ e. inl e) (λ r. inr (all n r)) h
+
+marks : (b : Bool) (k : ℕ) (old new : List ℕ) → Fewer old new → Fewer (unless_marked b k old) new
+marks b k old new all n h = skip b k old n (all n h)
+
+pushed : (b : Bool) (k x : ℕ) (l : List ℕ) → unless_marked b k (l ++ x ∷ []) ≡ unless_marked b k l ++ x ∷ []
+pushed true k x l = refl
+pushed false k x l = refl
+
+joined_by : (x : ℕ) (l : List ℕ) → JoinedBy x l (l ++ x ∷ [])
+joined_by x [] n h = ⊎_elim (λ e. inr (sym e)) (λ z. absurd z) h
+joined_by x (k ∷ ks) n h = ⊎_elim (λ e. inl (inl e)) (λ r. ⊎_elim (λ a. inl (inr a)) (λ b. inr b) (joined_by x ks n r)) h
+
+last-cons : (k : ℕ) (x : ℕ) (l : List ℕ) → last_of (k ∷ l ++ x ∷ []) ≡ last_of (l ++ x ∷ [])
+last-cons k x [] = refl
+last-cons k x (y ∷ ys) = refl
+
+last-pushed : (x : ℕ) (l : List ℕ) → last_of (l ++ x ∷ []) ≡ x
+last-pushed x [] = refl
+last-pushed x (k ∷ ks) = last-cons k x ks ∙ last-pushed x ks
+
+module _ {W : Type 0} where
+  abbrev number : Entry (Slot W) → ℕ
+  number e = e.key.id.number
+
+  abbrev Less : List (Entry (Slot W)) → List (Entry (Slot W)) → Type 0
+  Less old new = Fewer (waiting_in old) (waiting_in new)
+
+  -- ---- marking
+  mark_head : (m : Mark) (e : Entry (Slot W)) (es fs gs : List (Entry (Slot W))) (b z : Bool) → is_marked m ≡ true → is_marked e.mark ≡ b → Less es fs → Less es gs
+      → Fewer (unless_marked b (number e) (waiting_in es)) (waiting_in (if b || z then e ∷ fs else entry e.key m ∷ gs))
+  mark_head m e es fs gs true z told is a b = subst (λ c. Fewer (waiting_in es) (unless_marked c (number e) (waiting_in fs))) (sym is) a
+  mark_head m e es fs gs false true told is a b = subst (λ c. Fewer (number e ∷ waiting_in es) (unless_marked c (number e) (waiting_in fs))) (sym is) (both false (number e) (waiting_in es) (waiting_in fs) a)
+  mark_head m e es fs gs false false told is a b = subst (λ c. Fewer (number e ∷ waiting_in es) (unless_marked c (number e) (waiting_in gs))) (sym told) (λ n h. inr (b n h))
+
+  fewer-mark : (m : Mark) (n : ℕ) (es : List (Entry (Slot W))) → is_marked m ≡ true → Less es (mark_waiting m n es)
+  fewer-mark m n [] told = λ k h. h
+  fewer-mark m n (e ∷ es) told = mark_head m e es (mark_waiting m n es) (mark_waiting m (n - 1) es) (is_marked e.mark) (n == 0) told refl (fewer-mark m n es told) (fewer-mark m (n - 1) es told)
+
+  none_head : (m : Mark) (e : Entry (Slot W)) (fs gs : List (Entry (Slot W))) (b z : Bool) → is_marked m ≡ true → is_marked e.mark ≡ b → z ≡ false → NoneWaits (waiting_in fs) → NoneWaits (waiting_in gs)
+      → NoneWaits (waiting_in (if b || z then e ∷ fs else entry e.key m ∷ gs))
+  none_head m e fs gs true z told is not a b = subst (λ c. NoneWaits (unless_marked c (number e) (waiting_in fs))) (sym is) a
+  none_head m e fs gs false true told is not a b = absurd (true≢false not)
+  none_head m e fs gs false false told is not a b = subst (λ c. NoneWaits (unless_marked c (number e) (waiting_in gs))) (sym told) b
+
+  all-mark : (m : Mark) (n : ℕ) (es : List (Entry (Slot W))) → is_marked m ≡ true → length es ≤ n → NoneWaits (waiting_in (mark_waiting m n es))
+  all-mark m n [] told many = λ k h. h
+  all-mark m n (e ∷ es) told many = none_head m e (mark_waiting m n es) (mark_waiting m (n - 1) es) (is_marked e.mark) (n == 0) told refl (ne_eqb n 0 (λ z. omega (arith, z, many))) (all-mark m n es told (omega arith)) (all-mark m (n - 1) es told (omega arith))
+
+  pub all_told : (es : List (Entry (Slot W))) → AreTold (notified_additionally es (length es))
+  all_told es = record { none_waits = all-mark Additional (length es) es refl (omega arith) }
+
+  -- ---- no entries
+  empty_waits : (es : List (Entry (Slot W))) → length es ≡ 0 → NoneWaits (waiting_in es)
+  empty_waits [] e = λ n h. h
+  empty_waits (x ∷ xs) e = absurd (omega arith)
+
+  told-from : (es new : List (Entry (Slot W))) → length new ≡ length es → (0 < length es → 0 < marked_count new) → (0 < marked_count new) ⊎ NoneWaits (waiting_in new)
+  told-from es new same some = dite (ℕ_discrete (length new) 0) (λ z. inr (empty_waits new z)) (λ ne. inl (some (omega arith)))
+
+  pub one_told : (es : List (Entry (Slot W))) → IsTold es (notified es 1)
+  one_told es = record { fewer = fewer-mark Notified (1 - marked_count es) es refl; told = told-from es (notified es 1) (length-mark_waiting Notified (1 - marked_count es) es) (marked_count-notified es) }
+
+  -- ---- taking a waker
+  waker_head : (b : Bool) (e : Entry (Slot W)) (es fs : List (Entry (Slot W))) → waiting_in fs ≡ waiting_in es → waiting_in (if b then emptied e ∷ es else e ∷ fs) ≡ unless_marked (is_marked e.mark) (number e) (waiting_in es)
+  waker_head true e es fs same = refl
+  waker_head false e es fs same = ap (unless_marked (is_marked e.mark) (number e)) same
+
+  waits-without_waker : (es : List (Entry (Slot W))) → waiting_in (without_waker es) ≡ waiting_in es
+  waits-without_waker [] = refl
+  waits-without_waker (e ∷ es) = waker_head (is_due e) e es (without_waker es) (waits-without_waker es)
+
+  marked-without_waker : (es : List (Entry (Slot W))) → marked_count (without_waker es) ≡ marked_count es
+  marked-without_waker [] = refl
+  marked-without_waker (e ∷ es) = grind (arith, marked-without_waker es)
+
+  stays_told : (old new : List (Entry (Slot W))) → marked_count old ≤ marked_count new → StaysTold (marked_count old) (waiting_in new) (marked_count new)
+  stays_told old new more some = inl (omega arith)
+
+  pub kept_without_waker : (es : List (Entry (Slot W))) → IsKept es (without_waker es)
+  kept_without_waker es = let m = marked-without_waker es in record { fewer = fewer_of (waiting_in es) (waiting_in (without_waker es)) (waits-without_waker es); told = stays_told es (without_waker es) (omega arith) }
+
+  pub kept_same : (es : List (Entry (Slot W))) → IsKept es es
+  kept_same es = record { fewer = λ n h. h; told = λ some. inl some }
+
+  pub kept_on : (a b c : List (Entry (Slot W))) → IsKept a b → IsKept b c → IsKept a c
+  kept_on a b c f g = record { fewer = λ n h. f.fewer n (g.fewer n h); told = λ some. ⊎_elim (λ m. g.told m) (λ none. inr (λ n h. none n (g.fewer n h))) (f.told some) }
+
+  pub told_on : (b c : List (Entry (Slot W))) → AreTold b → IsKept b c → AreTold c
+  told_on b c t g = record { none_waits = λ n h. t.none_waits n (g.fewer n h) }
+
+  -- what was so of the list before a waker was taken out
+  pub told_without_waker : (old es : List (Entry (Slot W))) → IsTold old es → IsTold old (without_waker es)
+  told_without_waker old es t = let w = waits-without_waker es in let m = marked-without_waker es in
+      record { fewer = λ n h. t.fewer n (subst (Has n) w h); told = ⊎_elim (λ some. inl (omega arith)) (λ none. inr (λ n h. none n (subst (Has n) w h))) t.told }
+
+  pub left_without_waker : (old es : List (Entry (Slot W))) (k : ℕ) → HasLeft old es k → HasLeft old (without_waker es) k
+  left_without_waker old es k t = let w = waits-without_waker es in let m = marked-without_waker es in record {
+    fewer = λ n h. t.fewer n (subst (Has n) w h);
+    told = λ some. ⊎_elim (λ more. inl (omega arith)) (λ none. inr (λ n h. none n (subst (Has n) w h))) (t.told some);
+    left = λ n h. t.left n (subst (Has n) w h);
+  }
+
+  -- ---- leaving
+  out_head : (b : Bool) (e : Entry (Slot W)) (es fs : List (Entry (Slot W))) → Less es fs → Fewer (unless_marked (is_marked e.mark) (number e) (waiting_in es)) (waiting_in (if b then es else e ∷ fs))
+  out_head true e es fs all = skip (is_marked e.mark) (number e) (waiting_in es)
+  out_head false e es fs all = both (is_marked e.mark) (number e) (waiting_in es) (waiting_in fs) all
+
+  fewer-without : (test : Slot W → Bool) (es : List (Entry (Slot W))) → Less es (without test es)
+  fewer-without test [] = λ n h. h
+  fewer-without test (e ∷ es) = out_head (test e.key) e es (without test es) (fewer-without test es)
+
+  fewer-passed_on : (mark : Option Mark) (es : List (Entry (Slot W))) → Less es (passed_on mark es)
+  fewer-passed_on None es = λ n h. h
+  fewer-passed_on (Some Waiting) es = λ n h. h
+  fewer-passed_on (Some Notified) es = fewer-mark Notified (1 - marked_count es) es refl
+  fewer-passed_on (Some Additional) es = fewer-mark Additional 1 es refl
+
+  kept-left : (test : Slot W → Bool) (es : List (Entry (Slot W))) → IsKept es (left test es)
+  kept-left test es = let l = length-passed_on (mark_at test es) (without test es) in record {
+    fewer = λ n h. fewer-without test es n (fewer-passed_on (mark_at test es) (without test es) n h);
+    told = λ some. dite (ℕ_discrete (length (left test es)) 0) (λ z. inr (empty_waits (left test es) z)) (λ ne. inl (marked_count-left test es (omega arith) some));
+  }
+
+  gone_head : (id : EntryId) (e : Entry (Slot W)) (es : List (Entry (Slot W))) (b c : Bool) → has_id id e.key ≡ b → (b || is_listed (has_id id) es) ≡ false → (is_listed (has_id id) es ≡ false → (n : ℕ) → Has n (waiting_in es) → n ≢ id.number)
+      → (n : ℕ) → Has n (unless_marked c (number e) (waiting_in es)) → n ≢ id.number
+  gone_head id e es true c is away rest = absurd (true≢false away)
+  gone_head id e es false true is away rest = λ n h. rest away n h
+  gone_head id e es false false is away rest = λ n h. ⊎_elim (λ same. λ mine. true≢false (sym (eq-eqb (number e) id.number (same ∙ mine)) ∙ is)) (λ r. rest away n r) h
+
+  not_there : (id : EntryId) (es : List (Entry (Slot W))) → is_listed (has_id id) es ≡ false → (n : ℕ) → Has n (waiting_in es) → n ≢ id.number
+  not_there id [] away = λ n h. absurd h
+  not_there id (e ∷ es) away = gone_head id e es (has_id id e.key) (is_marked e.mark) refl away (not_there id es)
+
+  -- it has left, and no entry has the number
+  pub left_once : (id : EntryId) (es new : List (Entry (Slot W))) → new ≡ left (has_id id) es → is_listed (has_id id) new ≡ false → HasLeft es new id.number
+  left_once id es new is away = let k : IsKept es new = subst (λ l. IsKept es l) (sym is) (kept-left (has_id id) es) in record { fewer = k.fewer; told = k.told; left = λ n h. (k.fewer n h, not_there id new away n h) }
+
+  -- it has left, and nobody waits
+  pub left_all : (old mid new : List (Entry (Slot W))) (k : ℕ) → new ≡ notified_additionally mid (length mid) → HasLeft old new k
+  left_all old mid new k is = let none : NoneWaits (waiting_in new) = subst (λ l. NoneWaits (waiting_in l)) (sym is) ((all_told mid).none_waits) in record { fewer = λ n h. absurd (none n h); told = λ _. inr none; left = λ n h. absurd (none n h) }
+
+  -- ---- asking
+  key_head : (id : EntryId) (w : Option W) (b : Bool) (e : Entry (Slot W)) (es fs : List (Entry (Slot W))) → has_id id e.key ≡ b → Less es fs
+      → Fewer (unless_marked (is_marked e.mark) (number e) (waiting_in es)) (waiting_in (if b then entry (slot_of id w) e.mark ∷ es else e ∷ fs))
+  key_head id w true e es fs is all = let same : number e ≡ id.number = grind arith in subst (λ k. Fewer (unless_marked (is_marked e.mark) (number e) (waiting_in es)) (unless_marked (is_marked e.mark) k (waiting_in es))) same (fewer_same (unless_marked (is_marked e.mark) (number e) (waiting_in es)))
+  key_head id w false e es fs is all = both (is_marked e.mark) (number e) (waiting_in es) (waiting_in fs) all
+
+  fewer-with_key : (id : EntryId) (w : Option W) (es : List (Entry (Slot W))) → Less es (with_key (has_id id) (slot_of id w) es)
+  fewer-with_key id w [] = λ n h. h
+  fewer-with_key id w (e ∷ es) = key_head id w (has_id id e.key) e es (with_key (has_id id) (slot_of id w) es) refl (fewer-with_key id w es)
+
+  pub kept_keyed : (id : EntryId) (w : Option W) (es : List (Entry (Slot W))) → IsKept es (with_key (has_id id) (slot_of id w) es)
+  kept_keyed id w es = let m = marked_count-with_key (has_id id) (slot_of id w) es in record { fewer = fewer-with_key id w es; told = stays_told es (with_key (has_id id) (slot_of id w) es) (omega arith) }
+
+  pub fewer_asked : (id : EntryId) (w : Option W) (old new : List (Entry (Slot W))) (a : Asked W) → HasAsked id w old a new → HasFewer old new
+  fewer_asked id w old new (asked.Notified kept unused) h = record { fewer = subst (λ (l : List (Entry (Slot W))). Less old l) (sym h.1) (fewer-without (has_id id) old) }
+  fewer_asked id w old new (asked.Waiting kept) h = record { fewer = subst (λ (l : List (Entry (Slot W))). Less old l) (sym h.2) (fewer-with_key id w old) }
+  fewer_asked id w old new (asked.Unlisted unused) h = record { fewer = subst (λ (l : List (Entry (Slot W))). Less old l) (sym h.1) (fewer_same (waiting_in old)) }
+
+  -- ---- joining
+  waits-joined : (k : Slot W) (es : List (Entry (Slot W))) → waiting_in (joined es k) ≡ waiting_in es ++ k.id.number ∷ []
+  waits-joined k [] = refl
+  waits-joined k (e ∷ es) = ap (unless_marked (is_marked e.mark) (number e)) (waits-joined k es) ∙ pushed (is_marked e.mark) (number e) k.id.number (waiting_in es)
+
+  has-joined : (k : Slot W) (es : List (Entry (Slot W))) → HasJoined es (joined es k) k.id.number
+  has-joined k es = let w = waits-joined k es in let m = marked_count-joined es k in
+      record { joined = λ n h. joined_by k.id.number (waiting_in es) n (subst (Has n) w h); last = ap last_of w ∙ last-pushed k.id.number (waiting_in es); marked = omega arith }
+
+  pub joined_ok : {B : Type 0} (old new : List (Entry (Slot W))) (r : Result EntryId B) → IfOk r (λ id. new ≡ joined old (slot_of id None)) → IfOk r (λ id. HasJoined old new id.number)
+  joined_ok old new (Ok id) is = subst (λ (l : List (Entry (Slot W))). HasJoined old l id.number) (sym is) (has-joined (slot_of id None) old)
+  joined_ok old new (Err e) is = tt
+
+  -- ---- joining with a waker
+  rekeyed_head : (id : EntryId) (w : Option W) (b : Bool) (e : Entry (Slot W)) (es fs : List (Entry (Slot W))) → has_id id e.key ≡ b → waiting_in fs ≡ waiting_in es
+      → waiting_in (if b then entry (slot_of id w) e.mark ∷ es else e ∷ fs) ≡ unless_marked (is_marked e.mark) (number e) (waiting_in es)
+  rekeyed_head id w true e es fs is same = let mine : id.number ≡ number e = grind arith in ap (λ k. unless_marked (is_marked e.mark) k (waiting_in es)) mine
+  rekeyed_head id w false e es fs is same = ap (unless_marked (is_marked e.mark) (number e)) same
+
+  waits-with_key : (id : EntryId) (w : Option W) (es : List (Entry (Slot W))) → waiting_in (with_key (has_id id) (slot_of id w) es) ≡ waiting_in es
+  waits-with_key id w [] = refl
+  waits-with_key id w (e ∷ es) = rekeyed_head id w (has_id id e.key) e es (with_key (has_id id) (slot_of id w) es) refl (waits-with_key id w es)
+
+  rekeyed : (id : EntryId) (w : Option W) (old mid : List (Entry (Slot W))) (k : ℕ) → HasJoined old mid k → HasJoined old (with_key (has_id id) (slot_of id w) mid) k
+  rekeyed id w old mid k j = let same = waits-with_key id w mid in let m = marked_count-with_key (has_id id) (slot_of id w) mid in
+      record { joined = λ n h. j.joined n (subst (Has n) same h); last = ap last_of same ∙ j.last; marked = omega (arith, j.marked, m) }
+
+  pub joined_keyed : (id : EntryId) (w : Option W) (old mid : List (Entry (Slot W))) → mid ≡ joined old (slot_of id None) → HasJoined old (with_key (has_id id) (slot_of id w) mid) id.number
+  joined_keyed id w old mid is = rekeyed id w old mid id.number (subst (λ (l : List (Entry (Slot W))). HasJoined old l id.number) (sym is) (has-joined (slot_of id None) old))

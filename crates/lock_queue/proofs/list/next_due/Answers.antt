@@ -1,0 +1,7 @@
+use Rattle.std.proofs.Common.{sym, subst}
+use Rattle.lock_queue.specs.Entries.{IsKept}
+use Rattle.lock_queue.proofs.Changes.{kept_without_waker}
+use Rattle.lock_queue.proofs.list.next_due.Goals as goal
+
+pub returns : goal.returns
+returns c = let old = c.args.event.now.entries in subst (λ l. IsKept old l) (sym c.next_waker.ensures.entries) (kept_without_waker old)
