@@ -1,11 +1,13 @@
 -- Runs of a pool that no user would accept. Each record is one wrong run: what its steps would be, if it were legal.
-use Rattle.std.specs.Prelude.{◌≡◌, ◌≢◌, ℕ, ◌+◌, ◌<◌, ◌≤◌, true, false, length, Option, Some, None}
+use Rattle.std.specs.Prelude.{◌≡◌, ◌≢◌, ℕ, ◌+◌, ◌<◌, ◌≤◌, true, false, length, Some, None}
 use Rattle.lock_event.specs.Lists.{marked_count}
 use Rattle.world_base.specs.queue.Parties.{entries_of}
 use Rattle.world_base.specs.declared.moves.Answer.{Answer}
 use Rattle.world_base.specs.declared.moves.Answer.TheVariants as answer
+use Rattle.world_base.specs.declared.moves.Call.TheVariants as call
 use Rattle.world_base.specs.declared.moves.Got.{Got}
 use Rattle.world_base.specs.declared.moves.Got.TheVariants as got
+use Rattle.world_base.specs.declared.moves.Inputs.{Inputs}
 use Rattle.world_base.specs.declared.moves.Move.{Move}
 use Rattle.world_base.specs.declared.standing.Kind.TheVariants as kind
 use Rattle.world_base.specs.declared.standing.Rest.TheVariants.{Holding}
@@ -13,8 +15,10 @@ use Rattle.world_base.specs.declared.standing.Within.{Within}
 use Rattle.world_base.specs.Frame.{is_poll_after_ready}
 use Rattle.world_base.specs.Rosters.{how_many}
 use Rattle.world_base.specs.Standings.{outside}
+use Rattle.world_mutex.specs.machine.Mutex.{holders, starved}
 use Rattle.world_semaphore.specs.machine.Permits.{size_of}
 use Rattle.world_pool.specs.AtOnce.{AnswersAtOnce, is_first_take, is_try, is_lease_drop}
+use Rattle.world_pool.specs.Bound.{IsSolo, Promises}
 use Rattle.world_pool.specs.Laws.{IsSound, IsAwake}
 use Rattle.world_pool.specs.Legal.{Legal, call_of, is_carrying}
 use Rattle.world_pool.specs.State.{World, standing_of, lease_of, gives, available, limit, lost, made, HasPermit, HoldsLock}
@@ -156,3 +160,23 @@ pub record ItemsVanish : Type 0 where
   pub world : World
   pub fewer : length world.items + how_many_leased world.leases + lost world < made world
   pub sound : IsSound world
+
+-- A party that was notified for the list's lock polls alone, where nobody holds the lock and nobody is starved for it, and waits again.
+pub record PassesOverInVain : Type 0 where
+  pub old : World
+  pub party : ℕ
+  pub inputs : Inputs
+  pub given : Answer
+  pub new : World
+  pub solo : IsSolo old party inputs
+  pub free : holders old.lock ≡ 0
+  pub unstarved : starved old.lock ≡ 0
+  pub pending : given ≡ answer.Pending
+  pub kept : Promises old party call.Poll inputs given new
+
+-- At rest somebody waits for the list's lock, and nobody was notified.
+pub record SleepsForTheLock : Type 0 where
+  pub world : World
+  pub some : 0 < length world.lock.entries
+  pub untold : marked_count world.lock.entries ≡ 0
+  pub awake : IsAwake world

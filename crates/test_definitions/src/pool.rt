@@ -4,7 +4,7 @@ ghost use Rattle.test_definitions.specs.Tables.{AreRowsOf, AreRowsOfTwo};
 ghost use Rattle.test_definitions.specs.PoolTable.{beginnings, actions, followings};
 ghost use Rattle.world_pool.specs.program.Program.{start_of, action_of, next_of};
 ghost use Rattle.test_definitions.specs.Never.{Never};
-ghost use Rattle.test_definitions.specs.Pool.{LeasedTwice, LeasedAndListed, GivesPermitFirst, DropReturnsPermit, PopsWithoutLock, PopsWithoutPermit, LostComesBack, SleepsBesideAnItem, MissesAPermit, InVainBesideAPermit, GiveIsReady, HoldsUnsaid, SaysAnotherItem, Unbalanced, ItemsVanish};
+ghost use Rattle.test_definitions.specs.Pool.{LeasedTwice, LeasedAndListed, GivesPermitFirst, DropReturnsPermit, PopsWithoutLock, PopsWithoutPermit, LostComesBack, SleepsBesideAnItem, MissesAPermit, InVainBesideAPermit, GiveIsReady, HoldsUnsaid, SaysAnotherItem, Unbalanced, ItemsVanish, PassesOverInVain, SleepsForTheLock};
 
 /// Each clause says of one wrong run that it isn't legal.
 fn wrong_runs()
@@ -23,6 +23,8 @@ fn wrong_runs()
     ensures says_another_item { Never (SaysAnotherItem) }
     ensures unbalanced { Never (Unbalanced) }
     ensures items_vanish { Never (ItemsVanish) }
+    ensures passes_over_in_vain { Never (PassesOverInVain) }
+    ensures sleeps_for_the_lock { Never (SleepsForTheLock) }
 {}
 
 /// The programs' places, each with its action and what follows what it finds, as docs/PROGRAMS.md lists them.

@@ -4,3 +4,4 @@ pub mod table
 pub mod step
 pub mod laws
 pub mod whole
+pub mod bound

@@ -1,10 +1,9 @@
 -- What one move may do to a pool, and how it may be answered.
-use Rattle.std.specs.Prelude.{◌≡◌, ◌≢◌, ℕ, ◌+◌, ◌++◌, ◌∷◌, [], if◌then◌else◌, Bool, true, false, length, Option, Some, None, slice_set}
+use Rattle.std.specs.Prelude.{◌≡◌, ◌≢◌, ℕ, ◌+◌, ◌++◌, ◌∷◌, [], Bool, true, false, length, Option, Some, None, slice_set}
 use Rattle.lock_program.specs.declared.end.End.{End}
 use Rattle.lock_program.specs.declared.end.End.TheVariants.{GivenBack}
 use Rattle.lock_program.specs.declared.mutex.Step.{Step}
 use Rattle.lock_program.specs.declared.mutex.Step.TheVariants as step
-use Rattle.lock_program.specs.declared.refusal.Refusal.{Refusal}
 use Rattle.lock_program.specs.declared.refusal.Refusal.TheVariants as refusal
 use Rattle.world_base.specs.declared.moves.Answer.{Answer}
 use Rattle.world_base.specs.declared.moves.Answer.TheVariants as answer
@@ -16,15 +15,15 @@ use Rattle.world_base.specs.declared.standing.Kind.TheVariants as kind
 use Rattle.world_base.specs.declared.standing.Rest.TheVariants.{Idle, Pending, Holding, Finished}
 use Rattle.world_base.specs.declared.standing.Within.{Within}
 use Rattle.world_base.specs.Frame as frame
-use Rattle.world_base.specs.Standings.{Standing, outside, inside, forgotten, inputs_of, may_end, rest_after, refused}
+use Rattle.world_base.specs.Standings.{Standing, outside, inside, inputs_of, may_end, rest_after, refused}
 use Rattle.world_mutex.specs.machine.Conduct as mutex
-use Rattle.world_mutex.specs.machine.Mutex.{Mutex, course_at as lock_course}
+use Rattle.world_mutex.specs.machine.Mutex.{course_at as lock_course}
 use Rattle.world_mutex.specs.machine.Course as lock
 use Rattle.world_semaphore.specs.machine.Conduct as semaphore
 use Rattle.world_semaphore.specs.machine.Course as permit
-use Rattle.world_semaphore.specs.machine.Permits.{Permits, course_at as permit_course}
+use Rattle.world_semaphore.specs.machine.Permits.{course_at as permit_course}
 use Rattle.world_pool.specs.machine.Machine.{knows}
-use Rattle.world_pool.specs.State.{World, standing_of, lease_of, gives, limit, available, made, HasPermit, HoldsLock}
+use Rattle.world_pool.specs.State.{World, standing_of, lease_of, gives, limit, made, HasPermit, HoldsLock}
 
 -- The call that a move belongs to, where its party may make it.
 abbrev pub call_of : World → Move → Option Within

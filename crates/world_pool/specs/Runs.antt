@@ -1,6 +1,5 @@
 -- Whole runs of a pool's World, and what the moves and answers alone tell: which item each party has leased.
 use Rattle.std.specs.Prelude.{◌≡◌, ℕ, ◌==◌, if◌then◌else◌, true, List, Option, Some, None}
-use Rattle.lock_program.specs.declared.refusal.Refusal.TheVariants as refusal
 use Rattle.world_base.specs.declared.moves.Answer.{Answer}
 use Rattle.world_base.specs.declared.moves.Answer.TheVariants as answer
 use Rattle.world_base.specs.declared.moves.Call.TheVariants as call
@@ -8,7 +7,7 @@ use Rattle.world_base.specs.declared.moves.Got.{Got}
 use Rattle.world_base.specs.declared.moves.Got.TheVariants as got
 use Rattle.world_base.specs.declared.moves.Move.{Move}
 use Rattle.world_base.specs.declared.moves.What.{What}
-use Rattle.world_base.specs.declared.moves.What.TheVariants.{Begin, Go}
+use Rattle.world_base.specs.declared.moves.What.TheVariants.{Begin}
 use Rattle.world_base.specs.declared.standing.Rest.TheVariants.{Holding}
 use Rattle.world_base.specs.Runs as runs
 use Rattle.world_base.specs.Standings.{Standing, outside}

@@ -1,5 +1,5 @@
 -- How callers see what stands behind a pool's World.
-use Rattle.std.specs.Prelude.{ℕ, List, map, Option, Some, None}
+use Rattle.std.specs.Prelude.{ℕ, map, Option, Some, None}
 use Rattle.lock_program.specs.declared.end.End.{End}
 use Rattle.lock_program.specs.declared.end.End.TheVariants as ended
 use Rattle.lock_program.specs.declared.refusal.Refusal.TheVariants as refusal

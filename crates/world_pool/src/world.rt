@@ -12,6 +12,7 @@ ghost use Rattle.lock_program.specs.declared.refusal.Refusal.TheVariants as refu
 ghost use Rattle.world_pool.specs.State.{new_world, lease_of, available as available_lem, limit as limit_lem, list_in};
 ghost use Rattle.world_pool.specs.Steps.{Steps};
 ghost use Rattle.world_pool.specs.Laws.{IsSound, IsAwake, is_at_rest};
+ghost use Rattle.world_pool.specs.Bound.{IsBounded};
 
 use crate::machine::Pool;
 use crate::program::places::Position;
@@ -133,6 +134,17 @@ impl World {
     {
         self.table.laws();
         self.table.machine().laws();
+    }
+
+    /// How often the list's lock, at rest, may be passed over while parties wait for it: among as many solo polls in turn as its list
+    /// has entries one takes the lock. It does nothing.
+    ///
+    /// A solo poll is a [`AnyWorld::poll_whole`] of a pending party whose entry in the lock's list is marked and that finds memory. None
+    /// of them may be refused as one too many of the starved. The contract also says that some party that waits has been notified.
+    pub fn solo_polls(&self)
+        ensures { is_at_rest self.now ≡ true → 0 < length self.now.lock.entries → IsBounded self.now }
+    {
+        self.laws();
     }
 
     /// How many items the list has.

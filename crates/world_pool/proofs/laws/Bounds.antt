@@ -1,7 +1,6 @@
 -- A call that is carried out alone ends within its number of steps.
-use Rattle.world_pool.proofs.Prelude.{◌≡◌, ℕ, ◌+◌, ◌<◌, ◌≤◌, Bool, true, false, Option, Some, refl, arith, ap, sym, ◌∙◌, subst, get_or-set_same, Answer, Call, Got, Inputs, Move, Go, Rest, Within, going_on, some_eq, none_some, left_by, beginning, End, answer_of, Table, Acted, way, by_way, lock_steps_left, permit_steps_left, Aim, Ending, Taker, Next, Place, Acquire, WaitPermit, TakePermit, TryPermit, EnterLock, WaitLock, TakeLock, ReleaseLock, ReleasingLock, ReturnPermit, ReturningPermit, CancelPermit, CancellingPermit, CancelLock, CancellingLock, Lose, Abandon, Position, Out, Made, Acquiring, Locking, Leased, At, place_for, next_of, position_after, got_with, Pool, IsPool, Moves, position_at, answer_by, steps_left, left_from, left_after, IsPoolTable, TableSteps}
+use Rattle.world_pool.proofs.Prelude.{◌≡◌, ℕ, ◌+◌, ◌<◌, ◌≤◌, Option, Some, refl, arith, ap, sym, ◌∙◌, subst, get_or-set_same, Answer, Call, Got, Inputs, Move, Go, Rest, Within, going_on, some_eq, none_some, left_by, beginning, End, answer_of, Table, Acted, way, by_way, lock_steps_left, permit_steps_left, Aim, Next, Place, Acquire, WaitPermit, TakePermit, TryPermit, EnterLock, WaitLock, TakeLock, ReleaseLock, ReleasingLock, ReturningPermit, CancellingPermit, CancelLock, CancellingLock, Position, Out, Made, Acquiring, Locking, Leased, At, place_for, next_of, position_after, got_with, Pool, IsPool, Moves, position_at, answer_by, steps_left, left_from, left_after, IsPoolTable, TableSteps}
 use Rattle.lock_program.specs.declared.end.Next.TheVariants as next
-use Rattle.world_pool.specs.declared.program.places.PoolCall.{PoolCall}
 use Rattle.world_pool.specs.program.Program.{started, asked_of}
 use Rattle.world_pool.specs.machine.Ranks.{left, left_at}
 use Rattle.world_pool.specs.Whole.{most_steps_of}

@@ -1,5 +1,5 @@
 -- After each step of a run what is known by the answers tells which item each party has leased.
-use Rattle.world_pool.proofs.Prelude.{◌≡◌, ◌≢◌, ℕ, ◌+◌, ◌<◌, ◌≤◌, ◌==◌, if◌then◌else◌, Bool, true, false, Option, Some, None, List, length, refl, arith, ap, sym, ◌∙◌, subst, some_eq, none_some, false≢true, ℕ_discrete, get_or, sum_by, StepsWell, Answer, Got, Call, Inputs, Move, What, Begin, Go, Kind, Rest, Standing, outside, inside, forgotten, Within, refused, Refusal, is_possible, call_in, is_poll_after_ready, World, standing_of, lease_of, gives, knows, Legal, HasItsOwn, StandsAfter, call_of, ends, IsSound, IsAwake, is_at_rest, HoldsWell, TellsItems, known_of, items_after, item_after, item_by, item_in, kept_by, in_list, set, length-set, get_or-set_other, ◌⊎◌, inl, inr, leased, leases_item, lease_at, is_item, as_number}
+use Rattle.world_pool.proofs.Prelude.{◌≡◌, ◌≢◌, ℕ, ◌<◌, ◌≤◌, ◌==◌, if◌then◌else◌, Bool, true, false, Option, Some, None, List, length, refl, arith, ap, sym, ◌∙◌, subst, none_some, false≢true, ℕ_discrete, StepsWell, Answer, Got, Call, Move, What, Begin, Go, Rest, Standing, outside, inside, forgotten, Within, refused, Refusal, call_in, is_poll_after_ready, World, standing_of, lease_of, knows, Legal, call_of, IsSound, IsAwake, is_at_rest, HoldsWell, TellsItems, known_of, items_after, item_after, item_by, item_in, kept_by, set, length-set, get_or-set_other, inl, inr, leased, leases_item, lease_at, is_item}
 use Rattle.std.proofs.lemmas.List.Sums.{get_or-le-sum_by, sum_by-set}
 use Rattle.world_base.proofs.Equations.{same_test, other_test}
 use Rattle.world_base.proofs.of_table.Mapped.{past_last}

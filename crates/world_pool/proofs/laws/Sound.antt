@@ -1,10 +1,11 @@
 -- What always holds, as callers see it.
-use Rattle.world_pool.proofs.Prelude.{◌≡◌, ℕ, ◌+◌, ◌<◌, ◌≤◌, zero, suc, true, false, Option, Some, None, is_some, List, [], ◌∷◌, length, refl, arith, ap, sym, ◌∙◌, subst, sum_by, false≢true, Rest, Stage, Outside, Inside, Forgotten, is_outside, is_outside_stage, stage_at, Table, rest_seen, outside_at, by_stage_or_past, Mutex, lock_course, permit_course, Position, Out, Made, Acquiring, Locking, Leased, At, Aim, has, InPermits, fits_lock, fits_permits, in_lock, in_permits, is_leased, is_resting, goes_with, Pool, IsPool, IsAtRest, position_at, lease_at, World, view_of, verdict_in, IsSound, IsAwake, is_at_rest, HasPermit, IsPoolTable}
+use Rattle.world_pool.proofs.Prelude.{◌≡◌, ℕ, suc, true, Some, is_some, List, [], ◌∷◌, refl, arith, ap, sym, ◌∙◌, subst, sum_by, false≢true, Rest, Stage, Outside, Inside, Forgotten, is_outside_stage, stage_at, Table, rest_seen, outside_at, by_stage_or_past, lock_course, permit_course, Position, Out, Made, Acquiring, Locking, Leased, At, Aim, InPermits, fits_lock, fits_permits, in_lock, in_permits, is_resting, goes_with, Pool, IsPool, IsAtRest, position_at, lease_at, view_of, verdict_in, IsSound, IsAwake, is_at_rest, HasPermit, IsPoolTable}
 use Rattle.std.proofs.lemmas.List.Sums.{sum_by-cons}
 use Rattle.world_base.proofs.of_table.Mapped.{past_last}
-use Rattle.world_base.proofs.of_table.Resting.{all_at_rest, one_at_rest}
+use Rattle.world_base.proofs.of_table.Resting.{all_at_rest}
 use Rattle.world_mutex.specs.machine.Course as lock
 use Rattle.world_mutex.specs.machine.Mutex as mutex
+use Rattle.world_mutex.proofs.of_machine.callers.AloneSeen.{solo_polls as lock_law}
 use Rattle.world_semaphore.specs.machine.Permits as semaphore
 use Rattle.world_semaphore.specs.machine.Course as permit
 use Rattle.world_semaphore.proofs.of_machine.callers.InVain.{alone}
@@ -80,4 +81,6 @@ module _ (t : Table Pool) (laws : IsPool t.machine) (fits : IsPoolTable t) where
         acquires = laws.semaphore.wakes there;
         called = (alone t.machine.permits laws.semaphore).some_called there;
         locks = laws.mutex.wakes here free;
+        called_there = (lock_law t.machine.lock laws.mutex free).some_called here;
+        starved = λ p one. omega (arith, laws.mutex.starved_listed here p one);
       }

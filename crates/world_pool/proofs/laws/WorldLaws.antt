@@ -1,7 +1,5 @@
 -- The laws of a pool's World: what follows from one step that its table did.
-use Rattle.world_pool.proofs.Prelude.{◌≡◌, ◌≢◌, ℕ, ◌+◌, ◌<◌, ◌≤◌, Bool, true, false, Option, Some, None, List, refl, sym, ap, subst, ◌∙◌, Answer, Call, Inputs, Move, Begin, Rest, Within, Standing, outside, inside, is_outside, is_possible, is_poll_after_ready, going_on, moves_of, answers_of, StepsWell, left_by, beginning, some_eq, none_some, World, standing_of, gives, call_of, StandsAfter, IsSound, IsAwake, is_at_rest, TellsItems, HoldsWell, items_after, known_of, StandsWell, Steps, Runs}
-use Rattle.world_base.proofs.of_any_world.Runs.{last_of}
-use Rattle.world_pool.specs.Bound.{Promises}
+use Rattle.world_pool.proofs.Prelude.{◌≡◌, ◌≢◌, ℕ, ◌+◌, ◌<◌, ◌≤◌, Bool, true, false, Option, Some, None, refl, sym, ap, subst, ◌∙◌, Answer, Call, Inputs, Move, Within, Standing, outside, inside, is_outside, is_possible, is_poll_after_ready, going_on, StepsWell, left_by, beginning, World, standing_of, gives, call_of, StandsAfter, IsSound, IsAwake, is_at_rest, TellsItems, HoldsWell, items_after, known_of, StandsWell, Steps}
 use Rattle.world_pool.specs.Whole.{most_steps_of, steps_left_of}
 use Rattle.world_pool.proofs.laws.Sound.{sound, awake}
 use Rattle.world_pool.proofs.laws.Rights as rights

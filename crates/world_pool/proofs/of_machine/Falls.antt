@@ -1,6 +1,6 @@
 -- Each action of a party leaves fewer steps of its call.
-use Rattle.world_pool.proofs.Prelude.{◌≡◌, ℕ, ◌+◌, ◌<◌, ◌≤◌, arith, Inputs, End, Step, Refusal, Mutex, lock_left_after, lock_steps_left, Permits, permit_left_after, permit_steps_left, Aim, Ending, Found, Taker, Return, Place, Acquire, WaitPermit, TakePermit, TryPermit, TryLock, EnterLock, WaitLock, TakeLock, Pop, Push, ReleaseLock, ReleasingLock, ReturnPermit, ReturningPermit, CancelPermit, CancellingPermit, CancelLock, CancellingLock, Lose, Abandon, action_of, next_of, after_permit, after_lock, after_try_permit, after_try_lock, after_release, after_return, after_cancel, after_cancel_permit, released, returned, cancelled, OnPermits, OnLock}
-use Rattle.world_pool.specs.machine.Ranks.{left, left_then, left_with_lock, left_with_permit, left_released, left_cancelled, returning}
+use Rattle.world_pool.proofs.Prelude.{ℕ, ◌+◌, ◌<◌, arith, Inputs, End, Step, Mutex, lock_left_after, lock_steps_left, Permits, permit_left_after, permit_steps_left, Aim, Ending, Found, Taker, Return, Place, Acquire, WaitPermit, TakePermit, TryPermit, TryLock, EnterLock, WaitLock, TakeLock, Pop, Push, ReleaseLock, ReleasingLock, ReturnPermit, ReturningPermit, CancelPermit, CancellingPermit, CancelLock, CancellingLock, Lose, Abandon, action_of, next_of, after_permit, after_lock, after_try_permit, after_try_lock, after_release, after_return, after_cancel, after_cancel_permit, released, returned, cancelled, OnPermits, OnLock}
+use Rattle.world_pool.specs.machine.Ranks.{left, left_then, left_with_lock, left_with_permit, left_released, left_cancelled}
 
 module _ (p : ℕ) (m : Mutex) (s : Permits) where
   abbrev lock : ℕ

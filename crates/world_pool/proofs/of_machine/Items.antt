@@ -1,8 +1,8 @@
 -- The items: how many there are of each, what an action makes of them, and that whoever has a permit and the lock finds one.
-use Rattle.world_pool.proofs.Prelude.{◌≡◌, ◌≢◌, ℕ, ◌+◌, ◌<◌, ◌≤◌, ◌==◌, zero, suc, Bool, true, false, Option, Some, None, is_some, List, [], ◌∷◌, ◌++◌, length, get_or, length-set, get_or-set_same, get_or-set_other, set, replicate, refl, arith, ap, sym, ◌∙◌, subst, sum_by, ℕ_discrete, false≢true, Permits, permit_course, IsPermits, Action, Pop, Push, Lose, Aim, Ending, Place, EnterLock, WaitLock, TakeLock, ReleaseLock, ReleasingLock, CancelLock, CancellingLock, Position, Made, Locking, Leased, Out, Acquiring, At, OnItems, InPermits, has, fits_permits, in_permits, is_leased, is_resting, is_taking_out, position_at, lease_at, numbered, as_number, is_item, leases_item, in_list, leased, leases_any, how_many_leased, AreDifferent, how_many_taking_out, IsAtRest}
+use Rattle.world_pool.proofs.Prelude.{◌≡◌, ℕ, ◌+◌, ◌<◌, ◌≤◌, zero, suc, Bool, true, false, Option, Some, None, is_some, List, [], ◌∷◌, length, get_or, length-set, get_or-set_same, get_or-set_other, set, replicate, refl, arith, ap, sym, ◌∙◌, subst, sum_by, ℕ_discrete, false≢true, Permits, permit_course, IsPermits, Action, Push, Lose, Aim, Ending, EnterLock, WaitLock, TakeLock, ReleaseLock, ReleasingLock, CancelLock, CancellingLock, Position, Made, Locking, Leased, Out, Acquiring, At, OnItems, InPermits, has, fits_permits, in_permits, is_leased, is_resting, is_taking_out, position_at, lease_at, numbered, as_number, is_item, leases_item, in_list, leased, leases_any, how_many_leased, AreDifferent, how_many_taking_out, IsAtRest}
 use Rattle.std.proofs.lemmas.List.Sums.{sum_by-cons, sum_by_push, sum_by-set, get_or-le-sum_by}
-use Rattle.std.proofs.lemmas.List.{length-append, length-replicate}
-use Rattle.world_base.proofs.Alike.{none_of_all, all_alike}
+use Rattle.std.proofs.lemmas.List.{length-append}
+use Rattle.world_base.proofs.Alike.{none_of_all}
 use Rattle.world_base.proofs.Equations.{same_test, other_test}
 use Rattle.world_base.proofs.of_table.Resting.{all_at_rest, one_at_rest}
 use Rattle.world_semaphore.specs.machine.Permits as semaphore

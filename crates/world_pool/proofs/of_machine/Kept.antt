@@ -1,5 +1,5 @@
 -- An action of one party keeps what always holds of a pool.
-use Rattle.world_pool.proofs.Prelude.{◌≡◌, ◌≢◌, ℕ, ◌+◌, ◌<◌, ◌≤◌, zero, suc, Bool, true, false, Option, Some, None, is_some, List, [], length, get_or, replicate, length-set, get_or-set_same, get_or-set_other, set, refl, arith, ap, sym, ◌∙◌, subst, ℕ_discrete, false≢true, some_eq, Inputs, Rest, Stage, Outside, Within, stage_after, Keeps, End, Step, SemaphoreCall, LockCall, Mutex, IsMutex, lock_course, new_is_out, new_parties, may_lock, may_try, may_poll, may_cancel, may_release, Permits, IsPermits, permit_course, Action, Aim, Ending, Found, Taker, Return, Place, Acquire, WaitPermit, TakePermit, TryPermit, TryLock, EnterLock, WaitLock, TakeLock, Pop, Push, ReleaseLock, ReleasingLock, ReturnPermit, ReturningPermit, CancelPermit, CancellingPermit, CancelLock, CancellingLock, Lose, Abandon, Position, Out, At, action_of, next_of, position_after, OnPermits, OnLock, OnItems, CanLocks, CanItems, Seat, seat_of, seat_at, InPermits, InLock, has, fits_permits, fits_lock, in_permits, in_lock, is_leased, Pool, position_at, lease_at, numbered, new_pool, as_number, in_list, leases_item, leases_any, how_many_leased, AreDifferent, IsKept, IsPool, Stands, answer_by}
+use Rattle.world_pool.proofs.Prelude.{◌≡◌, ℕ, ◌<◌, ◌≤◌, Bool, true, false, Option, None, is_some, List, length, length-set, get_or-set_same, get_or-set_other, set, refl, arith, ap, sym, ◌∙◌, subst, ℕ_discrete, Inputs, Rest, Within, stage_after, Keeps, Mutex, IsMutex, lock_course, new_is_out, new_parties, may_lock, may_try, may_poll, may_cancel, may_release, Permits, IsPermits, permit_course, Ending, Found, Place, Acquire, WaitPermit, TakePermit, TryPermit, TryLock, EnterLock, WaitLock, TakeLock, Pop, Push, ReleaseLock, ReleasingLock, ReturnPermit, ReturningPermit, CancelPermit, CancellingPermit, CancelLock, CancellingLock, Lose, Position, Out, At, action_of, next_of, position_after, OnPermits, OnLock, OnItems, CanLocks, CanItems, Seat, fits_permits, fits_lock, in_permits, in_lock, is_leased, Pool, position_at, lease_at, new_pool, as_number, IsKept, IsPool, Stands, answer_by}
 use Rattle.std.proofs.lemmas.List.{length-replicate}
 use Rattle.world_base.proofs.Alike.{all_alike}
 use Rattle.world_mutex.specs.machine.Course as lock
@@ -9,7 +9,7 @@ use Rattle.world_pool.proofs.of_machine.Links
 use Rattle.world_pool.proofs.of_machine.Lands.{lands}
 use Rattle.world_pool.proofs.of_machine.Limits.{limit_stays, most_stays}
 use Rattle.world_pool.proofs.of_machine.Seats.{same_permits, same_lock, leases_then, leased_after, lease_made, pops_bare, loses_leased}
-use Rattle.world_pool.proofs.of_machine.Items.{as_many_numbered, none_leased_at_all, different_at_first, is_pop, is_loss, no_more, as_many, different_then, counted_then, finds, has_room, has_one, balanced_at_rest}
+use Rattle.world_pool.proofs.of_machine.Items.{as_many_numbered, none_leased_at_all, different_at_first, is_loss, no_more, as_many, different_then, counted_then, finds, has_room, balanced_at_rest}
 
 -- ---- what an action needs is there
 

@@ -1,9 +1,9 @@
 -- The stage after an action goes with where its party then stands.
-use Rattle.world_pool.proofs.Prelude.{◌≡◌, ℕ, ◌&&◌, if◌then◌else◌, Bool, true, false, Option, Some, None, refl, ap, false≢true, both, Answer, Kind, Rest, Inside, Within, within, stage_after, Refusal, End, Step, Course, Takes, Tries, Releases, Cancels, Aim, Ending, Found, Place, Acquire, WaitPermit, TakePermit, TryPermit, TryLock, EnterLock, WaitLock, TakeLock, Pop, Push, ReleaseLock, ReleasingLock, ReturnPermit, ReturningPermit, CancelPermit, CancellingPermit, CancelLock, CancellingLock, Lose, Abandon, Position, At, Return, Taker, Next, next_of, position_after, after_permit, after_lock, after_release, after_return, after_cancel, after_cancel_permit, is_take, is_try, is_give, is_drop, is_poll, is_lose, is_begun, runs, goes_with, answer_by}
+use Rattle.world_pool.proofs.Prelude.{◌≡◌, ℕ, if◌then◌else◌, Bool, true, false, Option, refl, Kind, Rest, Inside, Within, within, stage_after, Refusal, End, Step, Course, Takes, Tries, Aim, Ending, Found, Place, Acquire, WaitPermit, TakePermit, TryPermit, TryLock, EnterLock, WaitLock, TakeLock, Pop, Push, ReleaseLock, ReleasingLock, ReturnPermit, ReturningPermit, CancelPermit, CancellingPermit, CancelLock, CancellingLock, Lose, Abandon, At, Return, Taker, Next, next_of, position_after, after_permit, after_lock, after_release, after_return, after_cancel, after_cancel_permit, is_take, is_try, is_give, is_drop, is_poll, is_lose, is_begun, runs, goes_with, answer_by}
 use Rattle.world_semaphore.specs.machine.Course as permit
-use Rattle.world_semaphore.specs.machine.Conduct.{Polls, Tries as TriesPermit, Drops}
+use Rattle.world_semaphore.specs.machine.Conduct.{Polls, Tries as TriesPermit}
 use Rattle.world_base.specs.Standings.{rest_after_giving_back}
-use Rattle.world_pool.proofs.of_machine.Links.{LedPermit, LedLock, Ends}
+use Rattle.world_pool.proofs.of_machine.Links.{LedPermit, LedLock}
 
 abbrev pub LandsBy : Within → Next → Option ℕ → Type 0
 LandsBy w n lease = goes_with (stage_after Rest.Holding w (answer_by n lease)) (position_after n) ≡ true

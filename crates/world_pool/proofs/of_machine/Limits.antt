@@ -1,10 +1,10 @@
 -- The semaphore's limit: only who loses its item lowers it, and no step raises it.
-use Rattle.world_pool.proofs.Prelude.{◌≡◌, ℕ, ◌+◌, Bool, true, false, Option, Some, None, refl, arith, ap, sym, ◌∙◌, subst, false≢true, none_some, some_eq, both, Inputs, End, Step, SemaphoreCall, Permits, permit_course, Refusal, Found, Place, Acquire, WaitPermit, TakePermit, TryPermit, ReturnPermit, ReturningPermit, CancelPermit, CancellingPermit, Lose, At, action_of, OnPermits, InPermits, wants, polls, has, returns, fits_permits, in_permits, as_number}
+use Rattle.world_pool.proofs.Prelude.{◌≡◌, ℕ, ◌+◌, Bool, true, Option, Some, None, refl, arith, ap, sym, ◌∙◌, subst, false≢true, none_some, some_eq, both, Inputs, End, Step, Permits, permit_course, Refusal, Found, Place, Acquire, WaitPermit, TakePermit, TryPermit, ReturnPermit, ReturningPermit, CancelPermit, CancellingPermit, Lose, At, action_of, OnPermits, wants, has, returns, fits_permits, in_permits, as_number}
 use Rattle.world_semaphore.specs.declared.machine.words.Words.{Words}
-use Rattle.world_semaphore.specs.machine.Conduct.{IsAllowed, IsLegal, Polls, Tries, Drops}
+use Rattle.world_semaphore.specs.machine.Conduct.{IsAllowed, IsLegal, Polls, Tries}
 use Rattle.world_semaphore.specs.machine.Course as permit
 use Rattle.world_semaphore.specs.machine.Deeds.{Deed, nothing, changes, does, takes, gives_back, forgets, raises, gives, share_then, words_after, gives_something_back}
-use Rattle.world_semaphore.specs.machine.Seats.{Share, nothing_had, guard_of, under_way_of}
+use Rattle.world_semaphore.specs.machine.Seats.{Share, nothing_had, guard_of}
 use Rattle.world_pool.proofs.of_machine.Links
 use Rattle.world_pool.proofs.of_machine.Items.{is_loss}
 

@@ -1,9 +1,9 @@
 -- Where a step leads its party: its place goes with its courses in the semaphore and in the list's lock, and with its lease.
-use Rattle.world_pool.proofs.Prelude.{◌≡◌, ◌≢◌, ℕ, ◌==◌, ◌&&◌, Bool, true, false, Some, None, is_some, List, length, refl, ap, subst, arith, sym, ◌∙◌, false≢true, Inputs, Refusal, End, Step, LockCall, SemaphoreCall, both, Course, Takes, Tries, Releases, Cancels, Mutex, lock_course, may_lock, may_try, may_poll, may_cancel, may_release, Permits, permit_course, Action, Aim, Ending, Found, Place, Acquire, WaitPermit, TakePermit, TryPermit, TryLock, EnterLock, WaitLock, TakeLock, Pop, Push, ReleaseLock, ReleasingLock, ReturnPermit, ReturningPermit, CancelPermit, CancellingPermit, CancelLock, CancellingLock, Lose, Abandon, Position, At, Return, Taker, action_of, next_of, position_after, after_permit, after_lock, after_release, after_return, after_cancel, released, returned, cancelled, with_lock, lock_refused, OnPermits, OnLock, OnItems, CanLocks, fits_permits, fits_lock, in_permits, in_lock, is_leased, InPermits, wants, polls, has, returns, without}
+use Rattle.world_pool.proofs.Prelude.{◌≡◌, ◌≢◌, ℕ, ◌==◌, Bool, true, false, length, refl, ap, subst, arith, false≢true, Inputs, Refusal, End, Step, SemaphoreCall, both, Course, Takes, Tries, Releases, Cancels, Mutex, lock_course, Permits, permit_course, Action, Aim, Ending, Found, Place, Acquire, WaitPermit, TakePermit, TryPermit, TryLock, EnterLock, WaitLock, TakeLock, ReleaseLock, ReleasingLock, ReturnPermit, ReturningPermit, CancelPermit, CancellingPermit, CancelLock, CancellingLock, Lose, At, Return, Taker, action_of, next_of, position_after, after_permit, after_lock, after_release, after_return, after_cancel, released, returned, cancelled, OnPermits, OnLock, fits_permits, fits_lock, in_permits, in_lock, wants, polls, has, returns, without}
 use Rattle.std.proofs.lemmas.Bool.Decides.{nat_tests}
 use Rattle.world_mutex.specs.machine.Course as lock
 use Rattle.world_semaphore.specs.machine.Course as permit
-use Rattle.world_semaphore.specs.machine.Conduct.{Polls, Tries as TriesPermit, Drops, wanted_by}
+use Rattle.world_semaphore.specs.machine.Conduct.{Polls, Tries as TriesPermit, Drops}
 
 -- the action of this place is a step in the semaphore; in the list's lock
 abbrev pub in_semaphore : Place → Bool

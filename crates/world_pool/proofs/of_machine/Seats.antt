@@ -1,5 +1,5 @@
 -- What a party has after an action: how it stands in the semaphore and in the lock, and its lease.
-use Rattle.world_pool.proofs.Prelude.{◌≡◌, ℕ, Bool, true, false, Option, None, is_some, List, refl, ap, sym, ◌∙◌, false≢true, End, Step, Action, Aim, Ending, Found, Taker, Return, Place, Acquire, WaitPermit, TakePermit, TryPermit, TryLock, EnterLock, WaitLock, TakeLock, Pop, Push, ReleaseLock, ReleasingLock, ReturnPermit, ReturningPermit, CancelPermit, CancellingPermit, CancelLock, CancellingLock, Lose, Abandon, At, action_of, next_of, position_after, after_permit, after_lock, after_release, released, after_return, returned, after_cancel, cancelled, OnItems, InLock, has, in_permits, in_lock, is_leased}
+use Rattle.world_pool.proofs.Prelude.{◌≡◌, ℕ, Bool, true, false, Option, is_some, List, refl, ap, sym, ◌∙◌, false≢true, End, Step, Action, Aim, Ending, Found, Taker, Return, Place, Acquire, WaitPermit, TakePermit, TryPermit, TryLock, EnterLock, WaitLock, TakeLock, Pop, Push, ReleaseLock, ReleasingLock, ReturnPermit, ReturningPermit, CancelPermit, CancellingPermit, CancelLock, CancellingLock, Lose, Abandon, At, action_of, next_of, position_after, after_permit, after_lock, after_release, released, after_return, returned, after_cancel, cancelled, OnItems, InLock, has, in_permits, in_lock, is_leased}
 use Rattle.world_pool.proofs.of_machine.Links
 use Rattle.world_pool.proofs.of_machine.Items.{is_pop, is_loss}
 

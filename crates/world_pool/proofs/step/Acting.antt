@@ -1,5 +1,5 @@
 -- An action of a party is a legal step, as callers see it.
-use Rattle.world_pool.proofs.Prelude.{◌≡◌, ◌≢◌, ℕ, ◌+◌, ◌<◌, Bool, true, false, List, length, Option, Some, None, is_some, refl, arith, ap, sym, ◌∙◌, subst, get_or-set_same, get_or-set_other, length-set, length-standings, set, some_eq, none_some, false≢true, Answer, Got, got_with, Inputs, Move, What, Rest, Stage, Outside, Within, Next, Leased, Taker, Return, after_permit, after_lock, after_release, released, after_return, returned, after_cancel, cancelled, Standing, inputs_of, call_in, is_possible, is_stepped, call_seen, again_seen, is_poll_after_ready, stage_at, stands_as, stage_after, call_at, polls_again, Table, End, Step, SemaphoreCall, Mutex, lock_course, Permits, permit_course, Action, Found, Place, Acquire, WaitPermit, TakePermit, TryPermit, TryLock, EnterLock, WaitLock, TakeLock, Pop, Push, ReleaseLock, ReleasingLock, ReturnPermit, ReturningPermit, CancelPermit, CancellingPermit, CancelLock, CancellingLock, Lose, Abandon, Position, Out, At, Aim, Ending, action_of, next_of, position_after, place_for, OnPermits, OnLock, OnItems, has, seat_at, seat_of, Seat, fits_permits, fits_lock, in_permits, in_lock, is_leased, is_giving, knows, Pool, IsPool, Moves, Acts, position_at, lease_at, answer_by, runs, goes_with, World, standing_of, lease_of, gives, limit, made, HasPermit, HoldsLock, view_of, verdict_in, verdict, Legal, HasItsOwn, ChangesOneThing, EndsProperly, IsPossible, StandsAfter, Deed, Does, Pops, Pushes, Loses, MayPop, MayPush, call_of, ends as may_end_so, IsPoolTable}
+use Rattle.world_pool.proofs.Prelude.{◌≡◌, ◌≢◌, ℕ, ◌<◌, true, false, length, Option, Some, None, is_some, refl, ap, sym, ◌∙◌, subst, get_or-set_same, get_or-set_other, length-set, length-standings, set, some_eq, none_some, false≢true, Answer, Got, got_with, Inputs, Move, Rest, Stage, Outside, Within, Next, Leased, Taker, Return, after_permit, after_lock, after_release, released, after_return, returned, after_cancel, cancelled, Standing, inputs_of, call_in, is_possible, is_stepped, call_seen, again_seen, is_poll_after_ready, stage_at, stands_as, stage_after, call_at, polls_again, Table, End, Step, Mutex, lock_course, permit_course, Action, Found, Place, Acquire, WaitPermit, TakePermit, TryPermit, TryLock, EnterLock, WaitLock, TakeLock, Pop, Push, ReleaseLock, ReleasingLock, ReturnPermit, ReturningPermit, CancelPermit, CancellingPermit, CancelLock, CancellingLock, Lose, Abandon, Position, Out, At, Aim, Ending, action_of, next_of, position_after, place_for, OnPermits, OnLock, OnItems, has, Seat, fits_permits, fits_lock, in_permits, in_lock, is_leased, knows, Pool, IsPool, Acts, position_at, lease_at, answer_by, goes_with, World, standing_of, lease_of, gives, view_of, verdict_in, Legal, StandsAfter, Deed, Does, Loses, call_of, ends as may_end_so, IsPoolTable}
 use Rattle.lock_program.specs.declared.end.Next.TheVariants as next
 use Rattle.world_base.specs.Standings.{rest_after}
 use Rattle.world_base.proofs.of_table.Mapped.{set_same}
@@ -7,9 +7,8 @@ use Rattle.world_base.proofs.of_table.Views.{outside_stage}
 use Rattle.world_pool.specs.Legal.{Carried, is_carrying}
 use Rattle.world_pool.specs.machine.Machine.{has_lease}
 use Rattle.world_semaphore.specs.machine.Conduct as semaphore
-use Rattle.world_semaphore.specs.machine.Course as permit
 use Rattle.world_pool.specs.Legal.{nothing, in_semaphore, in_lock as in_lock_deed, pops, pushes, loses}
-use Rattle.world_pool.proofs.of_machine.Starts.{Fits, starts}
+use Rattle.world_pool.proofs.of_machine.Starts.{Fits}
 use Rattle.world_pool.proofs.of_machine.Links as links
 use Rattle.world_pool.proofs.of_machine.Limits.{limit_stays, most_stays, size_one}
 use Rattle.world_pool.proofs.table.Seen as seen

@@ -1,5 +1,5 @@
 -- What the first step of a call decides at once.
-use Rattle.world_pool.proofs.Prelude.{◌≡◌, ◌≢◌, ℕ, ◌<◌, ◌≤◌, ◌⊎◌, inl, inr, Bool, true, false, Option, Some, None, refl, arith, ap, sym, ◌∙◌, subst, some_eq, none_some, false≢true, Answer, Call, Inputs, Move, What, Begin, Go, Rest, Stage, Outside, Inside, Forgotten, Within, Standing, outside, inputs_of, Table, stage_at, stands_as, End, Step, SemaphoreCall, Permits, permit_course, Found, Place, Acquire, TryPermit, Lose, Position, Out, Made, Acquiring, Locking, Leased, At, Aim, action_of, next_of, position_after, place_for, OnPermits, OnItems, fits_permits, in_permits, is_leased, has, Pool, position_at, lease_at, answer_by, goes_with, World, standing_of, lease_of, available, HasPermit, view_of, verdict_in, AnswersAtOnce, is_first_take, is_lease_drop, Loses}
+use Rattle.world_pool.proofs.Prelude.{◌≡◌, ℕ, ◌<◌, ◌≤◌, inl, inr, true, Option, Some, refl, arith, ap, sym, ◌∙◌, subst, some_eq, none_some, false≢true, Answer, Call, Inputs, Move, What, Begin, Rest, Stage, Outside, Inside, Forgotten, Within, Standing, outside, inputs_of, Table, stage_at, stands_as, End, Step, Permits, permit_course, Found, Place, Acquire, TryPermit, Lose, Position, Out, Leased, action_of, next_of, place_for, OnPermits, OnItems, fits_permits, in_permits, is_leased, Pool, position_at, lease_at, answer_by, goes_with, standing_of, view_of, verdict_in, AnswersAtOnce, is_first_take, is_lease_drop}
 use Rattle.std.specs.Prelude.{◌↔◌}
 use Rattle.std.proofs.lemmas.Bool.{cases_lt}
 use Rattle.world_semaphore.specs.machine.Conduct.{Tries}

@@ -1,10 +1,10 @@
 -- How a call ends.
-use Rattle.world_pool.proofs.Prelude.{◌≡◌, ℕ, Bool, true, false, if◌then◌else◌, Option, Some, None, refl, ap, sym, ◌∙◌, subst, false≢true, some_eq, none_some, Answer, Call, Inputs, What, Begin, Go, Kind, Rest, Stage, Outside, Inside, Forgotten, Within, within, stage_at, call_at, stands_as, stage_after, is_stepped, is_possible, Standing, inside, End, Step, Refusal, answer_of, got_with, Course, Takes, Tries, Releases, Cancels, Aim, Ending, Found, Place, Acquire, WaitPermit, TakePermit, TryPermit, TryLock, EnterLock, WaitLock, TakeLock, Pop, Push, ReleaseLock, ReleasingLock, ReturnPermit, ReturningPermit, CancelPermit, CancellingPermit, CancelLock, CancellingLock, Lose, Abandon, Position, Out, Made, Acquiring, Locking, Leased, At, Return, Taker, Next, place_for, next_of, after_permit, after_lock, after_release, after_return, after_cancel, after_cancel_permit, is_take, is_try, is_give, is_drop, is_poll, is_lose, runs, knows, is_giving, answer_by, StandsAfter, ends}
+use Rattle.world_pool.proofs.Prelude.{◌≡◌, ℕ, Bool, true, false, Option, Some, refl, ap, sym, ◌∙◌, subst, false≢true, some_eq, none_some, Answer, Call, Inputs, What, Begin, Go, Kind, Rest, Stage, Outside, Inside, Forgotten, Within, call_at, stands_as, stage_after, is_stepped, is_possible, End, Step, Refusal, Course, Takes, Tries, Aim, Ending, Found, Place, Acquire, WaitPermit, TakePermit, TryPermit, TryLock, EnterLock, WaitLock, TakeLock, Pop, Push, ReleaseLock, ReleasingLock, ReturnPermit, ReturningPermit, CancelPermit, CancellingPermit, CancelLock, CancellingLock, Lose, Abandon, Position, Made, Acquiring, Locking, At, Return, Taker, Next, place_for, next_of, after_permit, after_lock, after_release, after_return, after_cancel, after_cancel_permit, is_take, is_try, is_give, is_drop, is_poll, is_lose, runs, knows, is_giving, answer_by, StandsAfter, ends}
 use Rattle.lock_program.specs.declared.end.Next.TheVariants as next
 use Rattle.world_pool.specs.machine.Roles.{is_giving_at}
 use Rattle.world_semaphore.specs.machine.Course as permit
-use Rattle.world_semaphore.specs.machine.Conduct.{Polls, Tries as TriesPermit, Drops}
-use Rattle.world_pool.proofs.of_machine.Links.{LedPermit, LedLock, Ends}
+use Rattle.world_semaphore.specs.machine.Conduct.{Polls, Tries as TriesPermit}
+use Rattle.world_pool.proofs.of_machine.Links.{LedPermit, LedLock}
 
 -- a step goes on, or ends its call by an answer with which such a call may end
 abbrev pub EndsBy : Bool → Kind → Next → Option ℕ → Type 0

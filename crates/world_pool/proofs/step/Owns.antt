@@ -1,5 +1,5 @@
 -- What parties have, by where they stand.
-use Rattle.world_pool.proofs.Prelude.{◌≡◌, ℕ, ◌<◌, Bool, true, false, Option, Some, None, is_some, refl, arith, ap, sym, ◌∙◌, subst, false≢true, Answer, Got, Rest, Stage, Outside, Inside, Forgotten, Within, Standing, inside, forgotten, End, Refusal, both, stage_at, stands_as, Table, by_stage_or_past_at, Place, Position, Out, Made, Acquiring, Locking, Leased, At, Aim, Ending, Taker, Return, TakePermit, TakeLock, ReleaseLock, ReleasingLock, ReturnPermit, ReturningPermit, InPermits, InLock, has, without, unlocked, waits, fits_permits, fits_lock, in_permits, in_lock, is_leased, is_giving, got_with, Pool, IsPool, position_at, lease_at, goes_with, is_begun, runs, lock_course, permit_course, World, standing_of, lease_of, gives, HasPermit, view_of, verdict, verdict_of, verdict_in, decided_inside, decided_ending, decided_return, HasItsOwn, HasNothing, HasLease, IsPending, IsPoolTable}
+use Rattle.world_pool.proofs.Prelude.{◌≡◌, ℕ, Bool, true, false, Option, Some, None, is_some, refl, ap, sym, ◌∙◌, subst, false≢true, Rest, Stage, Outside, Inside, Forgotten, Within, Standing, inside, End, stage_at, stands_as, Table, by_stage_or_past_at, Place, Position, Out, Made, Acquiring, Locking, Leased, At, Aim, Ending, Taker, Return, TakePermit, TakeLock, ReleaseLock, ReleasingLock, ReturnPermit, ReturningPermit, InPermits, InLock, has, without, unlocked, waits, fits_permits, fits_lock, in_permits, in_lock, is_leased, is_giving, Pool, IsPool, position_at, lease_at, goes_with, lock_course, permit_course, World, standing_of, gives, HasPermit, view_of, verdict, verdict_of, decided_inside, decided_ending, decided_return, HasItsOwn, HasNothing, HasLease, IsPending, IsPoolTable}
 use Rattle.world_mutex.specs.machine.Course as lock
 use Rattle.world_semaphore.specs.machine.Course as permit
 use Rattle.world_semaphore.specs.machine.Seats.{guard_of}

@@ -1,8 +1,7 @@
 -- A table's step as callers see it.
-use Rattle.world_pool.proofs.Prelude.{◌≡◌, ℕ, ◌<◌, Bool, true, false, Some, None, refl, ap, sym, ◌∙◌, subst, arith, length, false≢true, none_some, Answer, Call, Move, What, Begin, Refusal, Rest, Within, Standing, outside, call_in, refused, is_poll_after_ready, some_eq, stage_at, call_at, polls_again, Table, Acted, call_seen, again_seen, way, by_way, Place, Pool, IsPool, Moves, knows, position_at, World, standing_of, verdict_in, view_of, call_of, Legal, ChangesOneThing, HasItsOwn, EndsProperly, AnswersAtOnce, is_first_take, is_lease_drop, IsPoolTable, TableSteps, StandsWell, Steps}
+use Rattle.world_pool.proofs.Prelude.{◌≡◌, ℕ, Bool, true, false, Some, None, refl, ap, sym, ◌∙◌, subst, arith, false≢true, none_some, Answer, Call, Move, What, Begin, Refusal, Rest, Within, Standing, outside, call_in, refused, is_poll_after_ready, some_eq, stage_at, call_at, polls_again, Table, Acted, call_seen, again_seen, way, by_way, Place, Pool, IsPool, Moves, knows, position_at, World, standing_of, verdict_in, view_of, call_of, Legal, ChangesOneThing, HasItsOwn, AnswersAtOnce, is_first_take, is_lease_drop, IsPoolTable, TableSteps, StandsWell, Steps}
 use Rattle.world_base.proofs.of_table.Idle as idle
 use Rattle.world_base.proofs.of_table.Idle.{Idle}
-use Rattle.world_base.specs.declared.moves.Call.TheVariants.{Poll}
 use Rattle.world_pool.specs.AtOnce.{is_try}
 use Rattle.world_pool.specs.Legal.{nothing}
 use Rattle.world_pool.proofs.of_machine.Starts.{Fits, starts}

@@ -1,5 +1,5 @@
 -- Why a try is in vain.
-use Rattle.world_pool.proofs.Prelude.{◌≡◌, ℕ, ◌<◌, ◌⊎◌, inl, inr, Bool, true, false, Option, Some, None, refl, ap, sym, ◌∙◌, subst, some_eq, none_some, false≢true, Answer, Got, Inputs, Move, What, Rest, Stage, Outside, Inside, Forgotten, Begin, Go, Within, Standing, inside, ◌≢◌, Out, Made, Acquiring, Locking, Leased, goes_with, get_or-set_same, inputs_of, Table, stage_at, stands_as, stage_after, answer_of, got_with, End, Step, Refusal, SemaphoreCall, LockCall, Mutex, lock_course, Permits, permit_course, Action, Aim, Ending, Taker, Return, Found, Next, Place, Acquire, WaitPermit, TakePermit, TryPermit, TryLock, EnterLock, WaitLock, TakeLock, Pop, Push, ReleaseLock, ReleasingLock, ReturnPermit, ReturningPermit, CancelPermit, CancellingPermit, CancelLock, CancellingLock, Lose, Abandon, Position, At, action_of, next_of, position_after, place_for, after_permit, after_lock, after_release, released, after_return, returned, after_cancel, cancelled, OnPermits, OnLock, Pool, position_at, lease_at, answer_by, World, standing_of, available, view_of, verdict, verdict_of, verdict_in, decided_inside}
+use Rattle.world_pool.proofs.Prelude.{◌≡◌, ℕ, ◌<◌, ◌⊎◌, inl, inr, Bool, true, false, Option, Some, None, refl, ap, sym, ◌∙◌, subst, some_eq, none_some, false≢true, Answer, Got, Inputs, Move, What, Rest, Stage, Outside, Inside, Forgotten, Begin, Go, Within, inside, ◌≢◌, Out, Made, Acquiring, Locking, Leased, goes_with, get_or-set_same, inputs_of, Table, stage_at, stands_as, answer_of, got_with, End, Step, Refusal, Mutex, lock_course, Permits, permit_course, Aim, Ending, Taker, Return, Found, Next, Place, Acquire, WaitPermit, TakePermit, TryPermit, TryLock, EnterLock, WaitLock, TakeLock, Pop, Push, ReleaseLock, ReleasingLock, ReturnPermit, ReturningPermit, CancelPermit, CancellingPermit, CancelLock, CancellingLock, Lose, Abandon, Position, At, action_of, next_of, position_after, place_for, after_permit, after_lock, after_release, released, after_return, returned, after_cancel, cancelled, OnPermits, OnLock, Pool, position_at, lease_at, answer_by, standing_of, view_of, verdict, verdict_of, verdict_in, decided_inside}
 use Rattle.lock_program.specs.declared.end.Next.TheVariants as next
 use Rattle.world_base.specs.Standings.{is_decided, Decides, decision}
 use Rattle.world_base.proofs.of_table.Calls.{decided_after, decision_seen}

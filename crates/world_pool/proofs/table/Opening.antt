@@ -1,5 +1,5 @@
 -- A new table is seen as a new World.
-use Rattle.world_pool.proofs.Prelude.{◌≡◌, ℕ, Out, new_table, all_idle, is_giving, is_taking_out, new_pool, new_world, verdict_in, view_of, Outside, Rest, replicate, length, Stands, refl}
+use Rattle.world_pool.proofs.Prelude.{◌≡◌, ℕ, Out, new_table, all_idle, is_giving, is_taking_out, new_pool, new_world, verdict_in, view_of, Outside, Rest, length, Stands, refl}
 use Rattle.std.proofs.lemmas.List.{length-replicate}
 use Rattle.world_base.proofs.Alike.{all_alike}
 use Rattle.world_base.proofs.of_table.Mapped.{mapped_alike}

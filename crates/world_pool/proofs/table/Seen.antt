@@ -1,5 +1,5 @@
 -- What callers see of a machine, party by party.
-use Rattle.world_pool.proofs.Prelude.{◌≡◌, ℕ, ◌+◌, zero, suc, true, false, Bool, List, [], ◌∷◌, map, refl, arith, ap, sum_by, stage_at, stands_as, Table, standings_at, Position, Out, is_on, how_many, is_giving, is_taking_out, as_number, Pool, position_at, World, standing_of, gives, seeks, view_of, verdict_in}
+use Rattle.world_pool.proofs.Prelude.{◌≡◌, ℕ, List, [], ◌∷◌, map, refl, arith, sum_by, stage_at, stands_as, Table, standings_at, Position, Out, how_many, is_giving, is_taking_out, as_number, Pool, position_at, standing_of, gives, view_of, verdict_in}
 use Rattle.std.proofs.lemmas.List.Sums.{sum_by-cons}
 use Rattle.world_base.proofs.of_table.Mapped.{mapped_at}
 

@@ -1,5 +1,5 @@
 -- A later poll of a take without a permit, where one is available: it takes the permit.
-use Rattle.world_pool.proofs.Prelude.{◌≡◌, ◌≢◌, ℕ, ◌<◌, ◌≤◌, ◌⊎◌, inl, inr, Bool, true, false, Option, Some, None, List, length, refl, ap, sym, ◌∙◌, subst, arith, some_eq, none_some, false≢true, get_or-set_same, Answer, Got, Call, Inputs, Move, What, Begin, Go, Rest, Stage, Outside, Inside, Forgotten, Within, Standing, outside, call_at, polls_again, knows, goes_with, view_of, inputs_of, going_on, beginning, moves_of, answers_of, Table, Acted, stage_at, answer_of, got_with, End, Step, Refusal, SemaphoreCall, Permits, IsPermits, permit_course, Aim, Ending, Taker, Return, Found, Next, Place, WaitPermit, TakePermit, EnterLock, TakeLock, Pop, ReleaseLock, ReleasingLock, ReturnPermit, ReturningPermit, Position, Out, Made, Acquiring, Locking, At, action_of, next_of, position_after, place_for, after_permit, after_lock, after_release, after_return, OnPermits, fits_permits, in_permits, has, wants, InPermits, Pool, IsPool, Moves, position_at, lease_at, answer_by, World, standing_of, available, HasPermit, verdict_in, items_after, HoldsWell, Runs, Steps, StandsWell}
+use Rattle.world_pool.proofs.Prelude.{◌≡◌, ◌≢◌, ℕ, ◌<◌, ◌≤◌, ◌⊎◌, inl, inr, Bool, true, false, Option, Some, length, refl, ap, sym, ◌∙◌, subst, arith, some_eq, false≢true, get_or-set_same, Answer, Got, Call, Inputs, Begin, Go, Rest, Stage, Outside, outside, call_at, polls_again, knows, goes_with, going_on, beginning, moves_of, answers_of, Table, stage_at, answer_of, got_with, End, Step, Refusal, SemaphoreCall, Permits, permit_course, Aim, Ending, Taker, Return, Found, Next, Place, WaitPermit, TakePermit, EnterLock, TakeLock, Pop, ReleaseLock, ReleasingLock, ReturnPermit, ReturningPermit, Position, Out, Made, Acquiring, Locking, At, action_of, next_of, position_after, place_for, after_permit, after_lock, after_release, after_return, OnPermits, fits_permits, in_permits, has, wants, Pool, IsPool, Moves, position_at, lease_at, answer_by, World, standing_of, available, verdict_in, items_after, HoldsWell, Runs, Steps, StandsWell}
 use Rattle.lock_program.specs.declared.end.Next.TheVariants as next
 use Rattle.world_base.proofs.of_any_world.Runs.{Onward, along}
 use Rattle.world_base.proofs.of_table.Ways.{acted}
@@ -9,7 +9,6 @@ use Rattle.world_semaphore.specs.machine.Permits.{size_of}
 use Rattle.world_semaphore.proofs.of_machine.callers.InVain.{alone}
 use Rattle.world_pool.proofs.of_machine.Links.{wants_one, may_want}
 use Rattle.world_pool.proofs.table.Seen.{standing_seen}
-use Rattle.world_pool.proofs.step.Owns.{one_guard}
 use Rattle.world_pool.proofs.step.Stepping.{known_calls}
 use Rattle.world_semaphore.specs.machine.Course as permit
 use Rattle.world_pool.proofs.whole.Free.{inside_positions, stage_inside, never_stepped as never_steps}

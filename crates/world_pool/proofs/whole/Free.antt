@@ -1,5 +1,5 @@
 -- A whole first call where the list's lock is free, and a take or a try finds a permit: it comes to what it is for.
-use Rattle.world_pool.proofs.Prelude.{◌≡◌, ◌≢◌, ℕ, ◌<◌, ◌≤◌, Bool, true, false, Option, Some, None, List, length, refl, ap, sym, ◌∙◌, subst, arith, some_eq, none_some, false≢true, get_or-set_same, Answer, Got, Call, Inputs, Move, What, Begin, Go, Rest, Stage, Outside, Inside, Forgotten, Within, Standing, call_at, polls_again, knows, goes_with, view_of, outside, inputs_of, going_on, beginning, moves_of, answers_of, Table, Acted, stage_at, stands_as, answer_of, got_with, End, Step, SemaphoreCall, LockCall, Mutex, lock_course, Permits, permit_course, Action, Aim, Ending, Taker, Return, Found, Next, Place, Acquire, TryPermit, TryLock, EnterLock, Pop, Push, ReleaseLock, ReleasingLock, ReturnPermit, ReturningPermit, Position, Out, Leased, At, action_of, next_of, position_after, place_for, OnPermits, OnLock, fits_lock, fits_permits, in_lock, in_permits, has, inl, inr, Pool, IsPool, Moves, position_at, lease_at, answer_by, World, standing_of, available, verdict_in, items_after, HoldsWell, Runs, Steps, IsPoolTable, TableSteps}
+use Rattle.world_pool.proofs.Prelude.{◌≡◌, ◌≢◌, ℕ, ◌<◌, ◌≤◌, true, false, Option, Some, length, refl, ap, sym, ◌∙◌, subst, arith, some_eq, false≢true, get_or-set_same, Answer, Got, Call, Inputs, What, Begin, Go, Rest, Stage, Outside, Inside, Forgotten, Within, call_at, polls_again, knows, goes_with, view_of, outside, inputs_of, going_on, beginning, moves_of, answers_of, Acted, stage_at, answer_of, got_with, End, Step, SemaphoreCall, LockCall, Mutex, lock_course, Permits, permit_course, Action, Aim, Ending, Taker, Return, Found, Next, Place, Acquire, TryPermit, TryLock, EnterLock, Pop, Push, ReleaseLock, ReleasingLock, ReturnPermit, ReturningPermit, Position, Out, Leased, At, action_of, next_of, position_after, place_for, OnPermits, OnLock, fits_lock, fits_permits, in_lock, in_permits, has, inl, inr, Pool, Moves, position_at, lease_at, answer_by, World, standing_of, available, verdict_in, items_after, HoldsWell, Runs, Steps}
 use Rattle.lock_program.specs.declared.end.Next.TheVariants as next
 use Rattle.world_base.proofs.of_any_world.Runs.{Onward, along}
 use Rattle.world_base.proofs.of_table.Ways.{acted}
@@ -10,7 +10,7 @@ use Rattle.world_mutex.specs.machine.Mutex.{holders, starved}
 use Rattle.world_mutex.specs.machine.Course as lock
 use Rattle.world_semaphore.specs.machine.Conduct.{Drops}
 use Rattle.world_semaphore.specs.machine.Course as permit
-use Rattle.world_semaphore.specs.machine.Seats.{Debt, a_fit}
+use Rattle.world_semaphore.specs.machine.Seats.{a_fit}
 use Rattle.world_pool.proofs.of_machine.Limits.{has_is}
 use Rattle.world_pool.proofs.table.Seen.{standing_seen}
 use Rattle.world_pool.proofs.step.Stepping.{known_calls}
@@ -20,7 +20,7 @@ abbrev pub IsFree : Mutex → Type 0
 IsFree m = (holders m ≡ 0) × (starved m ≡ 0)
 
 -- the party is on its way to this end, at this place
-abbrev OnWay : ℕ → End → Place → Pool → Type 0
+abbrev pub OnWay : ℕ → End → Place → Pool → Type 0
 OnWay p End.Got (EnterLock Aim.Take) s = IsFree s.lock
 OnWay p End.Got (Pop Taker.Poll) s = Unit {0}
 OnWay p End.Got (ReleaseLock (Ending.Leased Taker.Poll)) s = Unit {0}
@@ -104,7 +104,7 @@ module _ (i : Inputs) (p : ℕ) (s v : Pool) where
 
 -- ---- along a call
 
-abbrev Way : ℕ → End → Pool → Type 0
+abbrev pub Way : ℕ → End → Pool → Type 0
 Way p e s = (x : Place) × (position_at s.positions p ≡ At x) × OnWay p e x s
 
 abbrev pub Ended : End → Answer → Type 0
@@ -152,7 +152,7 @@ module _ (x : World) (p : ℕ) (what : What) (a : Answer) (v : World) (s : Steps
 pub inside_positions : (s : Pool) (p : ℕ) (x : Place) → position_at s.positions p ≡ At x → p < length s.positions
 inside_positions s p x e = elim (cases_lt p (length s.positions)) as (λ _. p < length s.positions) [ inl h ↦ h | inr h ↦ (let out : Out ≡ At x = sym (past_last s.positions p Out (omega arith)) ∙ e in absurd (cc out)) ]
 
-goes_on : (i : Inputs) (p : ℕ) (e : End) (x : World) (a : Answer) (v : World) → Way p e x.behind.machine → Steps x (going_on p i) a v → Onward (λ (y : World). Way p e y.behind.machine) (λ b (y : World). Ended e b) a v
+pub goes_on : (i : Inputs) (p : ℕ) (e : End) (x : World) (a : Answer) (v : World) → Way p e x.behind.machine → Steps x (going_on p i) a v → Onward (λ (y : World). Way p e y.behind.machine) (λ b (y : World). Ended e b) a v
 goes_on i p e x a v way s =
     let t = x.behind in
     let known : p < length t.stages = omega (arith, s.did.stood.fits.as_many, inside_positions t.machine p way.0 way.1) in

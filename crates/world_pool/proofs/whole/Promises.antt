@@ -1,11 +1,12 @@
 -- What a whole call of a pool promises beside its end.
-use Rattle.world_pool.proofs.Prelude.{◌≡◌, ◌≢◌, ℕ, ◌≤◌, Option, ap, subst, sym, Answer, Call, Got, Inputs, Begin, Rest, outside, moves_of, answers_of, got_with, End, World, standing_of, available, HasPermit, permit_course, HoldsWell, items_after, Runs, Steps, StandsWell}
+use Rattle.world_pool.proofs.Prelude.{◌≢◌, ℕ, Option, subst, sym, Answer, Call, Inputs, Begin, moves_of, answers_of, got_with, World, HasPermit, permit_course, HoldsWell, items_after, Runs, Steps}
 use Rattle.world_base.proofs.of_any_world.Runs.{first_of, last_of}
-use Rattle.world_pool.specs.Bound.{Promises, IsFree}
+use Rattle.world_pool.specs.Bound.{Promises}
 use Rattle.world_pool.proofs.laws.WorldLaws.{is_sound, is_awake}
 use Rattle.world_pool.proofs.step.Owns.{one_guard}
 use Rattle.world_pool.proofs.whole.Free as free
 use Rattle.world_pool.proofs.whole.Acquiring as acquiring
+use Rattle.world_pool.proofs.whole.Locking as locking
 
 pub keeps_promise : (known : ℕ → Option ℕ) (w : World) (p : ℕ) (c : Call) (i : Inputs) (n : ℕ) (a : Answer) (v : World) → Runs known w (moves_of p c i n) (answers_of n a) v → a ≢ Answer.Stepped → Promises w p c i a v
 keeps_promise known w p c i n a v runs ended =
@@ -23,4 +24,5 @@ keeps_promise known w p c i n a v runs ended =
           let P : World → Type 0 = λ x. HasPermit x p in
           subst P (sym last.legal.did.stands.seen) (one_guard (permit_course v.behind.machine.permits.courses p) has));
       gives = λ e held lock. (free.gives known w p i n a v seen ended lock held (subst R e runs)).1;
+      solo = λ e polls lock. locking.solo known w p i n a v first.2.did.stood last.legal.did.stands ended polls lock (subst R e runs);
     }

@@ -1,6 +1,5 @@
 -- What a party has where it stands: how its calls on the semaphore and on the list's lock are there, and whether it has a lease.
-use Rattle.std.specs.Prelude.{ℕ, ◌==◌, ◌&&◌, Bool, true, false}
-use Rattle.lock_program.specs.declared.end.End.TheVariants as ended
+use Rattle.std.specs.Prelude.{◌==◌, ◌&&◌, Bool, true, false}
 use Rattle.world_mutex.specs.machine.Course.{Course, is_out, is_holding, is_waiting, is_taking, is_releasing, is_cancelling}
 use Rattle.world_semaphore.specs.machine.Course as permit
 use Rattle.world_pool.specs.declared.program.places.Aim.{Aim}

@@ -1,5 +1,5 @@
 -- What an action is: a step on the semaphore or on the list's lock, or a change of the items and of its party's lease; and what it needs.
-use Rattle.std.specs.Prelude.{◌≡◌, ℕ, ◌<◌, Bool, true, false, List, [], ◌∷◌, ◌++◌, length, Option, Some, None, is_some}
+use Rattle.std.specs.Prelude.{◌≡◌, ℕ, ◌<◌, true, false, List, [], ◌∷◌, ◌++◌, length, Option, Some, None, is_some}
 use Rattle.lock_program.specs.declared.end.End.TheVariants.{GivenBack}
 use Rattle.lock_program.specs.declared.mutex.Step.TheVariants as step
 use Rattle.sync_program.specs.declared.permits.SemaphoreCall.TheVariants as permit_call

@@ -1,5 +1,5 @@
 -- No wrong run of a pool is legal.
-use Rattle.std.proofs.Common.{◌≡◌, ◌≢◌, ℕ, ◌+◌, ◌<◌, ◌≤◌, Bool, true, false, Some, None, List, [], ◌∷◌, ◌++◌, length, arith, ap, sym, ◌∙◌, subst}
+use Rattle.std.proofs.Common.{inl, inr, refl, ◌∙◌, ◌≡◌, ◌<◌, ◌≤◌, Bool, true, [], ◌∷◌, length, arith, ap, sym, ◌∙◌, subst}
 use Rattle.std.proofs.lemmas.Bool.{false≢true}
 use Rattle.std.proofs.lemmas.List.{length-append}
 use Rattle.world_base.specs.declared.moves.Answer.{Answer}
@@ -8,9 +8,10 @@ use Rattle.world_base.specs.declared.moves.Move.{Move}
 use Rattle.world_base.specs.declared.standing.Kind.{Kind}
 use Rattle.world_base.specs.declared.standing.Within.{Within}
 use Rattle.world_base.specs.Standings.{Standing}
+use Rattle.world_pool.specs.Bound.{TakesLock}
 use Rattle.world_pool.specs.Laws.{IsSound}
-use Rattle.world_pool.specs.Legal.{Legal, Deed, Does, MayPop, StandsAfter, nothing, in_semaphore, in_lock, pops, pushes, loses}
-use Rattle.world_pool.specs.State.{World, limit, lost, made, lease_of}
+use Rattle.world_pool.specs.Legal.{Deed, Does, MayPop, StandsAfter, nothing, in_semaphore, in_lock, pops, pushes, loses}
+use Rattle.world_pool.specs.State.{World, limit}
 use Rattle.world_pool.specs.machine.Machine.{how_many_leased}
 use Rattle.world_pool.proofs.laws.Rights.{one_leases, leased_once}
 use Rattle.test_definitions.proofs.pool.wrong_runs.Goals as goal
@@ -87,3 +88,14 @@ returns-clause-unbalanced c = λ r. r.other r.awake.balanced
 
 pub returns-clause-items_vanish : goal.returns-clause-items_vanish
 returns-clause-items_vanish c = λ r. absurd (omega (arith, r.sound.all, r.fewer))
+
+-- a poll that took the lock isn't pending
+never_pending : (a : Answer) → TakesLock a → a ≡ Answer.Pending → ⊥
+never_pending a (inl (g, is)) waits = (let never : Answer.Ready g ≡ Answer.Pending = sym is ∙ waits in cc never)
+never_pending a (inr is) waits = (let never : Answer.GivenBack ≡ Answer.Pending = sym is ∙ waits in cc never)
+
+pub returns-clause-passes_over_in_vain : goal.returns-clause-passes_over_in_vain
+returns-clause-passes_over_in_vain c = λ r. never_pending r.given ((r.kept.solo refl r.solo r.free).takes (inr r.unstarved)) r.pending
+
+pub returns-clause-sleeps_for_the_lock : goal.returns-clause-sleeps_for_the_lock
+returns-clause-sleeps_for_the_lock c = λ r. absurd (omega (arith, r.awake.locks r.some, r.untold))

@@ -1,5 +1,5 @@
 -- An action of one party is one of its program, and keeps what always holds of the pool.
-use Rattle.world_pool.proofs.Prelude.{◌≡◌, ◌<◌, ◌≤◌, true, Option, None, length, arith, ap, sym, ◌∙◌, set, get_or-set_same, subst, vec_capacity, action_of, next_of, position_after, OnPermits, OnLock, OnItems, CanItems, answer_by, goes_with, position_at, lease_at, Pool}
+use Rattle.world_pool.proofs.Prelude.{◌≡◌, ◌<◌, true, None, length, arith, ap, sym, ◌∙◌, set, get_or-set_same, vec_capacity, action_of, next_of, position_after, OnPermits, OnLock, OnItems, answer_by, goes_with, position_at, lease_at, Pool}
 use Rattle.world_pool.proofs.of_machine.Starts.{Began, began, read_at}
 use Rattle.world_pool.proofs.of_machine.Falls.{falls}
 use Rattle.world_pool.proofs.of_machine.Kept.{can_items, kept, keeps}
