@@ -1,4 +1,4 @@
-//! The calls on the list.
+//! Each action on the list.
 
 ghost use Rattle.std.specs.Prelude.{◌≡◌, true, false, IfNone, IfOk, IfSome, OnOk, OnErr};
 ghost use Rattle.futures.specs.Task.{Keeps};
@@ -20,16 +20,16 @@ use words_mutex::{take_out, wake_next};
 
 /// An entry that has joined with a waker of its task, and the word that its list had then.
 #[derive(Drop)]
-pub(crate) struct Joined {
+pub struct Joined {
     pub(crate) id: EntryId,
     pub(crate) whose: Whose,
     word: u64,
 }
 
 impl<T> Words<T> {
-    // Adds an entry at the back, with no waker. The seat has not looked yet then. [`Memory`] comes only if memory was refused, and nothing
-    // has changed then.
-    pub(crate) fn join<R: Wait>(&self, rt: &R, seat: &mut Seat<T>) -> Result<EntryId, Memory>
+    /// Joins the list at the back, with no waker. The seat has not looked since then. [`Memory`] comes only if memory was refused, and
+    /// nothing has changed then.
+    pub fn join<R: Wait>(&self, rt: &R, seat: &mut Seat<T>) -> Result<EntryId, Memory>
         requires of { IsOf self.now seat.old }
         requires away { (seat.old.listed ≡ false) × (seat.old.starved ≡ true → seat.old.owes ≡ true) }
         ensures joined { OnOk result (seat.new ≡ with_joined seat.old) }
@@ -52,8 +52,8 @@ impl<T> Words<T> {
         }
     }
 
-    // The same, with a waker of the task of `cx`.
-    pub(crate) fn join_waking<R: Wait>(
+    /// The same, with a waker of the task of `cx`, which registers with the lock's source.
+    pub fn join_waking<R: Wait>(
         &self,
         rt: &R,
         seat: &mut Seat<T>,
@@ -90,9 +90,9 @@ impl<T> Words<T> {
         }
     }
 
-    // Notifies the first who waits, unless one is notified. The seat owes nothing any more.
+    /// Notifies the first who waits, unless one is notified, and calls its waker. The seat owes nothing any more.
     #[inline(never)]
-    pub(crate) fn notify<R: Wait>(&self, rt: &R, seat: &mut Seat<T>)
+    pub fn notify<R: Wait>(&self, rt: &R, seat: &mut Seat<T>)
         requires of { IsOf self.now seat.old }
         requires stands { seat.old.starved ≡ true → (seat.old.listed ≡ true) × (seat.old.fresh ≡ false) }
         ensures { seat.new ≡ with_paid seat.old }
@@ -105,8 +105,9 @@ impl<T> Words<T> {
         drop(due.pay());
     }
 
-    // An entry leaves without asking: a notification that it had goes on to the next.
-    pub(crate) fn leave<R: Wait>(&self, rt: &R, seat: &mut Seat<T>, id: EntryId)
+    /// Takes the entry of this id out of the list without asking, which is the seat's. A notification that it had goes on to the next. The
+    /// entry's own waker is dropped, by which the kit wakes its task once more.
+    pub fn leave<R: Wait>(&self, rt: &R, seat: &mut Seat<T>, id: EntryId)
         requires of { IsOf self.now seat.old }
         requires stands { (seat.old.listed ≡ true) × (seat.old.fresh ≡ false) × (seat.old.starved ≡ false) }
         ensures { seat.new ≡ with_gone seat.old }
@@ -120,9 +121,10 @@ impl<T> Words<T> {
         drop(due.pay());
     }
 
-    // Asks for the notification of an entry. One that waits keeps a waker of the task of `cx`, which is answered. Notified, it has left the
-    // list, and the seat owes.
-    pub(crate) fn ask<R: Wait>(
+    /// Asks for the notification of the entry of this id, which is the seat's. One that waits keeps a waker of the task of `cx`, which is
+    /// answered, and the task has registered with the lock's source. Notified, it has left the list, and the seat owes a look or a
+    /// notification.
+    pub fn ask<R: Wait>(
         &self,
         rt: &R,
         seat: &mut Seat<T>,
@@ -156,8 +158,9 @@ impl<T> Words<T> {
         give_asked(shared, &mut seat.inner, heard, word).is_some()
     }
 
-    // Whether an entry waits that has joined with a waker: one load, where the list was not notified since. Else it asks for its notification.
-    pub(crate) fn still_waits<R: Wait>(&self, rt: &R, seat: &mut Seat<T>, joined: &Joined) -> bool
+    /// Whether an entry waits that has joined with a waker: one load, where the list was not notified since. Else it asks for its
+    /// notification, as [`Words::ask`] does.
+    pub fn still_waits<R: Wait>(&self, rt: &R, seat: &mut Seat<T>, joined: &Joined) -> bool
         requires of { IsOf self.now seat.old }
         requires stands { (seat.old.listed ≡ true) × (seat.old.fresh ≡ false) }
         ensures told { result ≡ false → seat.new ≡ with_told seat.old }

@@ -12,7 +12,7 @@ ghost use Rattle.words_mutex.specs.Rule.{SaysEmpty};
 
 use crate::list;
 use futures::task::{Context, Source, Waker};
-use lock_event::{EntryId, Event, Memory};
+use lock_event::{EntryId, Event, Mark, Memory};
 use lock_place::{Rested, Spare};
 use lock_queue::{Due, Heard, Whose};
 use std::alloc::Global;
@@ -214,6 +214,17 @@ impl<T> Cell<T> {
         match &self.entries {
             Some(event) => event.marked() > 0,
             None => false,
+        }
+    }
+
+    // The entry at this index, counted from the front, with its mark.
+    pub(crate) fn entry(&self, index: usize) -> Option<(EntryId, Mark)> {
+        match &self.entries {
+            Some(event) if index < event.len() => {
+                let entry = event.entry(index);
+                Some((entry.key.id, entry.mark))
+            }
+            _ => None,
         }
     }
 

@@ -66,9 +66,10 @@ impl<T> Words<T> {
         self.spare.lend(hold, place)
     }
 
-    // Looks at the lock inside a poll, and takes it if it is free and nobody is starved, as [`Words::take`]. A lock that was left held is found held.
+    /// Looks at the lock inside a poll, and takes it if it is free and nobody is starved, as [`Words::take`]. A lock that was left held is
+    /// found held.
     #[inline]
-    pub(crate) fn look<R: Wait>(&self, rt: &R, seat: &mut Seat<T>) -> Taking<Hold<T>>
+    pub fn look<R: Wait>(&self, rt: &R, seat: &mut Seat<T>) -> Taking<Hold<T>>
         requires of { IsOf self.now seat.old }
         requires idle { seat.old.holds ≡ false }
         requires stands { seat.old.starved ≡ true → seat.old.listed ≡ true }
@@ -81,8 +82,8 @@ impl<T> Words<T> {
         self.take(seat)
     }
 
-    // The same, by the only one who is starved, as [`Words::take_alone`].
-    pub(crate) fn look_alone<R: Wait>(&self, rt: &R, seat: &mut Seat<T>) -> TakingAlone<Hold<T>>
+    /// The same, by the only one who is starved, as [`Words::take_alone`].
+    pub fn look_alone<R: Wait>(&self, rt: &R, seat: &mut Seat<T>) -> TakingAlone<Hold<T>>
         requires of { IsOf self.now seat.old }
         requires idle { seat.old.holds ≡ false }
         requires stands { (seat.old.starved ≡ true) × (seat.old.listed ≡ true) }

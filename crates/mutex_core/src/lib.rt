@@ -13,8 +13,10 @@ mod list_steps;
 mod mutex;
 mod seat;
 mod turn;
+mod watch;
 mod words;
 
+pub use calls::Joined;
 pub use cell::Cell;
 pub use left::WasHeld;
 pub use lock_place::{Hold, Room};

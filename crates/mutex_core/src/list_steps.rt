@@ -13,7 +13,7 @@ ghost use Rattle.lock_queue.specs.declared.heard.Heard.TheVariants as heard_as;
 use crate::cell::Cell;
 use atomic_table::Seat as TableSeat;
 use futures::task::{Context, Source, Waker};
-use lock_event::{EntryId, Memory};
+use lock_event::{EntryId, Mark, Memory};
 use lock_queue::{Due, Heard, Whose};
 use std::alloc::Global;
 use words_mutex::steps::{LIST_SLOT, Ruled, give_same, give_told};
@@ -143,6 +143,25 @@ pub(crate) fn ask_again_in<T>(
     let heard = list.ask_again(id);
     let says = list.says(found, false);
     (heard, says)
+}
+
+pub(crate) fn entry_in<T>(
+    shared: &Listing<T>,
+    inner: &mut Lister<T>,
+    index: usize,
+    found: u64,
+) -> (Option<(EntryId, Mark)>, u64)
+    requires table { inner.old.table_id ≡ shared.now.table_id }
+    requires held { IsHeld cell_len cell_marked inner.old.me }
+    ensures table { inner.new.table_id ≡ inner.old.table_id }
+    ensures view { inner.new.me.0 ≡ inner.old.me.0 }
+    ensures others { rest inner.new.me.1 ≡ rest inner.old.me.1 }
+    ensures ready { CanStay cell_len cell_marked inner.new.me result.1 }
+{
+    let list = inner.slot_mut(shared, LIST_SLOT);
+    let entry = list.entry(index);
+    let says = list.says(found, false);
+    (entry, says)
 }
 
 // Gives the list back that an entry has asked, with this word: what the entry keeps, if it waits. What one kept that was told is dropped then.

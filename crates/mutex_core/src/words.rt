@@ -143,6 +143,13 @@ impl<T> Words<T> {
         &self.place.room
     }
 
+    /// Returns what tasks register with that wait for the lock.
+    pub fn source(&self) -> &Source
+        ensures { result.now.id ≡ self.now.source }
+    {
+        &self.source
+    }
+
     /// Returns whether the lock was held at some moment of the call.
     pub fn is_locked(&self) -> bool {
         self.table.shared.peek(WORD) % COUNT == HELD

@@ -1,0 +1,34 @@
+//! What tests see of a lock.
+
+ghost use Rattle.std.specs.Prelude.{◌≡◌};
+
+use crate::list_steps::entry_in;
+use crate::words::Words;
+use lock_event::{EntryId, Mark};
+use std::sync::Wait;
+use words_mutex::steps::{COUNT, ENTRIES, LIST, WORD, give_same};
+use words_mutex::{take_out, wake_next};
+
+impl<T> Words<T> {
+    /// Returns how many seats were counted as starved at some moment of the call. It is for tests.
+    pub fn starved(&self) -> u64 {
+        self.table.shared.peek(WORD) / COUNT
+    }
+
+    /// Returns whether the list's word said at some moment of the call that the list may have entries. It is for tests.
+    pub fn is_listed(&self) -> bool {
+        self.table.shared.peek(LIST) % 8 >= ENTRIES
+    }
+
+    /// Returns the entry at this index of the list, counted from the front, with its mark. It is for tests.
+    pub fn entry<R: Wait>(&self, rt: &R, index: usize) -> Option<(EntryId, Mark)> {
+        let mut seat = self.sit();
+        let shared = &self.table.shared;
+        let found = take_out(shared, rt, &mut seat.inner);
+        let (entry, word) = entry_in(shared, &mut seat.inner, index, found);
+        let found = give_same(shared, &mut seat.inner, word);
+        wake_next(shared, found);
+        seat.rise();
+        entry
+    }
+}
