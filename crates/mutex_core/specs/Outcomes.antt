@@ -1,5 +1,6 @@
 -- How a poll went.
-use Rattle.std.specs.Prelude.{◌≡◌, ⊤}
+use Rattle.std.specs.Prelude.{◌≡◌, ⊤, false, Option, Some, None}
+use Rattle.std.specs.declared.time.Instant.{Instant}
 use Rattle.futures.specs.declared.task.context.Context.{Context}
 use Rattle.lock_place.specs.declared.room.Hold.{Hold}
 use Rattle.lock_program.specs.declared.refusal.Refusal.{Refusal}
@@ -34,3 +35,13 @@ abbrev pub IsOutcomeOf : {T : Type 0} → Lock → Context → Outcome T → Typ
 IsOutcomeOf lock cx (Got held) = IsHeldOf lock held
 IsOutcomeOf lock cx (Waits waiting) = IsOf lock waiting.seat × IsReceipt lock.source cx waiting.whose
 IsOutcomeOf lock cx (Refused refusal) = IsGivenUp refusal
+
+-- What was known of when a party first waited is known still.
+abbrev pub IsKept : Option Instant → Option Instant → Type 0
+IsKept None since = ⊤
+IsKept (Some then) since = since ≡ Some then
+
+-- Whoever waits, and isn't counted as starved, waits since then.
+abbrev pub WaitsSince : {T : Type 0} → Option Instant → Outcome T → Type 0
+WaitsSince then (Waits waiting) = waiting.is_starved ≡ false → IsKept then waiting.since
+WaitsSince then outcome = ⊤

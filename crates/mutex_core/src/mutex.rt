@@ -2,10 +2,11 @@
 //!
 //! The comments name the places of the program's table, which are `lock_program`'s.
 
-ghost use Rattle.std.specs.Prelude.{◌≡◌, true, false, IfSome, MatchResult};
+ghost use Rattle.std.specs.Prelude.{◌≡◌, true, false, IfSome, MatchResult, Option};
 ghost use Rattle.futures.specs.Task.{Keeps};
 ghost use Rattle.mutex_core.specs.Locks.{IsOf};
-ghost use Rattle.mutex_core.specs.Outcomes.{IsGivenUp, IsHeldOf, IsOutcomeOf, IsRightOf};
+ghost use Rattle.mutex_core.specs.Outcomes.{IsGivenUp, IsHeldOf, IsKept, IsOutcomeOf, IsRightOf, WaitsSince};
+ghost use Rattle.std.specs.declared.time.Instant.{Instant};
 
 use crate::seat::Seat;
 use crate::turn::{Held, Outcome, Vain, Waiting};
@@ -131,7 +132,7 @@ impl<T> Words<T> {
         self.wait(rt, cx, seat, None, true)
     }
 
-    /// Polls a lock that waits.
+    /// Polls a lock that waits. It waits since it first did, over all its polls (`since`).
     #[inline]
     pub fn poll_later<R: Wait + Clock>(
         &self,
@@ -141,6 +142,7 @@ impl<T> Words<T> {
     ) -> Outcome<T>
         requires { IsOf self.now waiting.seat }
         ensures outcome { IsOutcomeOf self.now cx.new result }
+        ensures since { WaitsSince waiting.since result }
         ensures kept { Keeps cx.old cx.new }
     {
         let Waiting {
@@ -216,6 +218,7 @@ impl<T> Words<T> {
         requires idle { (seat.holds ≡ false) × (seat.starved ≡ false) × (seat.listed ≡ false) × (seat.fresh ≡ false) }
         requires told { told ≡ false → seat.owes ≡ false }
         ensures outcome { IsOutcomeOf self.now cx.new result }
+        ensures since { WaitsSince since result }
         ensures kept { Keeps cx.old cx.new }
     {
         let mut seat = seat;
@@ -281,6 +284,7 @@ impl<T> Words<T> {
         requires of { IsOf self.now seat }
         requires idle { (seat.holds ≡ false) × (seat.starved ≡ false) × (seat.owes ≡ false) × (seat.listed ≡ true) × (seat.fresh ≡ false) }
         ensures outcome { IsOutcomeOf self.now cx.new result }
+        ensures since { (then : Option Instant) → WaitsSince then result }
         ensures kept { Keeps cx.old cx.new }
     {
         let mut seat = seat;
@@ -303,6 +307,7 @@ impl<T> Words<T> {
         requires of { IsOf self.now seat }
         requires idle { (seat.holds ≡ false) × (seat.starved ≡ false) × (seat.owes ≡ false) × (seat.listed ≡ false) × (seat.fresh ≡ false) }
         ensures outcome { IsOutcomeOf self.now cx.new result }
+        ensures since { (then : Option Instant) → WaitsSince then result }
         ensures kept { Keeps cx.old cx.new }
     {
         let mut seat = seat;
@@ -325,6 +330,7 @@ impl<T> Words<T> {
         requires of { IsOf self.now seat }
         requires owing { (seat.holds ≡ false) × (seat.starved ≡ true) × (seat.owes ≡ true) × (seat.listed ≡ false) × (seat.fresh ≡ false) }
         ensures outcome { IsOutcomeOf self.now cx.new result }
+        ensures since { (then : Option Instant) → WaitsSince then result }
         ensures kept { Keeps cx.old cx.new }
     {
         let mut seat = seat;
@@ -400,7 +406,7 @@ impl<T> Words<T> {
 // What is kept of a starved party that waits. It doesn't matter any more when it first waited.
 fn starves<T>(seat: Seat<T>, id: EntryId, whose: Whose) -> Waiting<T>
     requires { (seat.holds ≡ false) × (seat.starved ≡ true) × (seat.owes ≡ false) × (seat.listed ≡ true) × (seat.fresh ≡ false) }
-    ensures { (result.seat ≡ seat) × (result.whose ≡ whose) }
+    ensures { (result.seat ≡ seat) × (result.whose ≡ whose) × (result.is_starved ≡ true) }
 {
     Waiting {
         seat,
@@ -423,7 +429,9 @@ fn now<R: Clock>(rt: &R) -> Option<Instant> {
 
 // When a party first waited, which waits now.
 #[inline]
-fn first_of<R: Clock>(rt: &R, since: Option<Instant>) -> Option<Instant> {
+fn first_of<R: Clock>(rt: &R, since: Option<Instant>) -> Option<Instant>
+    ensures { IsKept since result }
+{
     match since {
         Some(since) => Some(since),
         None => now(rt),
