@@ -1,6 +1,6 @@
 -- What the calls on a list do to those that wait in it.
 use Rattle.words_base.specs.Waiting.{Has, NoneWaits, Fewer, JoinedBy, StaysTold, last_of}
-use Rattle.std.proofs.Common.{◌≡◌, ◌≢◌, ℕ, ◌-◌, ◌<◌, ◌≤◌, ◌==◌, ◌||◌, if◌then◌else◌, Bool, true, false, not, List, [], ◌∷◌, ◌++◌, length, refl, sym, ap, ◌∙◌, subst, arith, ◌⊎◌, inl, inr, ⊎_elim, Option, Some, None, Result, Ok, Err, IfOk, eq-eqb, ne_eqb, true≢false}
+use Rattle.std.proofs.Common.{◌≡◌, ◌≢◌, ℕ, ◌+◌, ◌-◌, ◌<◌, ◌≤◌, ◌==◌, ◌||◌, if◌then◌else◌, Bool, true, false, not, List, [], ◌∷◌, ◌++◌, length, refl, sym, ap, ◌∙◌, subst, arith, ◌⊎◌, inl, inr, ⊎_elim, Option, Some, None, Result, Ok, Err, IfOk, eq-eqb, ne_eqb, true≢false}
 use mathlib.Core.Logic.{dite}
 use native.Mathlib.Decide.{ℕ_discrete}
 use Rattle.lock_event.specs.declared.event.Entry.{Entry}
@@ -14,7 +14,7 @@ use Rattle.lock_event.specs.Lists.{is_marked, marked_count, entry, joined, mark_
 use Rattle.lock_event.specs.Slots.{without_waker, has_id, slot_of, is_due, emptied, HasAsked}
 use Rattle.lock_event.proofs.Counts.{marked_count-notified, marked_count-left, length-passed_on}
 use Rattle.lock_event.proofs.Marks.{length-mark_waiting, marked_count-joined, marked_count-with_key}
-use Rattle.lock_queue.specs.Entries.{unless_marked, waiting_in, HasFewer, IsKept, HasJoined, IsTold, AreTold, HasLeft}
+use Rattle.lock_queue.specs.Entries.{unless_marked, waiting_in, HasFewer, IsKept, HasJoined, IsTold, AreTold, IsGone, HasLeft}
 
 -- ---- numbers
 pub fewer_same : (l : List ℕ) → Fewer l l
@@ -80,6 +80,25 @@ module _ {W : Type 0} where
 
   pub all_told : (es : List (Entry (Slot W))) → AreTold (notified_additionally es (length es))
   all_told es = record { none_waits = all-mark Additional (length es) es refl (omega arith) }
+
+  few-marked : (es : List (Entry (Slot W))) → marked_count es ≤ length es
+  few-marked [] = omega arith
+  few-marked (e ∷ es) = grind (arith, few-marked es)
+
+  -- as many as wait are marked
+  rest_head : (m : Mark) (e : Entry (Slot W)) (n : ℕ) (es fs gs : List (Entry (Slot W))) (b z : Bool) → is_marked m ≡ true → is_marked e.mark ≡ b → (n == 0) ≡ z → marked_count es ≤ length es
+      → length (e ∷ es) ≤ (if b then 1 + marked_count es else marked_count es) + n → (length es ≤ marked_count es + n → NoneWaits (waiting_in fs)) → (length es ≤ marked_count es + (n - 1) → NoneWaits (waiting_in gs))
+      → NoneWaits (waiting_in (if b || z then e ∷ fs else entry e.key m ∷ gs))
+  rest_head m e n es fs gs true z told is at few many a b = subst (λ c. NoneWaits (unless_marked c (number e) (waiting_in fs))) (sym is) (a (omega arith))
+  rest_head m e n es fs gs false true told is at few many a b = let none : n ≡ 0 = grind arith in absurd (omega arith)
+  rest_head m e n es fs gs false false told is at few many a b = subst (λ c. NoneWaits (unless_marked c (number e) (waiting_in gs))) (sym told) (b (omega arith))
+
+  rest-mark : (m : Mark) (n : ℕ) (es : List (Entry (Slot W))) → is_marked m ≡ true → length es ≤ marked_count es + n → NoneWaits (waiting_in (mark_waiting m n es))
+  rest-mark m n [] told many = λ k h. h
+  rest-mark m n (e ∷ es) told many = rest_head m e n es (mark_waiting m n es) (mark_waiting m (n - 1) es) (is_marked e.mark) (n == 0) told refl refl (few-marked es) many (rest-mark m n es told) (rest-mark m (n - 1) es told)
+
+  pub each_told : (es : List (Entry (Slot W))) → AreTold (notified es (length es))
+  each_told es = let f = few-marked es in record { none_waits = rest-mark Notified (length es - marked_count es) es refl (omega arith) }
 
   -- ---- no entries
   empty_waits : (es : List (Entry (Slot W))) → length es ≡ 0 → NoneWaits (waiting_in es)
@@ -170,6 +189,14 @@ module _ {W : Type 0} where
   -- it has left, and nobody waits
   pub left_all : (old mid new : List (Entry (Slot W))) (k : ℕ) → new ≡ notified_additionally mid (length mid) → HasLeft old new k
   left_all old mid new k is = let none : NoneWaits (waiting_in new) = subst (λ l. NoneWaits (waiting_in l)) (sym is) ((all_told mid).none_waits) in record { fewer = λ n h. absurd (none n h); told = λ _. inr none; left = λ n h. absurd (none n h) }
+
+  -- nobody waits who didn't before, and no entry has the number
+  pub gone_once : (id : EntryId) (old new : List (Entry (Slot W))) → HasFewer old new → is_listed (has_id id) new ≡ false → IsGone old new id.number
+  gone_once id old new kept away = record { left = λ n h. (kept.fewer n h, not_there id new away n h) }
+
+  -- nobody waits
+  pub gone_all : (old mid new : List (Entry (Slot W))) (k : ℕ) → new ≡ notified_additionally mid (length mid) → HasFewer old new × IsGone old new k
+  gone_all old mid new k is = let l = left_all old mid new k is in (record { fewer = l.fewer }, record { left = l.left })
 
   -- ---- asking
   key_head : (id : EntryId) (w : Option W) (b : Bool) (e : Entry (Slot W)) (es fs : List (Entry (Slot W))) → has_id id e.key ≡ b → Less es fs

@@ -40,6 +40,10 @@ module _ {W : Type 0} where
   pub record AreTold (new : List (Entry (Slot W))) : Type 0 where
     pub none_waits : NoneWaits (waiting_in new)
 
+  -- No entry of this number waits any more, and nobody that didn't before.
+  pub record IsGone (old new : List (Entry (Slot W))) (n : ℕ) : Type 0 where
+    pub left : LeftBy n (waiting_in old) (waiting_in new)
+
   -- No entry of this number waits any more, and if one was notified, one is, or nobody waits.
   pub record HasLeft (old new : List (Entry (Slot W))) (n : ℕ) : Type 0 where
     pub fewer : Fewer (waiting_in old) (waiting_in new)

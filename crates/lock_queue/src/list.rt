@@ -1,11 +1,11 @@
 //! What is done to a list's entries while the list is out.
 
-ghost use Rattle.std.specs.Prelude.{◌≡◌, true, false, OnErr, IfOk};
+ghost use Rattle.std.specs.Prelude.{◌≡◌, ⊤, true, false, OnErr, IfOk};
 ghost use Rattle.futures.specs.Task.{Keeps};
 ghost use Rattle.lock_event.specs.Lists.{is_waiting_at, is_listed};
 ghost use Rattle.lock_event.specs.Slots.{has_id};
 ghost use Rattle.lock_queue.specs.Asking.{ByHeard};
-ghost use Rattle.lock_queue.specs.Entries.{HasFewer, IsKept, HasJoined, IsTold, AreTold, HasLeft};
+ghost use Rattle.lock_queue.specs.Entries.{HasFewer, IsKept, HasJoined, IsTold, AreTold, IsGone, HasLeft};
 ghost use Rattle.lock_queue.specs.Receipts.{KeepsAt, IsReceipt};
 
 use crate::due::{AllDue, Due};
@@ -57,6 +57,15 @@ pub(crate) fn notify_all(event: &mut Event<Waker>, alloc: Global) -> AllDue
 {
     let all = event.len();
     event.notify_additional(all);
+    all_due(event, alloc)
+}
+
+// The same, by plain notifications: those that were notified before count as such.
+pub(crate) fn notify_each(event: &mut Event<Waker>, alloc: Global) -> AllDue
+    ensures { AreTold event.new.entries }
+{
+    let all = event.len();
+    event.notify(all);
     all_due(event, alloc)
 }
 
@@ -118,6 +127,7 @@ pub(crate) fn ask(
 ) -> Heard<Whose>
     ensures answer { ByHeard result (is_waiting_at (has_id id) event.old.entries ≡ false) (λ _. is_waiting_at (has_id id) event.old.entries ≡ true) }
     ensures asked { ByHeard result (HasFewer event.old.entries event.new.entries) (λ _. IsKept event.old.entries event.new.entries) }
+    ensures gone { ByHeard result (IsGone event.old.entries event.new.entries id.number) (λ _. ⊤) }
     ensures waits { ByHeard result (cx.new ≡ cx.old) (λ whose. KeepsAt id whose event.new.entries × IsReceipt source.now.id cx.new whose) }
     ensures kept { Keeps cx.old cx.new }
 {
@@ -132,6 +142,7 @@ pub(crate) fn ask(
 pub(crate) fn ask_again(event: &mut Event<Waker>, id: EntryId) -> Heard<()>
     ensures answer { ByHeard result (is_waiting_at (has_id id) event.old.entries ≡ false) (λ _. is_waiting_at (has_id id) event.old.entries ≡ true) }
     ensures asked { ByHeard result (HasFewer event.old.entries event.new.entries) (λ _. IsKept event.old.entries event.new.entries) }
+    ensures gone { ByHeard result (IsGone event.old.entries event.new.entries id.number) (λ _. ⊤) }
 {
     if event.is_waiting(id) {
         return Heard::Waits(());
@@ -142,6 +153,21 @@ pub(crate) fn ask_again(event: &mut Event<Waker>, id: EntryId) -> Heard<()>
 // An entry that doesn't wait leaves the list, if it is there: what it kept.
 #[inline(never)]
 fn told(event: &mut Event<Waker>, id: EntryId) -> Option<Waker>
+    requires { is_waiting_at (has_id id) event.old.entries ≡ false }
+    ensures fewer { HasFewer event.old.entries event.new.entries }
+    ensures gone { IsGone event.old.entries event.new.entries id.number }
+{
+    let kept = taken_out(event, id);
+    if event.contains(id) {
+        // No second entry has the number. Were there one, nobody would wait in it.
+        event.notify_additional(event.len());
+        return kept;
+    }
+    kept
+}
+
+// The same, with what becomes of the others.
+fn taken_out(event: &mut Event<Waker>, id: EntryId) -> Option<Waker>
     requires { is_waiting_at (has_id id) event.old.entries ≡ false }
     ensures { HasFewer event.old.entries event.new.entries }
 {

@@ -1,13 +1,15 @@
--- An entry that is there and isn't marked would wait.
-use Rattle.std.proofs.Common.{None, sym, ◌∙◌, true≢false}
-use Rattle.async_driver.proofs.Keeping.{waits_unmarked}
-use Rattle.lock_queue.proofs.Changes.{fewer_asked}
+use Rattle.std.proofs.Common.{◌≡◌, sym, ◌∙◌, subst}
+use Rattle.lock_event.specs.Lists.{notified_additionally}
+use Rattle.lock_queue.proofs.Changes.{gone_once, gone_all}
 use Rattle.lock_queue.proofs.list.told.Goals as goal
 
-pub unreachable-requires : goal.unreachable-requires
-unreachable-requires c =
-    let asked = c.in-Waiting.ensures.asked in
-    true≢false (sym (waits_unmarked c.args.id _ asked.0 asked.1) ∙ c.requires)
+pub returns-then-contains-clause-fewer : goal.returns-then-contains-clause-fewer
+returns-then-contains-clause-fewer c = (gone_all c.args.event.now.entries c.taken_out-kept.new.event.entries c.notify_additional.new.self.entries c.args.id.number
+    (subst (λ n. c.notify_additional.new.self.entries ≡ notified_additionally c.taken_out-kept.new.event.entries n) c.len.ensures c.notify_additional.ensures.entries)).0
 
-pub returns-in-Notified : goal.returns-in-Notified
-returns-in-Notified c = fewer_asked c.args.id None c.args.event.now.entries c.ask.new.self.entries c.ask.result c.ask.ensures.asked
+pub returns-then-contains-clause-gone : goal.returns-then-contains-clause-gone
+returns-then-contains-clause-gone c = (gone_all c.args.event.now.entries c.taken_out-kept.new.event.entries c.notify_additional.new.self.entries c.args.id.number
+    (subst (λ n. c.notify_additional.new.self.entries ≡ notified_additionally c.taken_out-kept.new.event.entries n) c.len.ensures c.notify_additional.ensures.entries)).1
+
+pub returns-clause-gone : goal.returns-clause-gone
+returns-clause-gone c = gone_once c.args.id c.args.event.now.entries c.taken_out-kept.new.event.entries c.taken_out-kept.ensures (sym c.contains.ensures ∙ c.if-contains.false)

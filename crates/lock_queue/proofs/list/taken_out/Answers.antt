@@ -1,0 +1,13 @@
+-- An entry that is there and isn't marked would wait.
+use Rattle.std.proofs.Common.{None, sym, ◌∙◌, true≢false}
+use Rattle.async_driver.proofs.Keeping.{waits_unmarked}
+use Rattle.lock_queue.proofs.Changes.{fewer_asked}
+use Rattle.lock_queue.proofs.list.taken_out.Goals as goal
+
+pub unreachable-requires : goal.unreachable-requires
+unreachable-requires c =
+    let asked = c.in-Waiting.ensures.asked in
+    true≢false (sym (waits_unmarked c.args.id _ asked.0 asked.1) ∙ c.requires)
+
+pub returns-in-Notified : goal.returns-in-Notified
+returns-in-Notified c = fewer_asked c.args.id None c.args.event.now.entries c.ask.new.self.entries c.ask.result c.ask.ensures.asked
