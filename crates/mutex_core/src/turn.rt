@@ -44,6 +44,41 @@ pub struct Waiting<T> {
 }
 
 impl<T> Waiting<T> {
+    /// Puts together whoever waits by this seat, whose entry has this id and keeps a waker so, since then, starved or not. It is for tests,
+    /// which carry out a poll one action at a time.
+    pub fn of(
+        seat: Seat<T>,
+        id: EntryId,
+        whose: Whose,
+        since: Option<Instant>,
+        is_starved: bool,
+    ) -> Waiting<T>
+        requires { (seat.holds ≡ false) × (seat.starved ≡ is_starved) × (seat.owes ≡ false) × (seat.listed ≡ true) × (seat.fresh ≡ false) }
+        ensures { (result.seat ≡ seat) × (result.whose ≡ whose) }
+    {
+        Waiting {
+            seat,
+            id,
+            whose,
+            since,
+            is_starved,
+        }
+    }
+
+    /// Takes it apart into its seat, its entry's id, whose waker the entry keeps, and since when it waits. It is for tests.
+    pub fn into_parts(self) -> (Seat<T>, EntryId, Whose, Option<Instant>)
+        ensures { (result.0 ≡ self.seat) × (result.2 ≡ self.whose) }
+    {
+        let Waiting {
+            seat,
+            id,
+            whose,
+            since,
+            is_starved: _,
+        } = self;
+        (seat, id, whose, since)
+    }
+
     /// Returns whether it is counted as starved.
     pub fn is_starved(&self) -> bool
         ensures { result ≡ self.now.seat.starved }

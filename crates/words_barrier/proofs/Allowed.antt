@@ -68,8 +68,8 @@ module _ (S : Type 0) (waiting_of : S → List ℕ) where
       given_same c s r len at _ = (back me.0, gives, tt, remains S waiting_of s id me r at c.0 new c.1.0 c.1.1 (subst (λ (z : ℕ). 0 < z) (sym len) wide) c.1.2 c.1.3 c.2, refl)
 
   -- a new seat has nothing, and has looked
-  pub sits : (slots i : ℕ) → Enters R slots 0 (λ n w. Looked {S = S} (first_view, []) n (w, []))
-  sits slots i s r _ _ = let n : ℕ = get_or s.words 0 0 in let w : View = saw_of n first_view in
+  pub sits : (slots : ℕ) → Enters R slots 0 (λ n w. Looked {S = S} (first_view, []) n (w, []))
+  sits slots s r _ _ = let n : ℕ = get_or s.words 0 0 in let w : View = saw_of n first_view in
       let o = number-none has_list_out s.views w refl in
       let lw = r.list_word.0 in let is = r.list_word.1 in (
         w,

@@ -1,0 +1,89 @@
+-- What contracts see of a barrier, and of a seat.
+use Rattle.std.specs.Prelude.{◌≡◌, ◌≢◌, ℕ, ◌+◌, Bool, true, false, refl}
+use Rattle.std.specs.Coded.{Coded, code_by, coded×, coded_ℕ, coded_bool}
+use Rattle.atomic_table.specs.Seated.{TableId, table_id_coded}
+use Rattle.mutex_core.specs.Locks.{Lock, lock_coded}
+use Rattle.words_barrier.specs.declared.view.View.{View}
+
+-- A barrier: which one it is, how many arrivals make a generation, how many generations may be finished, and its inner lock.
+pub record Barrier : Type 0 where
+  pub table : TableId
+  pub size : ℕ
+  pub most : ℕ
+  pub inner : Lock
+
+abbrev pub barrier_coded : Coded Barrier
+barrier_coded = code_by (TableId × (ℕ × (ℕ × Lock))) (coded× table_id_coded (coded× coded_ℕ (coded× coded_ℕ lock_coded))) (λ b. (b.table, (b.size, (b.most, b.inner)))) (λ p. record { table = p.0; size = p.1.0; most = p.1.1.0; inner = p.1.1.1 }) (λ _. refl)
+
+-- A seat: of which barrier it is; whether it owes all of the list a notification, has an entry there, and has not looked since it joined; whether its
+-- arrival was counted, and whether it has finished a generation; the number of its entry; how many generations it found finished last; and in which
+-- generation its arrival was counted.
+pub record Seated : Type 0 where
+  pub table : TableId
+  pub owes : Bool
+  pub listed : Bool
+  pub fresh : Bool
+  pub counted : Bool
+  pub led : Bool
+  pub entry : ℕ
+  pub found : ℕ
+  pub generation : ℕ
+
+abbrev pub seated_coded : Coded Seated
+seated_coded = code_by (TableId × (Bool × (Bool × (Bool × (Bool × (Bool × (ℕ × (ℕ × ℕ)))))))) (coded× table_id_coded (coded× coded_bool (coded× coded_bool (coded× coded_bool (coded× coded_bool (coded× coded_bool (coded× coded_ℕ (coded× coded_ℕ coded_ℕ))))))))
+    (λ s. (s.table, (s.owes, (s.listed, (s.fresh, (s.counted, (s.led, (s.entry, (s.found, s.generation)))))))))
+    (λ p. record { table = p.0; owes = p.1.0; listed = p.1.1.0; fresh = p.1.1.1.0; counted = p.1.1.1.1.0; led = p.1.1.1.1.1.0; entry = p.1.1.1.1.1.1.0; found = p.1.1.1.1.1.1.1.0; generation = p.1.1.1.1.1.1.1.1 })
+    (λ _. refl)
+
+abbrev pub seated : TableId → View → Seated
+seated table v = record { table = table; owes = v.owes; listed = v.listed; fresh = v.fresh; counted = v.counted; led = v.led; entry = v.entry; found = v.found; generation = v.generation }
+
+-- The seat is one of the barrier.
+abbrev pub IsOf : Barrier → Seated → Type 0
+IsOf barrier seat = seat.table ≡ barrier.table
+
+-- a seat with nothing, which has found so many generations finished
+abbrev pub entering : Barrier → ℕ → Seated
+entering barrier n = record { table = barrier.table; owes = false; listed = false; fresh = false; counted = false; led = false; entry = 0; found = n; generation = 0 }
+
+-- it has looked, and found so many generations finished
+abbrev pub with_look : ℕ → Seated → Seated
+with_look n s = record s { found = n; fresh = false }
+
+-- the same, and its arrival is counted in the generation after these
+abbrev pub with_count : ℕ → Seated → Seated
+with_count n s = record s { found = n; fresh = false; counted = true; generation = n }
+
+-- it has finished one generation more than it found, and owes all of the list a notification
+abbrev pub with_finished : Seated → Seated
+with_finished s = record s { owes = true; led = true; found = s.found + 1 }
+
+abbrev pub with_joined : ℕ → Seated → Seated
+with_joined entry s = record s { listed = true; fresh = true; entry = entry }
+
+abbrev pub with_gone : Seated → Seated
+with_gone s = record s { listed = false; fresh = false }
+
+abbrev pub with_paid : Seated → Seated
+with_paid s = record s { owes = false }
+
+-- It has no entry, and owes nothing.
+abbrev pub IsIdle : Seated → Type 0
+IsIdle s = (s.owes ≡ false) × (s.listed ≡ false) × (s.fresh ≡ false)
+
+-- Its arrival was counted in this generation.
+abbrev pub IsCountedIn : ℕ → Seated → Type 0
+IsCountedIn generation s = (s.counted ≡ true) × (s.generation ≡ generation)
+
+-- It waits for the generation that its arrival was counted in, by the entry of this number: it has found, since it joined, that this one is under way, and
+-- owes nothing.
+abbrev pub IsWaiting : ℕ → ℕ → Seated → Type 0
+IsWaiting generation entry s = (s.owes ≡ false) × (s.listed ≡ true) × (s.fresh ≡ false) × (s.entry ≡ entry) × IsCountedIn generation s × (s.found ≡ generation)
+
+-- It has found the generation finished that its arrival was counted in.
+abbrev pub HasFollowed : Seated → Type 0
+HasFollowed s = IsIdle s × (s.counted ≡ true) × (s.found ≢ s.generation)
+
+-- It has finished a generation.
+abbrev pub HasLed : Seated → Type 0
+HasLed s = IsIdle s × (s.led ≡ true)

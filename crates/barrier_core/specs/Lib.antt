@@ -1,0 +1,4 @@
+pub mod Barriers
+pub mod Lists
+pub mod Counts
+pub mod Outcomes

@@ -1,0 +1,84 @@
+-- How a poll went.
+use Rattle.std.specs.Prelude.{◌≡◌, ℕ, ⊤, Option, Some, None, IfSome}
+use Rattle.futures.specs.declared.task.context.Context.{Context}
+use Rattle.lock_place.specs.declared.room.Hold.{Hold}
+use Rattle.lock_program.specs.declared.refusal.Refusal.{Refusal}
+use Rattle.lock_program.specs.declared.refusal.Refusal.TheVariants as refusals
+use Rattle.mutex_core.specs.Locks as lock
+use Rattle.mutex_core.specs.Outcomes as locked
+use Rattle.barrier_core.specs.Barriers.{Barrier, IsOf}
+use Rattle.barrier_core.specs.Counts.{IsFoundAt, IsOfThis}
+use Rattle.lock_queue.specs.Receipts.{IsReceipt}
+use Rattle.barrier_core.specs.declared.arrivals.Arrivals.{Arrivals}
+use Rattle.barrier_core.specs.declared.turn.Aim.{Aim}
+use Rattle.barrier_core.specs.declared.turn.Aim.TheVariants as aim
+use Rattle.barrier_core.specs.declared.turn.Arrival.{Arrival}
+use Rattle.barrier_core.specs.declared.turn.Checking.{Checking}
+use Rattle.barrier_core.specs.declared.turn.Checking.TheVariants as checking
+use Rattle.barrier_core.specs.declared.turn.Outcome.{Outcome}
+use Rattle.barrier_core.specs.declared.turn.Outcome.TheVariants.{Ready, Pending, Refused}
+use Rattle.barrier_core.specs.declared.turn.Resting.{Resting}
+use Rattle.barrier_core.specs.declared.turn.Resting.TheVariants as resting
+
+-- it is the right to the count of this barrier
+abbrev pub IsRightOf : Barrier → Hold Arrivals → Type 0
+IsRightOf barrier hold = locked.IsRightOf barrier.inner hold
+
+-- the seat holds this barrier's inner lock, and it is the right to the count
+abbrev pub HasLock : Barrier → lock.Seated → Hold Arrivals → Type 0
+HasLock barrier seat hold = locked.Holds barrier.inner seat hold
+
+-- the arrival that was counted, if one was
+abbrev pub counted_by : Aim → Option Arrival
+counted_by aim.Arrive = None
+counted_by (aim.Check arrival) = Some arrival
+
+-- in which generation it was counted, if it was
+abbrev pub generation_of : Option Arrival → Option ℕ
+generation_of None = None
+generation_of (Some arrival) = Some arrival.generation
+
+abbrev pub counted_in : Resting → Option ℕ
+counted_in (resting.Counted arrival) = Some arrival.generation
+counted_in (resting.Locking a waiting) = generation_of (counted_by a)
+counted_in (resting.Waiting waiting) = Some waiting.generation
+
+-- it is an arrival at this barrier, if it is one
+abbrev pub IsAt : Barrier → Option Arrival → Type 0
+IsAt barrier arrival = IfSome arrival (IsOfThis barrier)
+
+-- it waits at this barrier: in no list, in that of the inner lock, or in the barrier's
+abbrev pub RestsAt : Barrier → Resting → Type 0
+RestsAt barrier (resting.Counted arrival) = IsOfThis barrier arrival
+RestsAt barrier (resting.Locking a waiting) = lock.IsOf barrier.inner waiting.seat × IsAt barrier (counted_by a)
+RestsAt barrier (resting.Waiting waiting) = IsOf barrier waiting.seat
+
+-- a poll is refused for memory, for too many starved waiters at the inner lock, or for too many generations
+abbrev pub IsGivenUp : Refusal → Type 0
+IsGivenUp refusals.Memory = ⊤
+IsGivenUp refusals.Starved = ⊤
+IsGivenUp refusals.Generations = ⊤
+IsGivenUp _ = ⊥
+
+-- The receipt of who waits: its entry in the barrier's list, or in the inner lock's, keeps a waker of the task that the context polls; and the task has
+-- registered with the barrier's source.
+abbrev pub HasReceipt : Barrier → Context → Resting → Type 0
+HasReceipt barrier cx (resting.Counted arrival) = ⊥
+HasReceipt barrier cx (resting.Locking a waiting) = IsReceipt barrier.inner.source cx waiting.whose
+HasReceipt barrier cx (resting.Waiting waiting) = IsReceipt barrier.inner.source cx waiting.whose
+
+-- an arrival that was counted stays counted, in the same generation
+abbrev pub StaysCounted : Option ℕ → Option ℕ → Type 0
+StaysCounted before after = IfSome before (λ g. after ≡ Some g)
+
+-- How a poll went of a wait that was counted in this generation before, or wasn't: what shows how the wait has ended was found at this barrier; one that
+-- waits does so there, with a receipt; and an arrival that was counted stays so unless the wait is over.
+abbrev pub IsOutcomeOf : Barrier → Context → Option ℕ → Outcome → Type 0
+IsOutcomeOf barrier cx before (Ready verdict) = IsFoundAt barrier verdict
+IsOutcomeOf barrier cx before (Pending r) = RestsAt barrier r × HasReceipt barrier cx r × StaysCounted before (counted_in r)
+IsOutcomeOf barrier cx before (Refused refusal arrival) = IsGivenUp refusal × IsAt barrier arrival × StaysCounted before (generation_of arrival)
+
+-- the same of a check, by an arrival that may have to begin anew
+abbrev pub IsCheckingOf : Barrier → Context → ℕ → Checking → Type 0
+IsCheckingOf barrier cx generation (checking.Over outcome) = IsOutcomeOf barrier cx (Some generation) outcome
+IsCheckingOf barrier cx generation (checking.Told arrival) = IsOfThis barrier arrival × (arrival.generation ≡ generation)
