@@ -1,13 +1,13 @@
 //! The barrier.
 
 ghost use Rattle.std.specs.Prelude.{◌≡◌, IfErr, IfOk, None, false};
-ghost use Rattle.async_barrier.specs.Parties.{IsGivenUp};
+ghost use Rattle.barrier_core.specs.Outcomes.{IsGivenUp};
 ghost use Rattle.lock_program.specs.declared.refusal.Refusal.{Refusal};
 
-use crate::raw::RawBarrier;
 use crate::result::BarrierWaitResult;
 use crate::wait::BarrierWait;
 use async_driver::wait_for;
+use barrier_core::{RawBarrier, Verdict};
 use lock_program::Refusal;
 use std::alloc::AllocGlobal;
 use std::fmt;
@@ -96,6 +96,19 @@ impl<R: Wait + Clock + RandomSource + AllocGlobal> Barrier<R> {
     /// let first = barrier.wait_blocking()?.is_leader();
     /// ```
     pub fn wait_blocking(&self) -> Result<BarrierWaitResult, Refusal>
+        ensures refused { IfErr result IsGivenUp }
+    {
+        match self.raw.try_lead(&self.rt) {
+            Ok(Some(led)) => Ok(BarrierWaitResult::new(Verdict::Led(led))),
+            Ok(None) => self.wait_asleep(),
+            Err(refusal) => Err(refusal),
+        }
+    }
+
+    // As `wait_blocking`, of an arrival that has to wait. It stands apart, so that the call is short where it leads.
+    #[cold]
+    #[inline(never)]
+    fn wait_asleep(&self) -> Result<BarrierWaitResult, Refusal>
         ensures refused { IfErr result IsGivenUp }
     {
         wait_for(&self.rt, self.wait())

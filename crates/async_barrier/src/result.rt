@@ -4,7 +4,7 @@
 
 ghost use Rattle.std.specs.Prelude.{◌≡◌};
 
-use crate::arrivals::Verdict;
+use barrier_core::Verdict;
 
 /// How a wait at a barrier has ended.
 ///
@@ -15,7 +15,7 @@ pub struct BarrierWaitResult {
 }
 
 impl BarrierWaitResult {
-    ghost use Rattle.async_barrier.specs.Counts.{leads};
+    ghost use Rattle.barrier_core.specs.Counts.{leads};
 
     // It is what the evidence tells.
     pub(crate) fn new(verdict: Verdict) -> BarrierWaitResult
