@@ -12,8 +12,8 @@ use crate::rule::Content;
 ///
 /// While nobody has the list out, some seat that has finished a generation owes the whole list a notification, or each entry that isn't
 /// notified is of a seat that has found, since it joined, as many generations finished as there are, or has not looked yet since it
-/// joined. At rest, when no seat is inside a call, each entry that isn't notified is of the generation that is under way: so each entry
-/// of a finished one is notified. The call does nothing: its clauses are the law.
+/// joined. At rest, when no seat is inside a call, each entry that isn't notified is, by its number, of a seat that has found so, and so of
+/// the generation that is under way. The call does nothing: its clauses are the law.
 pub fn no_lost_wakeup<S: Content>()
     ensures running { (s : State S View) → Ruled S.waiting s → IsListHome s → (list : S) × Lies s list × LosesNone (finished s) (S.waiting list) s.views }
     ensures at_rest { (s : State S View) → Ruled S.waiting s → IsAtRest s → (list : S) × Lies s list × AreOf (IsOfThis s) (S.waiting list) s.views }
