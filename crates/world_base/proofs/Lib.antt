@@ -3,6 +3,7 @@ pub mod of_queue
 pub mod Alike
 pub mod Bounds
 pub mod Overtaking
+pub mod Ending
 pub mod OneMarked
 pub mod Equations
 pub mod Rests

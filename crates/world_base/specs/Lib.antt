@@ -10,5 +10,6 @@ pub mod Accounts
 pub mod Bounds
 pub mod Overtaking
 pub mod Marks
+pub mod Ending
 pub mod any_world
 pub mod table

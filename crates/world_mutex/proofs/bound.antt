@@ -6,4 +6,5 @@ pub mod Bound
 pub mod Counted
 pub mod Behind
 pub mod InTurn
+pub mod Ending
 pub mod Overtaking

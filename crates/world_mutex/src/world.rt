@@ -12,6 +12,7 @@ ghost use Rattle.world_mutex.specs.Steps.{Steps};
 ghost use Rattle.world_mutex.specs.Laws.{IsSound, IsAwake, IsFreeAndWanted, is_at_rest};
 ghost use Rattle.world_mutex.specs.Bound.{IsBounded};
 ghost use Rattle.world_mutex.specs.Overtaking.{IsOvertakenSeldom, IsOvertakenSeldomInSteps};
+ghost use Rattle.world_mutex.specs.Whole.{EndsSoon};
 
 use crate::guarded::Guarded;
 use lock_event::Entry;
@@ -116,10 +117,12 @@ impl World {
     }
 
     /// What always holds of a World, between any two moves: nobody has the lock beside its holder, each
-    /// party has what its standing says, and at rest no notification is lost. It does nothing.
+    /// party has what its standing says, and at rest no notification is lost; and a call that is decided
+    /// ends within two further steps of its own, whatever others do meanwhile. It does nothing.
     pub fn laws(&self)
         ensures sound { IsSound self.now }
         ensures awake { is_at_rest self.now ≡ true → IsAwake self.now }
+        ensures ends_soon { EndsSoon self.now }
     {
         self.table.laws();
         self.table.machine().laws();

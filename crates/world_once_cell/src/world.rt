@@ -13,6 +13,7 @@ ghost use Rattle.world_once_cell.specs.State.{new_world, list_in, is_full, World
 ghost use Rattle.world_once_cell.specs.program.Words.{value_in};
 ghost use Rattle.world_once_cell.specs.Steps.{Steps};
 ghost use Rattle.world_once_cell.specs.Laws.{IsSound, IsAwake, IsFreeAndWanted, is_at_rest};
+ghost use Rattle.world_once_cell.specs.Whole.{EndsSoon};
 ghost use Rattle.world_once_cell.specs.Runs.{Known, Runs, entered};
 ghost use Rattle.world_once_cell.specs.Bound.{IsBounded};
 ghost use Rattle.world_once_cell.specs.Lending.{LendsValue, world_with};
@@ -106,10 +107,12 @@ impl World {
     }
 
     /// What always holds of a World, between any two moves: each party has what its standing says, one party
-    /// at most makes the value, and at rest no notification is lost. It does nothing.
+    /// at most makes the value, and at rest no notification is lost; and a call that is decided ends within three
+    /// further steps of its own, whatever others do meanwhile. It does nothing.
     pub fn laws(&self)
         ensures sound { IsSound self.now }
         ensures awake { is_at_rest self.now ≡ true → IsAwake self.now }
+        ensures ends_soon { EndsSoon self.now }
     {
         self.table.laws();
         self.table.machine().laws();

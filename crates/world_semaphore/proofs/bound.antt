@@ -1,2 +1,3 @@
 -- Solo polls in turn.
 pub mod Bound
+pub mod Ending

@@ -11,6 +11,7 @@ ghost use Rattle.lock_program.specs.declared.refusal.Refusal.TheVariants as refu
 ghost use Rattle.world_semaphore.specs.State.{new_world, available};
 ghost use Rattle.world_semaphore.specs.Steps.{Steps};
 ghost use Rattle.world_semaphore.specs.Laws.{IsSound, IsAwake, IsFreeAndWanted, is_at_rest};
+ghost use Rattle.world_semaphore.specs.Whole.{EndsSoon};
 ghost use Rattle.world_semaphore.specs.Bound.{IsBounded};
 ghost use Rattle.world_semaphore.specs.Limits.{IsRefusedFor};
 
@@ -131,10 +132,12 @@ impl World {
 
     /// What always holds of a World, between any two moves: permits that are had, under way and available
     /// make up the limit, each party has what its standing says, at most one entry is marked, and at rest no
-    /// notification is lost. It does nothing.
+    /// notification is lost; and a call that is decided ends within three further steps of its own, whatever
+    /// others do meanwhile. It does nothing.
     pub fn laws(&self)
         ensures sound { IsSound self.now }
         ensures awake { is_at_rest self.now ≡ true → IsAwake self.now }
+        ensures ends_soon { EndsSoon self.now }
     {
         self.table.laws();
         self.table.machine().laws();

@@ -1,5 +1,5 @@
 -- How callers see the parties of a table, one by one.
-use Rattle.world_base.proofs.Prelude.{◌≡◌, ℕ, zero, suc, ◌+◌, ◌&&◌, true, List, [], ◌∷◌, length, get_or, replicate, Option, None, refl, arith, ap, ◌∙◌, list_all, Answer, Stage, Outside, Inside, Forgotten, Rest, Idle, Within, outside, inside, forgotten, is_outside, is_outside_stage, is_decided, stage_at, stands_as, standings_from, standings}
+use Rattle.world_base.proofs.Prelude.{◌≡◌, ℕ, zero, suc, ◌+◌, ◌&&◌, true, List, [], ◌∷◌, length, get_or, replicate, Option, Some, None, is_some, refl, arith, ap, ◌∙◌, list_all, Answer, Stage, Outside, Inside, Forgotten, Rest, Idle, Within, outside, inside, forgotten, is_outside, is_outside_stage, is_decided, stage_at, stands_as, standings_from, standings}
 use Rattle.world_base.proofs.Equations.{both}
 
 from_at : (n : ℕ) (verdict : ℕ → Option Answer) (ss : List Stage) (p : ℕ) → get_or (standings_from n verdict ss) p forgotten ≡ stands_as (verdict (n + p)) (stage_at ss p)
@@ -61,3 +61,7 @@ pub none_decided : (s : Stage) → is_decided (stands_as None s) ≡ true → �
 none_decided (Inside w) h = cc h
 none_decided (Outside r) h = cc h
 none_decided Forgotten h = cc h
+
+pub some_decided : (d : Option Answer) (s : Stage) → is_decided (stands_as d s) ≡ true → is_some d ≡ true
+some_decided None s h = absurd (none_decided s h)
+some_decided (Some a) s h = refl

@@ -17,7 +17,7 @@ use Rattle.world_mutex.proofs.step.Stepping.{known_calls}
 -- ---- what a step does to the lock
 
 -- what a call begins with
-record SameAt (from x : Place) : Type 0 where
+pub record SameAt (from x : Place) : Type 0 where
   pub counts : counted from ≡ counted x
   pub hears : heard from ≡ heard x
   pub holding : holds from ≡ holds x
@@ -31,7 +31,7 @@ same_for was (Begin c i) x from e = same_by (lock_call_of was c) x from e
 same_for was (Go i) x from e = let is : x ≡ from = some_eq e in record { counts = ap counted (sym is); hears = ap heard (sym is); holding = ap holds (sym is) }
 
 -- an action of the lock, from a place like the party's, which is one of its parties
-record Acted (p : ℕ) (stages : List Stage) (l k : Lock) : Type 0 where
+pub record Acted (p : ℕ) (stages : List Stage) (l k : Lock) : Type 0 where
   pub inside : p < length stages
   pub memory : Bool
   pub from : Place
@@ -44,7 +44,7 @@ acted_by (Some v) g p ss w what a h inside d = inl (ap (λ x. x.lock) d.1)
 acted_by None g p ss w what a h inside d = inr (record { inside = inside; memory = (inputs_of what).memory; from = d.from; next = d.next; acts = d.carried.acts; same = same_for w.was what (place_of g p) d.from d.starts })
 
 -- a step is one such action, or changes nothing there
-acts_or_not : (o : Option Within) (again : Bool) (t : Table Guarded) (m : Move) (a : Answer) (u : Table Guarded) → Does known_calls Rest.Holding Moves o again t m a u → (u.machine.lock ≡ t.machine.lock) ⊎ Acted m.party t.stages t.machine.lock u.machine.lock
+pub acts_or_not : (o : Option Within) (again : Bool) (t : Table Guarded) (m : Move) (a : Answer) (u : Table Guarded) → Does known_calls Rest.Holding Moves o again t m a u → (u.machine.lock ≡ t.machine.lock) ⊎ Acted m.party t.stages t.machine.lock u.machine.lock
 acts_or_not None again t m a u d = inl (ap (λ x. x.machine.lock) d.1)
 acts_or_not (Some w) true t m a u d = inl (ap (λ x. x.machine.lock) d.1)
 acts_or_not (Some w) false t m a u d = acted_by (put_in m.what) t.machine m.party t.stages w m.what a u.machine d.inside d.acts

@@ -7,3 +7,4 @@ pub mod Released
 pub mod Begun
 pub mod Silent
 pub mod Hearing
+pub mod Ending

@@ -1,5 +1,5 @@
 -- Where a party's call on a mutex is, as those see it who build on one: by its course, and not by the places of its program.
-use Rattle.std.specs.Prelude.{◌≡◌, ℕ, Bool, true, false, Option, Some, None}
+use Rattle.std.specs.Prelude.{◌≡◌, ℕ, ◌+◌, Bool, true, false, Option, Some, None}
 pub use Rattle.lock_program.specs.MutexRoles.{bit}
 use Rattle.lock_program.specs.declared.refusal.Refusal.{Refusal}
 use Rattle.lock_program.specs.declared.refusal.Refusal.TheVariants.{Memory, Starved}
@@ -144,6 +144,13 @@ decision (taking (gives_up refusal) starved listed told) = Some (Refused refusal
 decision releasing = Some GivenBack
 decision (cancelling starved) = Some GivenBack
 decision _ = None
+
+-- How many steps of a call that is decided are left, whatever others do: the party leaves the list, is counted no more, and notifies.
+abbrev pub last_steps : Course → ℕ
+last_steps (taking has_lock starved listed told) = bit starved + bit listed
+last_steps (taking progress starved listed told) = 1 + bit starved + bit listed
+last_steps (cancelling starved) = 1 + bit starved
+last_steps _ = 1
 
 -- The calls that a party may begin there.
 abbrev pub may_begin : LockCall → Course → Bool

@@ -1,5 +1,5 @@
 -- A mutex as those see it who build on one: where each party's call is, who waits in its list, and how many steps each call still takes.
-use Rattle.std.specs.Prelude.{◌≡◌, ℕ, ◌<◌, ◌≤◌, ◌==◌, ◌⊎◌, Bool, true, List, [], map, length, replicate, slice_index_or, Option}
+use Rattle.std.specs.Prelude.{◌≡◌, ℕ, ◌<◌, ◌≤◌, ◌==◌, ◌⊎◌, Bool, true, List, [], map, length, replicate, slice_index_or, Option, Some}
 use Rattle.std.specs.List.{sum_by}
 use Rattle.lock_event.specs.declared.event.Entry.{Entry}
 use Rattle.lock_event.specs.Lists.{marked_count, IsMarkedFirst}
@@ -11,7 +11,8 @@ use Rattle.world_mutex.specs.machine.Course.{Course, out, holds, counted, listed
 use Rattle.world_mutex.specs.machine.Behind.{Behind, conceal}
 use Rattle.world_mutex.specs.machine.Machine.{new_lock}
 use Rattle.world_mutex.specs.machine.State.{first_from}
-use Rattle.world_mutex.specs.machine.Course.{is_waiting, is_due}
+use Rattle.world_mutex.specs.machine.Course.{is_waiting, is_due, decision, last_steps}
+use Rattle.lock_program.specs.declared.end.End.{End}
 
 -- What contracts see of a mutex. What stands behind it is shut, and is there for the promise on polls in turn alone.
 pub record Mutex : Type 0 where
@@ -93,3 +94,5 @@ pub record IsMutex (m : Mutex) : Type 0 where
   pub starved_listed : IsAtRest m.courses → (p : ℕ) → IsStarved m p → entries_of p m.entries ≡ 1
   -- no call is out of steps
   pub some_left : (p : ℕ) → 0 < steps_left m p
+  -- and one that is decided has so many left, and at most two, as its course says alone
+  pub last_left : (p : ℕ) (e : End) → decision (course_at m.courses p) ≡ Some e → (steps_left m p ≡ last_steps (course_at m.courses p)) × (steps_left m p ≤ 2)

@@ -108,7 +108,7 @@ some_left LookListed a b = by_bool b 6 2 (omega arith) (omega arith)
 some_left AskPassive a b = by_bool b 5 1 (omega arith) (omega arith)
 some_left _ a b = omega arith
 
-some_at : (x : Position) (a b : Bool) → 0 < left_at x a b
+pub some_at : (x : Position) (a b : Bool) → 0 < left_at x a b
 some_at (At x) a b = some_left x a b
 some_at _ a b = omega arith
 

@@ -1,5 +1,5 @@
 -- A call that is carried out alone ends within its number of steps.
-use Rattle.world_semaphore.proofs.Prelude.{◌≡◌, ℕ, ◌+◌, ◌<◌, ◌≤◌, if◌then◌else◌, Bool, true, false, List, Some, None, refl, arith, ap, sym, ◌∙◌, subst, Entry, is_marked_at, is_party, entries_of, Answer, Call, Inputs, Move, What, Begin, Go, Stage, Within, inputs_of, going_on, some_eq, left_by, beginning, stage_at, call_at, polls_again, Table, joined_unmarked, Found, Done, Left as Left_there, Short, PastLimit, NoMemory, Yes, No, Place, Take, Retake, Join, Ask, Remove, Load, HandOn, PassOn, RefuseFit, Try, Lower, GiveBack, Raise, GiveAdded, FitAdded, CancelRemove, CancelLoad, FitGivenBack, Abandon, Position, Out, Unlisted, Waiting, Holding, At, Words, Next, action_of, next_of, position_after, seat_of, deed_of, entries_after, Finds, Semaphore, IsSemaphore, answer_by, position_at, sizes_of, knows, goes_with, IsSemaphoreTable, TableSteps}
+use Rattle.world_semaphore.proofs.Prelude.{◌≡◌, ℕ, ◌+◌, ◌<◌, ◌≤◌, if◌then◌else◌, Bool, true, false, List, Some, None, is_some, refl, arith, ap, sym, ◌∙◌, subst, Entry, is_marked_at, is_party, entries_of, Answer, Call, Inputs, Move, What, Begin, Go, Stage, Within, inputs_of, going_on, some_eq, left_by, beginning, stage_at, call_at, polls_again, Table, joined_unmarked, Found, Done, Left as Left_there, Short, PastLimit, NoMemory, Yes, No, Place, Take, Retake, Join, Ask, Remove, Load, HandOn, PassOn, RefuseFit, Try, Lower, GiveBack, Raise, GiveAdded, FitAdded, CancelRemove, CancelLoad, FitGivenBack, Abandon, Position, Out, Unlisted, Waiting, Holding, At, Words, Next, action_of, next_of, position_after, seat_of, deed_of, entries_after, Finds, Semaphore, IsSemaphore, answer_by, position_at, sizes_of, verdict, knows, goes_with, IsSemaphoreTable, TableSteps}
 use Rattle.world_semaphore.specs.machine.Ranks.{left, left_at, is_own_marked, steps_left}
 use Rattle.world_semaphore.proofs.of_machine.stages.Taking.{taken}
 use Rattle.world_semaphore.proofs.of_machine.stages.Turns.{Turn, turn}
@@ -77,6 +77,45 @@ module _ (memory : Bool) (size : ℕ → ℕ) (p : ℕ) (w : Words) (l : List (E
   fewer (FitGivenBack a) f e n = omega arith
   fewer Abandon f e n = omega arith
 
+-- how many steps are left at most of a call that is decided, be its entry marked or not
+abbrev pub last_left : Semaphore → ℕ → ℕ
+last_left s p = left_at (position_at s.positions p) true
+
+fewer_last : (x : Place) (f : Found) → is_some (verdict (At x)) ≡ true → Left x f true < left x true
+fewer_last (Remove k more) Yes d = omega arith
+fewer_last (Remove k (Some a)) _ d = omega arith
+fewer_last (Remove k None) _ d = omega arith
+fewer_last (Load k) f d = omega arith
+fewer_last (HandOn k a) f d = omega arith
+fewer_last (PassOn k a) f d = omega arith
+fewer_last (RefuseFit k a) f d = omega arith
+fewer_last (Lower k) f d = omega arith
+fewer_last (GiveBack k) f d = omega arith
+fewer_last (GiveAdded k) f d = omega arith
+fewer_last (FitAdded a) f d = omega arith
+fewer_last CancelRemove Yes d = omega arith
+fewer_last CancelRemove _ d = omega arith
+fewer_last CancelLoad f d = omega arith
+fewer_last (FitGivenBack a) f d = omega arith
+fewer_last Abandon f d = omega arith
+fewer_last _ f d = absurd (cc d)
+
+pub few_last : (x : Position) → is_some (verdict x) ≡ true → left_at x true ≤ 3
+few_last (At (Remove k more)) d = omega arith
+few_last (At (Load k)) d = omega arith
+few_last (At (HandOn k a)) d = omega arith
+few_last (At (PassOn k a)) d = omega arith
+few_last (At (RefuseFit k a)) d = omega arith
+few_last (At (Lower k)) d = omega arith
+few_last (At (GiveBack k)) d = omega arith
+few_last (At (GiveAdded k)) d = omega arith
+few_last (At (FitAdded a)) d = omega arith
+few_last (At CancelRemove) d = omega arith
+few_last (At CancelLoad) d = omega arith
+few_last (At (FitGivenBack a)) d = omega arith
+few_last (At Abandon) d = omega arith
+few_last _ d = absurd (cc d)
+
 -- at least one step is left
 some_left : (x : Place) (b : Bool) → 0 < left x b
 some_left (Take k false told) b = omega arith
@@ -152,6 +191,19 @@ module _ (t u : Table Semaphore) (tl : IsSemaphore t.machine) (tf : IsSemaphoreT
   pub begins : (c : Call) → TableSteps t (beginning p c i) a u → 1 + left_by a (steps_left u.machine p) ≤ most_steps_of c
   begins c step = by_step t u (beginning p c i) a tl tf ul uf (λ b x. 1 + left_by b (steps_left x.machine p) ≤ most_steps_of c) (λ e. one_at_least c) (λ w e f. one_at_least c)
       (λ w k. let few = from_turn t u (beginning p c i) a w k (is_own_marked t.machine p) in omega (arith, less t u (beginning p c i) a w k, few)) step
+
+  -- where the call is decided, whatever is marked
+  pub falls_last : TableSteps t (going_on p i) a u → is_some (verdict (position_at t.machine.positions p)) ≡ true → left_by a (last_left u.machine p) < last_left t.machine p
+  falls_last step decided =
+      let some = some_at (position_at t.machine.positions p) true in
+      by_step t u (going_on p i) a tl tf ul uf (λ b x. left_by b (last_left x.machine p) < last_left t.machine p) (λ e. some) (λ w e f. some)
+      (λ w k. (
+      let here : position_at t.machine.positions p ≡ At k.from = from_turn t u (going_on p i) a w k in
+      let same : left_by a (last_left u.machine p) ≡ Left k.from k.found true = ap (λ b. left_by b (last_left u.machine p)) k.answer ∙ ap (λ x. left_by (answer_by (next_of k.from k.found)) (left_at x true)) (acting.lands t u (going_on p i) a w k) in
+      let D : Position → Type 0 = λ x. is_some (verdict x) ≡ true in
+      let less = fewer_last k.from k.found (subst D here decided) in
+      omega (arith, same, less, ap (λ x. left_at x true) here)))
+      step
 
   pub falls : TableSteps t (going_on p i) a u → left_by a (steps_left u.machine p) < steps_left t.machine p
   falls step =

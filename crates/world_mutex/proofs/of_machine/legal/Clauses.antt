@@ -5,14 +5,14 @@ use Rattle.world_mutex.specs.machine.Courses as way
 use Rattle.world_mutex.specs.machine.Acts as acts
 use Rattle.world_mutex.specs.machine.Legal as legal
 use Rattle.world_mutex.specs.machine.Ranks as ranks
-use Rattle.world_mutex.specs.machine.Course.{GoesOn, holds, counted, decision, is_waiting, is_counting, is_told, is_due, may_tell}
+use Rattle.world_mutex.specs.machine.Course.{GoesOn, holds, counted, decision, is_waiting, is_counting, is_told, is_due, may_tell, last_steps}
 use Rattle.world_mutex.specs.machine.Mutex.{holders, starved, left_after, IsAtRest, TakenFairly, IsMutex}
 use Rattle.world_mutex.specs.machine.Conduct.{decided_then, IsUnrefused, IsReason, IsAllowed, IsLegal, HeedsClock}
 use Rattle.world_mutex.proofs.of_machine.laws.Kept.{after}
 use Rattle.world_mutex.proofs.of_machine.legal.Legal.{begins_fresh}
 use Rattle.world_mutex.proofs.of_machine.legal.Promised.{HandsOn as HandsOnThere, begins_uncounted, begins_heedless, none_counted, told_on, begins_told}
 use Rattle.world_mutex.proofs.of_machine.laws.Starts.{start_same}
-use Rattle.world_mutex.proofs.of_machine.legal.Sights.{begins_so, goes_so, may_start, holds_same, counted_same, listed_same, waiting_same, told_same, counting_same, due_same, telling_same, releasing_same, decision_same, rests_there, rests_here, looks, at_seen, length_seen, holders_seen, starved_seen, holder_seen, roster_seen, steps_seen, some_left}
+use Rattle.world_mutex.proofs.of_machine.legal.Sights.{begins_so, goes_so, may_start, holds_same, counted_same, listed_same, waiting_same, told_same, counting_same, due_same, telling_same, releasing_same, decision_same, rests_there, rests_here, looks, at_seen, length_seen, holders_seen, starved_seen, holder_seen, roster_seen, steps_seen, some_left, last_there}
 use Rattle.world_mutex.proofs.of_machine.legal.Asked.{asks_here, looks_here}
 
 pub same_place : (x : Place) → SameRoles x x
@@ -69,6 +69,9 @@ module _ (l : Lock) where
     wakes = λ rest free some. m.wakes (all_rest l.places kept rest) (sym (holders_seen l.places) ∙ free) some;
     starved_listed = λ rest p own. m.starved_listed (all_rest l.places kept rest) p (sym (counted_here p) ∙ own);
     some_left = λ p. rw (steps_seen l p) (some_left (place_at l.places p) (ranks.is_own_marked l p) (ranks.is_open l));
+    last_left = λ p e decided. (
+        let there = last_there (place_at l.places p) (ranks.is_own_marked l p) (ranks.is_open l) e (kept p) (sym (ap decision (here p)) ∙ decided) in
+        (steps_seen l p ∙ there.0 ∙ ap last_steps (sym (here p)), omega (arith, steps_seen l p, there.1)));
   }
 
   -- and back

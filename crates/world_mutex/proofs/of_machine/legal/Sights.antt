@@ -1,11 +1,11 @@
 -- What the courses of the parties' calls tell of the places behind them.
-use Rattle.world_mutex.proofs.Prelude.{◌≡◌, ℕ, ◌+◌, ◌<◌, Bool, true, false, zero, suc, List, [], ◌∷◌, length, map, replicate, get_or, Option, Some, None, IsSome, IsSomeAnd, refl, sym, ap, arith, ◌∙◌, false≢true, set, sum_by, sum_by-cons, Memory, Starved, Place, LockCall, Action, Found, Done, Free, Held, AtLimit, Yes, End, Got, Pending, NotFree, GivenBack, Refused, Next, Step, start_of, place_after, step_of, Lock, place_at, new_lock, conceal, Acts, left, is_own_marked, is_open, Course, out, is_taking, is_releasing, is_cancelling, is_called, may_begin, Begins, Mutex, new_mutex, course_at, course_of, is_kept, AreKept, steps_from, seen}
+use Rattle.world_mutex.proofs.Prelude.{◌≡◌, ℕ, ◌+◌, ◌<◌, ◌≤◌, Bool, true, false, zero, suc, List, [], ◌∷◌, length, map, replicate, get_or, Option, Some, None, IsSome, IsSomeAnd, refl, sym, ap, arith, ◌∙◌, false≢true, set, sum_by, sum_by-cons, Memory, Starved, Place, LockCall, Action, Found, Done, Free, Held, AtLimit, Yes, End, Got, Pending, NotFree, GivenBack, Refused, Next, Step, start_of, place_after, step_of, Lock, place_at, new_lock, conceal, Acts, left, is_own_marked, is_open, Course, out, is_taking, is_releasing, is_cancelling, is_called, may_begin, Begins, Mutex, new_mutex, course_at, course_of, is_kept, AreKept, steps_from, seen}
 use Rattle.std.specs.Prelude.{◌==◌, if◌then◌else◌}
 use Rattle.lock_program.specs.MutexRoles as by
 use Rattle.world_mutex.specs.machine.Courses as way
 use Rattle.world_mutex.specs.machine.Legal as legal
 use Rattle.world_mutex.specs.machine.State as state
-use Rattle.world_mutex.specs.machine.Course.{holds, counted, listed, decision, is_waiting, is_resting, is_told, is_counting, is_due, may_tell, Takes, Tries, Releases, Cancels, GoesOn}
+use Rattle.world_mutex.specs.machine.Course.{holds, counted, listed, decision, is_waiting, is_resting, is_told, is_counting, is_due, may_tell, last_steps, Takes, Tries, Releases, Cancels, GoesOn}
 use Rattle.world_mutex.specs.machine.Mutex.{is_holder, is_counted, holder_from}
 use Rattle.world_mutex.proofs.of_machine.laws.Kept.{after}
 
@@ -332,6 +332,24 @@ some_left (Place.Count false told) m o = omega arith
 some_left (Place.Uncount true) m o = omega arith
 some_left (Place.Uncount false) m o = omega arith
 some_left _ m o = omega arith
+
+-- where a call is decided, as many as its course says
+pub last_there : (x : Place) (m o : Bool) (e : End) → is_kept x ≡ true → decision (course_of x) ≡ Some e → (left x m o ≡ last_steps (course_of x)) × (left x m o ≤ 2)
+last_there Place.Out m o e k d = (refl, omega arith)
+last_there (Place.Uncount true) m o e k d = (refl, omega arith)
+last_there (Place.Uncount false) m o e k d = (refl, omega arith)
+last_there Place.Leave m o e k d = (refl, omega arith)
+last_there Place.RefuseUncount m o e k d = (refl, omega arith)
+last_there (Place.RefuseLeave told) m o e k d = (refl, omega arith)
+last_there Place.RefuseNotifyMemory m o e k d = (refl, omega arith)
+last_there Place.RefuseNotifyStarved m o e k d = (refl, omega arith)
+last_there Place.ReleaseNotify m o e k d = (refl, omega arith)
+last_there Place.CancelUncount m o e k d = (refl, omega arith)
+last_there Place.CancelLeave m o e k d = (refl, omega arith)
+last_there Place.Enter m o e k d = absurd (cc k)
+last_there Place.Try m o e k d = absurd (cc k)
+last_there Place.Clear m o e k d = absurd (cc k)
+last_there _ m o e k d = absurd (cc d)
 
 -- ---- a new mutex
 
