@@ -17,6 +17,7 @@ ghost use Rattle.world_barrier.specs.Numbers.{generations_of, count_of};
 ghost use Rattle.world_barrier.specs.State.{new_world, list_in, wait_of, World as WorldOf};
 ghost use Rattle.world_barrier.specs.Steps.{Steps};
 ghost use Rattle.world_barrier.specs.Laws.{IsSound, IsAwake, IsWanted, is_at_rest};
+ghost use Rattle.world_barrier.specs.Whole.{EndsSoon};
 ghost use Rattle.world_barrier.specs.Runs.{Runs, leaders};
 ghost use Rattle.world_barrier.specs.Bound.{IsBounded};
 ghost use Rattle.world_barrier.specs.Overtaking.{IsOvertakenSeldomInSteps};
@@ -151,10 +152,12 @@ impl World {
 
     /// What always holds of a World, between any two moves: each party has what its standing says, each
     /// arrival is of one wait at most, and while nobody holds the inner lock each listed wait of a finished
-    /// generation has been notified. At rest nobody holds it, and no notification is lost. It does nothing.
+    /// generation has been notified. At rest nobody holds it, and no notification is lost. A call that
+    /// is decided ends within three further steps of its own, whatever others do meanwhile. It does nothing.
     pub fn laws(&self)
         ensures sound { IsSound self.now }
         ensures awake { is_at_rest self.now ≡ true → IsAwake self.now }
+        ensures ends_soon { EndsSoon self.now }
     {
         self.table.laws();
         self.table.machine().laws();

@@ -1,7 +1,7 @@
 -- Polls in turn: each that gives way leaves one entry less of a party that isn't starved.
 use Rattle.world_base.proofs.Prelude.{◌≡◌, ℕ, zero, suc, ◌+◌, ◌<◌, ◌≤◌, if◌then◌else◌, Bool, true, false, List, [], ◌∷◌, length, get_or, refl, arith, nat_tests, Entry, is_marked, marked_count, is_marked_at, IsMarkedFirst, is_party, entries_of, Answer, Inputs}
 use Rattle.world_base.specs.Rosters.{is_on, how_many}
-use Rattle.world_base.specs.Bounds.{unstarved_in, GaveWay, PassedOver, OneTakes}
+use Rattle.world_base.specs.Bounds.{unstarved_in, GaveWay, PolledInTurn, OneTakes}
 
 -- a party whose entry is marked is listed, and where one is the list isn't empty
 pub marked_listed : (p : ℕ) (l : List (Entry ℕ)) → is_marked_at (is_party p) l ≡ true → 0 < entries_of p l
@@ -35,7 +35,7 @@ fewer_listed s q starving (e ∷ es) h = grind (arith, nat_tests, one_at_most (i
 module _ {W : Type 0} (PassesOver : W → ℕ → Inputs → Answer → W → Type 0) (starved : W → List Bool) (list : W → List (Entry ℕ)) (IsFree : W → Type 0)
     (gives : (w : W) (p : ℕ) (inputs : Inputs) (a : Answer) (v : W) → IsFree w → PassesOver w p inputs a v → IsFree v × GaveWay p (starved w) (list w) (starved v) (list v)) where
   -- no more of them than there are entries of parties that aren't starved
-  in_turn : (n : ℕ) (w v : W) → IsFree w → PassedOver PassesOver n w v → n ≤ unstarved_in (starved w) (list w)
+  in_turn : (n : ℕ) (w v : W) → IsFree w → PolledInTurn PassesOver n w v → n ≤ unstarved_in (starved w) (list w)
   in_turn zero w v free t = omega arith
   in_turn (suc n) w v free t =
       let one = gives w t.0 t.1 t.2 t.3 free t.4 in

@@ -36,13 +36,13 @@ pub record GaveWay (p : ℕ) (starved : List Bool) (list : List (Entry ℕ)) (st
 abbrev pub SomeMarked : (ℕ → Standing) → List (Entry ℕ) → Type 0
 SomeMarked stands list = (p : ℕ) × (is_marked_at (is_party p) list ≡ true) × ((stands p ≡ outside Pending) ⊎ (stands p ≡ forgotten))
 
--- One poll passes over what is free: from this World, of this party with these inputs, answered so, to that World.
-module _ {W : Type 0} (PassesOver : W → ℕ → Inputs → Answer → W → Type 0) where
-  -- It is passed over by so many polls in turn, each on the World that the one before left.
-  abbrev pub PassedOver : ℕ → W → W → Type 0
-  PassedOver zero w v = v ≡ w
-  PassedOver (suc n) w v = (p : ℕ) × (inputs : Inputs) × (a : Answer) × (mid : W) × PassesOver w p inputs a mid × PassedOver n mid v
+-- A kind of polls: from this World, of this party with these inputs, answered so, to that World.
+module _ {W : Type 0} (Polls : W → ℕ → Inputs → Answer → W → Type 0) where
+  -- So many such polls in turn lead from w to v, each on the World that the one before left.
+  abbrev pub PolledInTurn : ℕ → W → W → Type 0
+  PolledInTurn zero w v = v ≡ w
+  PolledInTurn (suc n) w v = (p : ℕ) × (inputs : Inputs) × (a : Answer) × (mid : W) × Polls w p inputs a mid × PolledInTurn n mid v
 
-  -- Fewer polls in turn pass it over than the list has entries, so that among as many one takes it.
+  -- Of polls that pass over what is free: fewer of them in turn than the list has entries, so that among as many one takes it.
   abbrev pub OneTakes : (W → List (Entry ℕ)) → W → Type 0
-  OneTakes list w = (n : ℕ) (v : W) → PassedOver n w v → n < length (list w)
+  OneTakes list w = (n : ℕ) (v : W) → PolledInTurn n w v → n < length (list w)

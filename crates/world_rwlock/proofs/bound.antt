@@ -4,3 +4,5 @@ pub mod AloneSeen
 pub mod Bound
 pub mod InTurn
 pub mod Overtaking
+pub mod Ending
+pub mod Drains

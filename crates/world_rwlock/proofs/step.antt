@@ -10,6 +10,7 @@ pub mod Endings
 pub mod Legals
 pub mod Idle
 pub mod Owed
+pub mod Owes
 pub mod Acting
 pub mod AtOnce
 pub mod Asked

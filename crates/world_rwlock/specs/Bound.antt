@@ -1,5 +1,5 @@
 -- How often what is free may be passed over: whole polls of notified parties, one after the other, each carried out while the others stand still.
-use Rattle.std.specs.Prelude.{◌≡◌, ◌≢◌, ℕ, ◌<◌, ◌≤◌, ◌⊎◌, true, false, List, length, Some}
+use Rattle.std.specs.Prelude.{◌≡◌, ◌≢◌, ℕ, ◌+◌, ◌<◌, ◌≤◌, ◌⊎◌, true, false, List, length, Some}
 use Rattle.lock_event.specs.declared.event.Entry.{Entry}
 use Rattle.lock_event.specs.Lists.{marked_count, is_marked_at}
 use Rattle.world_base.specs.queue.Parties.{is_party, entries_of}
@@ -20,7 +20,7 @@ use Rattle.world_rwlock.specs.State.{ListName, list_of, nobody, is_upgradable, w
 use Rattle.world_rwlock.specs.Laws.{is_at_rest}
 use Rattle.world_rwlock.specs.Legal.{is_first}
 use Rattle.world_rwlock.specs.Whole.{IsWholeCall}
-use Rattle.lock_program.specs.declared.refusal.Refusal.TheVariants.{Starved}
+use Rattle.lock_program.specs.declared.refusal.Refusal.TheVariants.{Starved, Readers}
 use Rattle.world_base.specs.Standings.{refused}
 use Rattle.world_base.specs.Marks.{MarksNobody}
 
@@ -96,6 +96,8 @@ pub record Promises (w : World) (p : ℕ) (c : Call) (inputs : Inputs) (a : Answ
   -- of a party that was notified for it, it takes it without memory too if its party is starved or nobody is, but for a write beside readers
   pub told : c ≡ call.Poll → IsToldOfTurn w p inputs → w.state.turn ≡ nobody → (MeetsReaders w p → ⊥) → (is_starved w p ≡ true) ⊎ (how_many w.state.starved ≡ 0) → TakesTurn w p a v
   pub reading : c ≡ call.Poll → IsToldToRead w p → is_marked w.state.turn ≡ false → how_many_read w < w.readers_limit → TakesToRead w p a v
+  -- such a poll of a party that was told to read is refused where as many read as may
+  pub full : c ≡ call.Poll → IsToldToRead w p → is_marked w.state.turn ≡ false → w.readers_limit ≤ how_many_read w → a ≡ refused Readers
   pub writing : c ≡ call.Poll → IsSoloToWrite w p → how_many_read w ≡ 0 → TakesToWrite w p a v
   pub unstarved : inputs.starving ≡ false → how_many w.state.starved ≡ 0 → is_starved v p ≡ false
   -- nor is its call refused then for the number of starved parties
@@ -137,6 +139,23 @@ pub record PassesWritingOver (w : World) (p : ℕ) (inputs : Inputs) (a : Answer
   pub solo : IsSoloToWrite w p
   pub whole : IsWholeCall w p call.Poll inputs a v
   pub not_taken : v.state.turn ≢ writes p
+
+-- ---- Readers in turn
+
+-- A whole poll of a party that was notified to read.
+pub record PollsToRead (w : World) (p : ℕ) (inputs : Inputs) (a : Answer) (v : World) : Type 0 where
+  pub told : IsToldToRead w p
+  pub whole : IsWholeCall w p call.Poll inputs a v
+
+-- After so many of them as many more read, and the list of waiting readers is as much shorter; and while somebody waits there, there is a next party to poll.
+pub record ReadersIn (polls : ℕ) (w v : World) : Type 0 where
+  pub read : how_many_read v ≡ how_many_read w + polls
+  pub left : length v.no_writer + polls ≡ length w.no_writer
+  pub next : 0 < length v.no_writer → bounds.SomeMarked (standing_of v) v.no_writer
+
+-- Where nobody writes or waits to write, as after the drop of a writer's guard, as many polls of notified readers in turn as readers wait let all of them in, up to the readers' limit.
+abbrev pub LetsReadersIn : World → Type 0
+LetsReadersIn w = is_marked w.state.turn ≡ false → (polls : ℕ) (v : World) → how_many_read w + polls ≤ w.readers_limit → bounds.PolledInTurn PollsToRead polls w v → ReadersIn polls w v
 
 -- ---- What holds at rest
 

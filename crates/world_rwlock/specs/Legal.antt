@@ -195,13 +195,15 @@ pub record Legal (old : World) (m : Move) (a : Answer) (new : World) : Type 0 wh
 
 -- ---- Whom a party tells of what it gave up
 
--- Whoever gives the turn up, clears the writer's bit, or stops reading as the last, by a drop or wherever it doesn't set the bit itself, goes on, and has to tell one of those that wait for that. It goes on until it has told exactly one of them; of the turn it tells at its next step. Only the last reader comes to have to tell the writer, and no other party comes to have to tell, or is freed of it.
+-- Whoever gives the turn up, clears the writer's bit, or stops reading as the last, by a drop or wherever it doesn't set the bit itself, goes on, and has to tell one of those that wait for that. It goes on until it has told exactly one of them; of the turn it tells at its next step. Nobody but such a party comes to have to tell, and no other party comes to have to, or is freed of it, by its step.
 pub record TellsOnRelease (old : World) (m : Move) (a : Answer) (new : World) : Type 0 where
   pub turn : HasTurn old.state.turn m.party → (HasTurn new.state.turn m.party → ⊥) → (a ≡ answer.Stepped) × (has_to_tell for_the_turn new m.party ≡ true)
   pub bit : HasTurn old.state.turn m.party → is_marked old.state.turn ≡ true → is_marked new.state.turn ≡ false → (a ≡ answer.Stepped) × (has_to_tell for_no_writer new m.party ≡ true)
   pub last_reader : reads old m.party ≡ true → how_many_read new ≡ 0 → (is_drop m.what ≡ true) ⊎ (is_marked new.state.turn ≡ is_marked old.state.turn) → (a ≡ answer.Stepped) × (has_to_tell for_no_readers new m.party ≡ true)
   pub tells : (list : ListName) → has_to_tell list old m.party ≡ true → is_possible a ≡ true → (list_of new list ≡ notified (list_of old list) 1) ⊎ ((a ≡ answer.Stepped) × (has_to_tell list new m.party ≡ true))
   pub tells_at_once : has_to_tell for_the_turn old m.party ≡ true → is_possible a ≡ true → new.turn_list ≡ notified old.turn_list 1
+  pub only_turn : has_to_tell for_the_turn old m.party ≡ false → has_to_tell for_the_turn new m.party ≡ true → HasTurn old.state.turn m.party × (HasTurn new.state.turn m.party → ⊥)
+  pub only_bit : has_to_tell for_no_writer old m.party ≡ false → has_to_tell for_no_writer new m.party ≡ true → HasTurn old.state.turn m.party × (is_marked old.state.turn ≡ true) × (is_marked new.state.turn ≡ false)
   pub only_last : has_to_tell for_no_readers old m.party ≡ false → has_to_tell for_no_readers new m.party ≡ true → (reads old m.party ≡ true) × (how_many_read new ≡ 0)
   pub others : (list : ListName) (q : ℕ) → q ≢ m.party → has_to_tell list new q ≡ has_to_tell list old q
 
@@ -265,6 +267,8 @@ pub record AnswersAtOnce (old : World) (m : Move) (a : Answer) (new : World) : T
   pub try_write_decided : IsTryWithTurn old m write → is_possible a ≡ true → decision a (standing_of new m.party) ≡ Some (granted_if (how_many_read old == 0) old)
   pub first_read : is_first old m read ≡ true → (reads new m.party ≡ true) ↔ (may_read old ≡ true)
   pub first_read_ready : is_first old m read ≡ true → may_read old ≡ true → a ≡ answer.Ready (Value old.state.value)
+  -- Where nobody writes or waits to but as many read as may, a first read is refused at once.
+  pub first_read_full : is_first old m read ≡ true → is_marked old.state.turn ≡ false → old.readers_limit ≤ how_many_read old → a ≡ refused refusal.Readers
   pub first_upgradable : is_first old m upgradable ≡ true → (new.state.turn ≡ passes m.party) ↔ (is_turn_free old.state ≡ true)
   pub first_write : is_first old m write ≡ true → is_upgrader old m.party ≡ false → (new.state.turn ≡ passes m.party) ↔ (is_turn_free old.state ≡ true)
   -- A try, and the first step of a first poll, do nothing in the lists.

@@ -152,6 +152,7 @@ is_inside place.TryUpgrade = false
 is_inside (place.Down keeps) = false
 is_inside place.TryRead = false
 is_inside (place.TryTurn p) = false
+is_inside place.CancelAwait = false
 is_inside _ = true
 
 abbrev pub is_out : Place → Bool

@@ -11,7 +11,8 @@ ghost use Rattle.world_base.specs.Rosters.{how_many};
 ghost use Rattle.world_mutex.specs.machine.Behind.{place_behind};
 ghost use Rattle.world_rwlock.specs.Steps.{Steps};
 ghost use Rattle.world_rwlock.specs.Laws.{IsSound, IsAwake, IsTurnWanted, IsReadingWanted, IsWritingWanted, is_at_rest};
-ghost use Rattle.world_rwlock.specs.Bound.{IsTurnBounded, IsReadingBounded, IsWritingBounded};
+ghost use Rattle.world_rwlock.specs.Whole.{EndsSoon};
+ghost use Rattle.world_rwlock.specs.Bound.{IsTurnBounded, IsReadingBounded, IsWritingBounded, LetsReadersIn};
 ghost use Rattle.world_rwlock.specs.Overtaking.{IsOvertakenSeldom, IsOvertakenSeldomInSteps};
 
 use crate::guarded::Guarded;
@@ -145,10 +146,12 @@ impl World {
     }
 
     /// What always holds of a World, between any two moves: rights that exclude each other don't coexist,
-    /// each party has what its standing says, and at rest no notification is lost. It does nothing.
+    /// each party has what its standing says, and at rest no notification is lost; and a call that is decided
+    /// ends within four further steps of its own, whatever others do meanwhile. It does nothing.
     pub fn laws(&self)
         ensures sound { IsSound self.now }
         ensures awake { is_at_rest self.now ≡ true → IsAwake self.now }
+        ensures ends_soon { EndsSoon self.now }
     {
         self.table.laws();
         self.table.machine().laws();
@@ -164,10 +167,14 @@ impl World {
     /// to write or writes, below the readers' limit, and `writing` that none passes writing over where no
     /// reader is left. Each also says that some entry of its list is marked, so that there is a party to
     /// poll, unless it was forgotten.
+    ///
+    /// Where nobody writes or waits to write, as after the drop of a writer's guard, polls of notified readers in turn let all waiting
+    /// readers in, one poll each, up to the readers' limit (`readers_in`).
     pub fn solo_polls(&self)
         ensures turn { is_at_rest self.now ≡ true → IsTurnWanted self.now → IsTurnBounded self.now }
         ensures reading { is_at_rest self.now ≡ true → IsReadingWanted self.now → IsReadingBounded self.now }
         ensures writing { is_at_rest self.now ≡ true → IsWritingWanted self.now → IsWritingBounded self.now }
+        ensures readers_in { is_at_rest self.now ≡ true → LetsReadersIn self.now }
     {
         self.laws();
     }

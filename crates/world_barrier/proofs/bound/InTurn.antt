@@ -30,7 +30,7 @@ on_lock i p _ f m n o = inl o
 abbrev IsMoved : ℕ → Table Barrier → Table Barrier → Type 0
 IsMoved p t u = (u.machine.lock ≡ t.machine.lock) ⊎ mutex.Moves p t.machine.lock u.machine.lock
 
-acts_or_not : (o : Option Within) (again : Bool) (t : Table Barrier) (m : Move) (a : Answer) (u : Table Barrier) → Does known_calls Rest.Finished Moves o again t m a u → IsMoved m.party t u
+pub acts_or_not : (o : Option Within) (again : Bool) (t : Table Barrier) (m : Move) (a : Answer) (u : Table Barrier) → Does known_calls Rest.Finished Moves o again t m a u → IsMoved m.party t u
 acts_or_not None again t m a u d = inl (ap (λ x. x.machine.lock) d.1)
 acts_or_not (Some w) true t m a u d = inl (ap (λ x. x.machine.lock) d.1)
 acts_or_not (Some w) false t m a u d = on_lock (inputs_of m.what) m.party (action_of d.acts.from) d.acts.found t.machine.lock u.machine.lock d.acts.acts.lock

@@ -55,13 +55,13 @@ some_left CancelLock k n h = omega arith
 some_left CancellingLock k n h = h
 some_left _ k n h = omega arith
 
-some_at : (x : Position) (k : Bool) (n : ℕ) → 0 < n → 0 < left_at x k n
+pub some_at : (x : Position) (k : Bool) (n : ℕ) → 0 < n → 0 < left_at x k n
 some_at (At x) k n h = some_left x k n h
 some_at _ k n h = omega arith
 
 -- ---- one step
 
-place_of : (i : Inputs) (x : Position) (from : Place) → place_for (Go i) x ≡ Some from → x ≡ At from
+pub place_of : (i : Inputs) (x : Position) (from : Place) → place_for (Go i) x ≡ Some from → x ≡ At from
 place_of i (At y) from e = ap At (some_eq e)
 place_of i _ from e = absurd (none_some e)
 

@@ -1,5 +1,6 @@
 -- A possible answer that isn't Stepped leaves its party outside, in any World that ends calls properly.
-use Rattle.world_base.proofs.Prelude.{◌≡◌, ◌≢◌, ℕ, Bool, true, Option, Some, None, refl, ap, sym, ◌∙◌, Answer, Call, Inputs, Move, Go, Rest, Within, Standing, inside, call_in, is_outside, is_possible, decision, StandsAfter, Runs, going_on, moves_of, answers_of, call_of, IsPossible, EndsProperly, beginning}
+use Rattle.world_base.proofs.Prelude.{◌≡◌, ◌≢◌, ℕ, Bool, true, Option, Some, None, refl, ap, sym, ◌∙◌, Answer, Call, Inputs, Move, Go, Rest, Within, Standing, inside, outside, call_in, is_outside, is_possible, decision, StandsAfter, Runs, going_on, moves_of, answers_of, call_of, IsPossible, EndsProperly, beginning}
+use Rattle.world_base.specs.Standings.{rest_after}
 use Rattle.world_base.proofs.Equations.{some_eq, none_some}
 use Rattle.world_base.proofs.of_any_world.Runs.{Onward, along}
 
@@ -13,6 +14,18 @@ ends_outside standing_of knows ready w m a v only proper ended possible = by_cal
   by_call : (o : Option Within) → call_of standing_of knows w m ≡ o → is_outside (standing_of v m.party) ≡ true
   by_call None e = let no = only.exactly.1 e in absurd (cc)
   by_call (Some u) e = by_answer ready u a (standing_of v m.party) ended (proper.stands u e)
+
+-- and where it stands
+stands_at : (ready : Rest) (u : Within) (b : Answer) (t : Standing) → b ≢ Answer.Stepped → StandsAfter ready u b t → (r : Rest) × (t ≡ outside r)
+stands_at ready u Answer.Stepped t e s = absurd (e refl)
+stands_at ready u b t e s = (rest_after ready u b, s.1)
+
+pub ends_at : {W : Type 0} (standing_of : W → ℕ → Standing) (knows : W → ℕ → Call → Bool) (ready : Rest) (w : W) (m : Move) (a : Answer) (v : W)
+    → IsPossible standing_of knows w m a v → EndsProperly standing_of knows ready w m a v → a ≢ Answer.Stepped → is_possible a ≡ true → (r : Rest) × (standing_of v m.party ≡ outside r)
+ends_at standing_of knows ready w m a v only proper ended possible = by_call (call_of standing_of knows w m) refl where
+  by_call : (o : Option Within) → call_of standing_of knows w m ≡ o → (r : Rest) × (standing_of v m.party ≡ outside r)
+  by_call None e = let no = only.exactly.1 e in absurd (cc)
+  by_call (Some u) e = stands_at ready u a (standing_of v m.party) ended (proper.stands u e)
 
 -- A call whose first step decides it on an answer ends with that answer, in any World that ends calls properly.
 module _ {W Known : Type 0} (Steps : W → Move → Answer → W → Type 0) (learn : Known → Move → Answer → Known) (IsWell : Known → W → Type 0) (standing_of : W → ℕ → Standing) (knows : W → ℕ → Call → Bool) (ready : Rest)

@@ -1,5 +1,5 @@
 -- What a poll that is carried out alone does to a lock that is free for it, as callers see it.
-use Rattle.world_rwlock.proofs.Prelude.{◌≡◌, ◌≢◌, ℕ, ◌<◌, ◌⊎◌, inl, inr, true, false, length, map, Option, refl, sym, ap, ◌∙◌, subst, arith, set, set-get_or, false≢true, list_all, is_marked_at, is_party, entries_of, Answer, Call, Value, Inputs, Refusal, Rest, Outside, Forgotten, how_many, outside, is_outside_stage, TurnCourse, listed, turn_at, IsStarved, holders, starved, holder_of, out_unlisted, holding_unlisted, gave_way, End, Next, Place, has_turn, in_no_writer, in_no_readers, fits_turn, place_at, IsRwLock, readers, PollsAlone, waits_to_read, looks_for_readers, waits_for_turn, IsCalledToTurn, Took, TookTurn, StandsBack, GaveTurnWay, HasEnough, SoloPolls, stage_at, is_future, goes_with, sought_at, Table, Guarded, answer_by, Account, moves_of, answers_of, Runs, IsRwLockTable, Stands, nobody, is_upgradable, waits_to_write as waits, World, standing_of, is_starved, is_upgrader, how_many_read, is_marked, is_at_rest, upgrading, waiting, writing, turn_as, share_of, turn_by, is_reading, is_upgrade, verdict, standing_at, view_of, IsSoloForTurn, IsToldOfTurn, IsToldToRead, IsSoloToWrite, TakesTurn, GivesTurnWay, SoloPollForTurn, TakesToRead, TakesToWrite, rest_seen, outside_stage, inside_or_past}
+use Rattle.world_rwlock.proofs.Prelude.{◌≡◌, ◌≢◌, ℕ, ◌<◌, ◌≤◌, ◌⊎◌, inl, inr, true, false, length, map, Option, refl, sym, ap, ◌∙◌, subst, arith, set, set-get_or, false≢true, list_all, is_marked_at, is_party, entries_of, Answer, Call, Value, Inputs, Refusal, Rest, Outside, Forgotten, how_many, outside, refused, is_outside_stage, TurnCourse, listed, turn_at, IsStarved, holders, starved, holder_of, out_unlisted, holding_unlisted, gave_way, End, Next, Place, has_turn, in_no_writer, in_no_readers, fits_turn, place_at, IsRwLock, readers, PollsAlone, waits_to_read, looks_for_readers, waits_for_turn, IsCalledToTurn, Took, TookTurn, StandsBack, GaveTurnWay, HasEnough, SoloPolls, stage_at, is_future, goes_with, sought_at, Table, Guarded, answer_by, Account, moves_of, answers_of, Runs, IsRwLockTable, Stands, nobody, is_upgradable, waits_to_write as waits, World, standing_of, is_starved, is_upgrader, how_many_read, is_marked, is_at_rest, upgrading, waiting, writing, turn_as, share_of, turn_by, is_reading, is_upgrade, verdict, standing_at, view_of, IsSoloForTurn, IsToldOfTurn, IsToldToRead, IsSoloToWrite, TakesTurn, GivesTurnWay, SoloPollForTurn, TakesToRead, TakesToWrite, rest_seen, outside_stage, inside_or_past}
 use Rattle.world_base.proofs.Bounds.{marked_listed}
 use Rattle.world_base.proofs.Rests.{still_outside}
 use Rattle.world_mutex.specs.machine.Course.{bit, counted}
@@ -145,11 +145,21 @@ module _ (w : World) (p : ℕ) (i : Inputs) (laws : IsRwLock w.behind.machine.lo
   law = solo_polls t.machine.lock laws
 
   module _ (v : World) (a : Answer) (e : End) (polls : PollsAlone i.memory p e v.behind.machine.lock w.behind.machine.lock) (k : Ended w p a v e) where
-    reading_polled : IsToldToRead (shown w) p → is_marked (shown w).state.turn ≡ false → how_many_read (shown w) < t.machine.lock.limit → TakesToRead (shown w) p a (shown v)
-    reading_polled solo free below =
+    reading_took : IsToldToRead (shown w) p → is_marked (shown w).state.turn ≡ false → how_many_read (shown w) < t.machine.lock.limit → Took p Place.Reading e v.behind.machine.lock
+    reading_took solo free below =
         let there : 0 < in_no_writer (place_at t.machine.lock.places p) = omega (arith, laws.owners_no_writer p, marked_listed p t.machine.lock.no_writer solo.marked) in
         let few : readers t.machine.lock < t.machine.lock.limit = rw view.how_many-read at below in
-        reads_seen w v p a e (law.reads (bit_seen t.machine.lock t.stages t.opening t.machine.value laws tf free) few i.memory p e v.behind.machine.lock (in_no_writer_list (place_at t.machine.lock.places p) future there, solo.marked) polls) k
+        law.reads (bit_seen t.machine.lock t.stages t.opening t.machine.value laws tf free) few i.memory p e v.behind.machine.lock (in_no_writer_list (place_at t.machine.lock.places p) future there, solo.marked) polls
+
+    reading_polled : IsToldToRead (shown w) p → is_marked (shown w).state.turn ≡ false → how_many_read (shown w) < t.machine.lock.limit → TakesToRead (shown w) p a (shown v)
+    reading_polled solo free below = reads_seen w v p a e (reading_took solo free below) k
+
+    reading_full : IsToldToRead (shown w) p → is_marked (shown w).state.turn ≡ false → t.machine.lock.limit ≤ how_many_read (shown w) → a ≡ refused Refusal.Readers
+    reading_full solo free full =
+        let there : 0 < in_no_writer (place_at t.machine.lock.places p) = omega (arith, laws.owners_no_writer p, marked_listed p t.machine.lock.no_writer solo.marked) in
+        let many : t.machine.lock.limit ≤ readers t.machine.lock = rw view.how_many-read at full in
+        let is : e ≡ End.Refused Refusal.Readers = law.reads_full (bit_seen t.machine.lock t.stages t.opening t.machine.value laws tf free) many i.memory p e v.behind.machine.lock (in_no_writer_list (place_at t.machine.lock.places p) future there, solo.marked) polls in
+        k.answer ∙ ap (λ x. answer_by t.machine.value (Next.End x k.to)) is
 
     writing_polled : (0 < entries_of p t.machine.lock.no_readers) ⊎ (is_upgrader (shown w) p ≡ true) → how_many_read (shown w) ≡ 0 → TakesToWrite (shown w) p a (shown v)
     writing_polled some free =
@@ -261,6 +271,19 @@ module _ (known : ℕ → Account) (w : World) (p : ℕ) (i : Inputs) (k : ℕ) 
       let F : World → Type 0 = λ x. IsToldToRead x p × (is_marked x.state.turn ≡ false) × (how_many_read x < x.readers_limit) in
       let so : F (shown w) = subst F stood.seen (told, free, below) in
       as_seen (λ x y. TakesToRead x p a y) told.pending (λ e polls ended. reading_polled w p i stood.laws stood.fits so.0.pending v a e polls ended so.0 so.1 so.2)
+
+  -- and where its party stands then
+  pub reading_there : IsToldToRead w p → is_marked w.state.turn ≡ false → how_many_read w < w.readers_limit → place_at v.behind.machine.lock.places p ≡ Place.Reading
+  reading_there told free below =
+      let F : World → Type 0 = λ x. IsToldToRead x p × (is_marked x.state.turn ≡ false) × (how_many_read x < x.readers_limit) in
+      let so : F (shown w) = subst F stood.seen (told, free, below) in
+      as_seen (λ x y. place_at y.behind.machine.lock.places p ≡ Place.Reading) told.pending (λ e polls ended. (reading_took w p i stood.laws stood.fits so.0.pending v a e polls ended so.0 so.1 so.2).1)
+
+  pub full_seen_polled : IsToldToRead w p → is_marked w.state.turn ≡ false → w.readers_limit ≤ how_many_read w → a ≡ refused Refusal.Readers
+  full_seen_polled told free full =
+      let F : World → Type 0 = λ x. IsToldToRead x p × (is_marked x.state.turn ≡ false) × (x.readers_limit ≤ how_many_read x) in
+      let so : F (shown w) = subst F stood.seen (told, free, full) in
+      as_seen (λ x y. a ≡ refused Refusal.Readers) told.pending (λ e polls ended. reading_full w p i stood.laws stood.fits so.0.pending v a e polls ended so.0 so.1 so.2)
 
   pub writing_seen_polled : IsSoloToWrite w p → how_many_read w ≡ 0 → TakesToWrite w p a v
   writing_seen_polled solo free =

@@ -6,7 +6,7 @@ use Rattle.world_base.proofs.of_table.Bounds.{first_marked}
 use Rattle.world_rwlock.proofs.laws.WorldLaws.{keeps_promise}
 
 -- the first entry of a list with marked ones, whose party is pending or was
-some_marked : (w : World) → IsAwake w → (list : List (Entry ℕ)) → ((p : ℕ) → entries_of p list ≤ entries_in w p) → IsMarkedFirst list → 0 < marked_count list → SomeMarked (standing_of w) list
+pub some_marked : (w : World) → IsAwake w → (list : List (Entry ℕ)) → ((p : ℕ) → entries_of p list ≤ entries_in w p) → IsMarkedFirst list → 0 < marked_count list → SomeMarked (standing_of w) list
 some_marked w awake list within in_order some =
     let found = first_marked list in_order some in
     (found.0, found.1, awake.pending found.0 (omega (arith, within found.0, found.2)))

@@ -34,7 +34,7 @@ turn_by_put : (o : Option ℕ) (t u : Table Guarded) (p : ℕ) (what : What) (a 
 turn_by_put (Some v) t u p what a d = inl (ap (λ x. x.lock.turn) d.1)
 turn_by_put None t u p what a d = on_turn _ _ p _ d.acts.found t.machine.lock.turn u.machine.lock.turn d.acts.turn
 
-acts_or_not : (o : Option Within) (again : Bool) (t : Table Guarded) (m : Move) (a : Answer) (u : Table Guarded) → Does knows Rest.Holding Moves o again t m a u → IsMoved m.party t u
+pub acts_or_not : (o : Option Within) (again : Bool) (t : Table Guarded) (m : Move) (a : Answer) (u : Table Guarded) → Does knows Rest.Holding Moves o again t m a u → IsMoved m.party t u
 acts_or_not None again t m a u d = inl (ap (λ x. x.machine.lock.turn) d.1)
 acts_or_not (Some w) true t m a u d = inl (ap (λ x. x.machine.lock.turn) d.1)
 acts_or_not (Some w) false t m a u d = turn_by_put (put_in m.what) t u m.party m.what a d.acts

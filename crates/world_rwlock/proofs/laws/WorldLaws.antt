@@ -12,13 +12,13 @@ use Rattle.world_rwlock.proofs.whole.Promises.{unstarved_at_end, patient_at_end}
 use Rattle.world_rwlock.proofs.whole.Newcomers.{newcomer, first_patient}
 use Rattle.world_rwlock.proofs.whole.Takers.{only_told}
 use Rattle.world_rwlock.proofs.whole.Ring.{tells_nobody_at_end}
-use Rattle.world_rwlock.proofs.bound.AloneSeen.{turn_seen_polled, told_seen_polled, reading_seen_polled, writing_seen_polled}
+use Rattle.world_rwlock.proofs.bound.AloneSeen.{turn_seen_polled, told_seen_polled, reading_seen_polled, full_seen_polled, writing_seen_polled}
 use Rattle.world_rwlock.proofs.whole.Counted.{held}
 
 pub sound_now : (w : World) → Stands w → IsSound w
 sound_now w s = subst IsSound (sym s.seen) (sound w.behind s.laws s.fits)
 
-awake_now : (w : World) → Stands w → is_at_rest w ≡ true → IsAwake w
+pub awake_now : (w : World) → Stands w → is_at_rest w ≡ true → IsAwake w
 awake_now w s = let A : World → Type 0 = λ x. is_at_rest x ≡ true → IsAwake x in
     subst A (sym s.seen) (awake w.behind s.laws s.fits)
 
@@ -51,6 +51,7 @@ keeps_promise known w p c i n a v runs ended =
       turn = λ is. turn_seen_polled known w p i n a v stood (subst R is runs) ended;
       told = λ is. told_seen_polled known w p i n a v stood (subst R is runs) ended;
       reading = λ is. reading_seen_polled known w p i n a v stood (subst R is runs) ended;
+      full = λ is. full_seen_polled known w p i n a v stood (subst R is runs) ended;
       writing = λ is. writing_seen_polled known w p i n a v stood (subst R is runs) ended;
       unstarved = λ patient none. unstarved_at_end known w p c i n a v stood patient none runs ended;
       patient = λ patient none. patient_at_end known w p c i n a v stood patient none runs ended;

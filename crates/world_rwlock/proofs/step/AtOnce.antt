@@ -1,5 +1,6 @@
 -- Tries and first polls are answered at once.
 use Rattle.world_rwlock.proofs.Prelude.{◌≡◌, ℕ, ◌<◌, ◌==◌, ◌↔◌, if◌then◌else◌, Bool, true, false, Option, Some, None, refl, arith, ap, ◌∙◌, nat_tests, false≢true, Answer, Call, Value, Inputs, What, Begin, Refusal, Kind, Rest, Stage, Within, Right, read, upgradable, write, put_in, Standing, outside, inside, TurnCourse, is_out, holds, LockCall, TurnStep as Step, End, Mutex, turn_at, holder_of, holders, starved, out_free, Purpose, OnTurn, Found, Action, Wanted, Place, next_of, place_after, first_poll, in_no_writer, in_no_readers, RwLock, Finds, readers, marked, is_first_poll, is_try_for_turn, knows_at, answer_by, right_for, sought_at, Course, tries, course_of, is_on_course, is_inside, goes_with, is_reading, is_upgrade, verdict, standing_at, call_at, polls_again}
+use Rattle.world_rwlock.proofs.Prelude.{◌≤◌, refused}
 use Rattle.world_mutex.proofs.of_machine.callers.Holders as sees
 use Rattle.world_rwlock.proofs.of_machine.stages.Leads.{Led}
 use Rattle.world_rwlock.proofs.table.Begun.{Turn, turn}
@@ -208,6 +209,13 @@ first_readies memory l v Found.Done e a b = refl
 first_readies memory l v Found.Writer e a b = absurd (omega (arith, a, e))
 first_readies memory l v Found.Full e a b = absurd (omega (arith, b, e.1))
 first_readies memory l v _ e a b = absurd e
+
+-- or is refused at the readers' limit
+pub first_refused : (memory : Bool) (l : RwLock) (v : ℕ) (f : Found) → Finds memory Action.Read f l → marked l ≡ 0 → l.limit ≤ readers l → answer_by v (next_of (Place.EnterRead false) f) ≡ refused Refusal.Readers
+first_refused memory l v Found.Full e a b = refl
+first_refused memory l v Found.Done e a b = absurd (omega (arith, b, e.1))
+first_refused memory l v Found.Writer e a b = absurd (omega (arith, a, e))
+first_refused memory l v _ e a b = absurd e
 
 -- the turn's party finds no mark
 pub try_writes : (memory : Bool) (l : RwLock) (v : ℕ) (f : Found) → marked l ≡ 0 → Finds memory Action.TryWrite f l → (answer_by v (next_of Place.TryWrite f) ≡ Answer.Granted (Value v)) ↔ (readers l ≡ 0)

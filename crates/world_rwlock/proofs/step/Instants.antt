@@ -1,5 +1,6 @@
 -- Each move is answered at once where it should be, as callers see it.
 use Rattle.world_rwlock.proofs.Prelude.{◌≡◌, ℕ, ◌<◌, ◌==◌, ◌&&◌, ◌↔◌, if◌then◌else◌, Bool, true, false, List, length, nat_lt, Option, Some, None, refl, arith, ap, sym, ◌∙◌, subst, get_or-set_same, set, nat_tests, false≢true, eqb-true, eq-eqb, ltb-true, lt-ltb, Answer, Call, Value, Inputs, Move, What, Begin, Rest, Outside, Forgotten, Within, Right, read, upgradable, write, how_many, Standing, outside, inside, inputs_of, call_in, some_eq, some_none, TurnCourse, listed, turn_at, holder_of, holders, starved, waiting_listed, Found, Place, Purpose, action_of, next_of, place_after, only_turns, fits_turn, SameRoles, place_at, Finds, readers, marked, OnTurn, World, standing_of, sought_by, is_upgrader, how_many_read, is_marked, is_nobody, is_turn_free, entries_in, knows, call_of, may_read, granted_if, is_try_for_turn, is_first_poll, AnswersAtOnce, stage_at, stage_after, stands_as, decided_after, decision_seen, sought_at, Table, Guarded, answer_by, Share, passing, upgrading, waiting, writing, turn_as, share_of, turn_by, is_reading, verdict, standing_at, view_of, Entry, entries_of, AsksIn, TellsOnRelease, is_outside, is_on, zero, suc, [], ◌∷◌, notified, is_for_turn, is_starved, HasTurn, ◌⊎◌, inl, inr, OnNoWriter, OnNoReaders, LeavesLists, starved_of, Action, LockCall}
+use Rattle.world_rwlock.proofs.Prelude.{◌≤◌, refused, Refusal}
 use Rattle.std.specs.Prelude.{not}
 use Rattle.world_base.specs.Standings.{decision}
 use Rattle.world_mutex.proofs.of_machine.callers.Holders as sees
@@ -11,7 +12,7 @@ use Rattle.world_rwlock.proofs.step.Rows.{verdict_then, turn_row}
 use Rattle.world_rwlock.proofs.laws.Sound.{none_marked, nobody_holds, bit_seen}
 use Rattle.world_rwlock.proofs.step.Acting.{Acting, fit, says}
 use Rattle.world_rwlock.proofs.step.Idle.{Laws, stood, sought_is}
-use Rattle.world_rwlock.proofs.step.AtOnce.{waits_for_turn, is_try_turn, Lists, Firsts, firsts, try_reads, first_reads, first_readies, try_upgrades, try_adds, added, try_writes, try_written, turn_tries, try_open, turn_enters}
+use Rattle.world_rwlock.proofs.step.AtOnce.{waits_for_turn, is_try_turn, Lists, Firsts, firsts, try_reads, first_reads, first_readies, first_refused, try_upgrades, try_adds, added, try_writes, try_written, turn_tries, try_open, turn_enters}
 use Rattle.world_rwlock.proofs.table.Views as view
 use Rattle.world_rwlock.proofs.step.Asked as asked
 use Rattle.world_rwlock.proofs.step.Refusing as refusing
@@ -156,6 +157,9 @@ module _ (t u : Table Guarded) (m : Move) (a : Answer) where
   at_enter_ready : Acted t u m a (Place.EnterRead false) → may_read old ≡ true → a ≡ Answer.Ready (Value old.state.value)
   at_enter_ready y h = let b = enters_says y.laws h in y.answer ∙ first_readies memory t.machine.lock t.machine.value y.found y.finds b.0 b.1
 
+  at_enter_full : Acted t u m a (Place.EnterRead false) → is_marked old.state.turn ≡ false → t.machine.lock.limit ≤ how_many_read old → a ≡ refused Refusal.Readers
+  at_enter_full y clear full = y.answer ∙ first_refused memory t.machine.lock t.machine.value y.found y.finds (bit_seen t.machine.lock t.stages t.opening t.machine.value y.laws.lock y.laws.fits clear) (omega (arith, reading, full))
+
   at_added : Acted t u m a (Place.Add true) → decision a (standing_of new p) ≡ Some (granted_if (nat_lt (how_many_read old) old.readers_limit) old)
   at_added y =
       y.decides ∙ added memory t.machine.lock t.machine.value (turn_at u.machine.lock.turn.courses p) y.found y.finds (nat_lt (how_many_read old) t.machine.lock.limit)
@@ -254,6 +258,7 @@ acted_at_once t u m a from y b for_turn to_read l abandons refuses gives_up =
       try_write_decided = λ e h. at_try_written t u m a (subst P (b.try_write e.0 e.1 e.2 e.4) y);
       first_read = λ e. at_enter_read t u m a (subst P (b.first_read e) y);
       first_read_ready = λ e. at_enter_ready t u m a (subst P (b.first_read e) y);
+      first_read_full = λ e. at_enter_full t u m a (subst P (b.first_read e) y);
       first_upgradable = λ e. at_enter_turn t u m a Purpose.UpgradableRead (subst P (b.first_upgradable e) y);
       first_write = λ e n. at_enter_turn t u m a Purpose.Write (subst P (b.first_write e n) y);
       try_read_looks = λ i e h. looks_at t u m from (inl (b.try_read i e)) l;
@@ -387,6 +392,7 @@ still_at_once t m a after k at holds same_turn same_readers same_owing =
       try_upgradable_decided = λ e b. absurd (outside_apart s Rest.Holding e.0 None is e.1);
       try_write_decided = λ e b. absurd (outside_apart s Rest.Holding e.0 None is e.1);
       first_read_ready = λ e b. absurd (never_first read s (outside Rest.Holding) o m.what n is refl e);
+      first_read_full = λ e b full. absurd (never_first read s (outside Rest.Holding) o m.what n is refl e);
       first_read = λ e. absurd (never_first read s (outside Rest.Holding) o m.what n is refl e);
       first_upgradable = λ e. absurd (never_first upgradable s (outside Rest.Holding) o m.what n is refl e);
       first_write = λ e z. absurd (never_first write s (outside Rest.Holding) o m.what n is refl e);
@@ -453,6 +459,7 @@ impossible_at_once w m none =
       try_upgradable_decided = λ e h. absurd (cc);
       try_write_decided = λ e h. absurd (cc);
       first_read_ready = λ e b. absurd (never_read s o m.what n e none);
+      first_read_full = λ e b full. absurd (never_read s o m.what n e none);
       first_read = λ e. absurd (never_read s o m.what n e none);
       first_upgradable = λ e. absurd (never_upgradable s o m.what n e none);
       first_write = λ e z. absurd (never_write s o m.what n e none);

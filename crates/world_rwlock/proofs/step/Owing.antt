@@ -1,5 +1,5 @@
 -- Whoever gives something back goes on until it has told of that.
-use Rattle.world_rwlock.proofs.Prelude.{◌≡◌, ℕ, ◌<◌, ◌≤◌, ◌==◌, ◌⊎◌, inl, inr, Bool, true, false, Option, Some, None, List, length, refl, arith, ap, sym, ◌∙◌, subst, get_or, get_or-set_same, get_or-set_other, set, sum_by, sum_by-set, get_or-le-sum_by, false≢true, true≢false, eqb-true, has_turn, notified, Answer, Call, Move, What, Begin, Within, is_drop, inputs_of, is_possible, Deed, nothing, changes, does, some_eq, none_some, stage_at, Table, End, TurnStep, Ending, Found, Place, IsLegal, TurnCourse, waiting_there, taking, has_lock, holds, decision, is_taking, is_cancelling, cancelling, Mutex, turn_at, holder_of, out_free, waiting_free, releasing_free, OnNoWriter, OnNoReaders, action_of, next_of, place_after, drop_from, OnTurn, Finds, readers, RwLock, place_at, fits_turn, reads as reads_there, Guarded, answer_by, place_for, TellsOnRelease, ListName, for_the_turn, for_no_readers, for_no_writer, list_of, is_marked, World, how_many_read, HasTurn, nothing_owed, owes_in, has_to_tell, Share, passing, upgrading, waiting, writing, turn_as, turn_by, share_of, owing_at, view_of, knows_at}
+use Rattle.world_rwlock.proofs.Prelude.{◌≡◌, ℕ, ◌<◌, ◌≤◌, ◌==◌, ◌⊎◌, inl, inr, Bool, true, false, Option, Some, None, List, length, refl, arith, ap, sym, ◌∙◌, subst, get_or, get_or-set_same, get_or-set_other, set, sum_by, sum_by-set, get_or-le-sum_by, false≢true, true≢false, eqb-true, has_turn, notified, Answer, Call, Move, What, Begin, Go, Within, is_drop, inputs_of, is_possible, Deed, nothing, changes, does, some_eq, none_some, stage_at, Table, End, TurnStep, Ending, Found, Place, IsLegal, TurnCourse, waiting_there, taking, has_lock, holds, decision, is_taking, is_holding, is_cancelling, cancelling, Mutex, turn_at, holder_of, out_free, waiting_free, releasing_free, holding_holds, OnNoWriter, OnNoReaders, action_of, next_of, place_after, drop_from, OnTurn, Finds, readers, RwLock, place_at, fits_turn, reads as reads_there, Guarded, answer_by, place_for, TellsOnRelease, ListName, for_the_turn, for_no_readers, for_no_writer, list_of, is_marked, World, how_many_read, HasTurn, nothing_owed, owes_in, has_to_tell, Share, passing, upgrading, waiting, writing, turn_as, turn_by, share_of, owing_at, view_of, knows_at}
 use Rattle.world_mutex.specs.machine.Deeds as mutex
 use Rattle.world_mutex.proofs.of_machine.callers.Holders as sees
 use Rattle.world_rwlock.specs.State.{Turn, reads}
@@ -8,6 +8,7 @@ use Rattle.world_rwlock.proofs.table.Stages.{strays_not}
 use Rattle.world_rwlock.proofs.step.Rows.{IsLast, row, turn_row}
 use Rattle.world_rwlock.proofs.step.Acting.{Acting, fit, says}
 use Rattle.world_rwlock.proofs.step.Owed.{Owes, not_owed, owes_seen, owes_inside}
+use Rattle.world_rwlock.proofs.step.Owes.{is_bit, comes_to_turn, comes_to_bit, begins_unowed}
 use Rattle.world_rwlock.proofs.step.Refusing.{going_here, has_by}
 use Rattle.world_rwlock.proofs.table.Views as view
 use Rattle.world_rwlock.proofs.step.Owns as owns
@@ -23,12 +24,6 @@ share_has q p writing h = h
 holder_so : (h : Option ℕ) (xs : List Place) (p : ℕ) → HasTurn (turn_by h xs) p → h ≡ Some p
 holder_so None xs p e = absurd e
 holder_so (Some q) xs p e = ap Some (share_has q p (share_of (place_at xs q)) e)
-
-abbrev is_bit : Share → Bool
-is_bit passing = false
-is_bit upgrading = false
-is_bit waiting = true
-is_bit writing = true
 
 bit_as : (p : ℕ) (s : Share) → is_marked (turn_as p s) ≡ is_bit s
 bit_as p passing = refl
@@ -329,6 +324,48 @@ module _ (t u : Table Guarded) (m : Move) (a : Answer) (w : Within) (k : Acting 
         sum : readers u.machine.lock ≡ sum_by reads_there (set t.machine.lock.places p to)
         sum = ap (sum_by reads_there) (k.acts.places ∙ ap (λ z. set t.machine.lock.places p (place_after z)) k.acts.next_is)
 
+  -- nobody comes to have to tell but who has given that up
+  owes_to : (list : ListName) → has_to_tell list new p ≡ true → Owes list to
+  owes_to list has = ap (λ z. owes_in list (owing_at z)) (sym lands) ∙ (sym (owes_seen u list p) ∙ has)
+
+  released : (y : Place) (f : Found) (e : Ending) → y ≡ Place.ReleaseTurn e → f ≡ Found.Turn TurnStep.More → fits_turn y c ≡ true → On y f → HasTurn old.state.turn p × (HasTurn new.state.turn p → ⊥)
+  released y f e at found link o =
+      let Q : Place → Type 0 = λ z. fits_turn z c ≡ true in
+      let holds_then : is_holding c ≡ true = subst Q at link in
+      let held : holder_of l ≡ Some p = sees.holds_it l.courses p k.old.lock.turn.one_holder (holding_holds c holds_then) in
+      let P : Place → Found → Type 0 = λ z g. On z g in
+      let begun : On (Place.ReleaseTurn e) (Found.Turn TurnStep.More) = subst (P (Place.ReleaseTurn e)) found (subst (λ z. P z f) at o) in
+      let free : holds (turn_at n.courses p) ≡ 0 = releasing_free (turn_at n.courses p) begun.leads in (
+        owns.has_as old.state.turn p (share_of (place_at t.machine.lock.places p)) (turn_of t p held),
+        λ has. (
+            let some : holds (turn_at n.courses p) ≡ 1 = sees.is_held_by n.courses p (holder_so (holder_of n) u.machine.lock.places p has) in
+            omega (arith, free, some)),
+      )
+
+  only_turn : has_to_tell for_the_turn old p ≡ false → has_to_tell for_the_turn new p ≡ true → HasTurn old.state.turn p × (HasTurn new.state.turn p → ⊥)
+  only_turn had has = let by = comes_to_turn from fnd (owes_to for_the_turn has) in released from fnd by.0 by.1 by.2 (fit t u m a w k) k.acts.turn
+
+  -- who had to tell readers where it acts had to before
+  owed_before : Owes for_no_writer from → Owes for_no_writer x
+  owed_before o = by_what m.what k.starts where
+    by_what : (what : What) → place_for what x ≡ Some from → Owes for_no_writer x
+    by_what (Begin c i) e = absurd (false≢true (sym (begins_unowed c x from e) ∙ o))
+    by_what (Go i) e = ap (λ z. owes_in for_no_writer (owing_at z)) (some_eq e) ∙ o
+
+  only_bit : has_to_tell for_no_writer old p ≡ false → has_to_tell for_no_writer new p ≡ true → HasTurn old.state.turn p × (is_marked old.state.turn ≡ true) × (is_marked new.state.turn ≡ false)
+  only_bit had has = elim (comes_to_bit from fnd (owes_to for_no_writer has)) as (λ _. HasTurn old.state.turn p × (is_marked old.state.turn ≡ true) × (is_marked new.state.turn ≡ false)) [
+    | inl owed ↦ absurd (false≢true (sym had ∙ (owes_seen t for_no_writer p ∙ owed_before owed)))
+    | inr clear ↦ (
+        let before : old.state.turn ≡ turn_as p (share_of x) = owns.turn_at_place t.machine.lock t.stages t.opening t.machine.value k.old.lock k.old.fits p x refl (omega (arith, clear.2, k.moves.same.turning, k.moves.same.marking)) in
+        let has_it : HasTurn old.state.turn p = owns.has_as old.state.turn p (share_of x) before in
+        let held = holder_so (holder_of l) t.machine.lock.places p has_it in
+        let still : holder_of n ≡ Some p = ap holder_of (marks_still memory starving p from fnd l n clear.0 k.acts.turn) ∙ held in (
+          has_it,
+          ap is_marked before ∙ (bit_as p (share_of x) ∙ (sym (ap is_bit k.moves.share) ∙ clear.0)),
+          ap is_marked (turn_of u p still) ∙ (bit_as p (share_of (place_at u.machine.lock.places p)) ∙ (ap (λ z. is_bit (share_of z)) lands ∙ clear.1)),
+        ))
+  ]
+
   -- ---- who has to tell
 
   abbrev Told : ListName → Place → Found → Type 0
@@ -394,6 +431,8 @@ module _ (t u : Table Guarded) (m : Move) (a : Answer) (w : Within) (k : Acting 
     turn = turn;
     bit = bit;
     last_reader = last_reader;
+    only_turn = only_turn;
+    only_bit = only_bit;
     only_last = only_last;
     tells = λ list h possible. elim (told_now list h) as (λ _. (list_of new list ≡ notified (list_of old list) 1) ⊎ ((a ≡ Answer.Stepped) × (has_to_tell list new p ≡ true))) [ inl told ↦ inl told | inr later ↦ inr (told_by list later) ];
     tells_at_once = λ h possible. turn_now from fnd (owed_here for_the_turn (sym (owes_seen t for_the_turn p) ∙ h)) (told_now for_the_turn h) (fit t u m a w k) k.acts.turn;
@@ -408,6 +447,8 @@ keeps_owing w m a v same owing drops quiet = record {
   turn = λ has lost. absurd (lost (let T : Turn → Type 0 = λ z. HasTurn z m.party in subst T (sym same) has));
   bit = λ has was now. absurd (cc (was, now, same));
   last_reader = λ r none why. absurd (drops r none);
+  only_turn = λ had has. absurd (false≢true (sym had ∙ (sym (ap (λ os. owes_in for_the_turn (get_or os m.party nothing_owed)) owing) ∙ has)));
+  only_bit = λ had has. absurd (false≢true (sym had ∙ (sym (ap (λ os. owes_in for_no_writer (get_or os m.party nothing_owed)) owing) ∙ has)));
   only_last = λ had has. absurd (false≢true (sym had ∙ (sym (ap (λ os. owes_in for_no_readers (get_or os m.party nothing_owed)) owing) ∙ has)));
   tells = λ list h possible. absurd (quiet list h possible);
   tells_at_once = λ h possible. absurd (quiet for_the_turn h possible);

@@ -9,7 +9,7 @@ left_by a t p = left_of a (steps_left t.machine.lock p)
 
 -- ---- no place has no steps left
 
-some_left : (x : Place) (here there : Bool) (turn : ℕ) → 0 < turn → 0 < left x here there turn
+pub some_left : (x : Place) (here there : Bool) (turn : ℕ) → 0 < turn → 0 < left x here there turn
 some_left (LookNoWriter told) here there turn h = grind arith
 some_left AskNoWriter here there turn h = grind arith
 some_left (TakeTurn p) here there turn h = omega (arith, h)

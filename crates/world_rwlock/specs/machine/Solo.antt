@@ -106,6 +106,8 @@ pub record MeetsReaders (p : ℕ) (v : RwLock) (e : End) : Type 0 where
 pub record SoloPolls (v : RwLock) : Type 0 where
   -- Where the bit is clear and readers are below their limit, such a poll of a notified reader reads.
   pub reads : marked v ≡ 0 → readers v < v.limit → (memory : Bool) (p : ℕ) (e : End) (new : RwLock) → IsCalledToRead v p → PollsAlone memory p e new v → Took p Reading e new
+  -- Where as many read as may, it is refused for that.
+  pub reads_full : marked v ≡ 0 → v.limit ≤ readers v → (memory : Bool) (p : ℕ) (e : End) (new : RwLock) → IsCalledToRead v p → PollsAlone memory p e new v → e ≡ Refused Readers
   -- Where no reader is left, such a poll of a party that looks for them writes, notified or not, in the list or not.
   pub writes : readers v ≡ 0 → (memory : Bool) (p : ℕ) (e : End) (new : RwLock) → looks_for_readers (place_at v.places p) ≡ true → PollsAlone memory p e new v → Took p Writing e new
   -- Where nobody has the turn, such a poll of a party that was notified for it takes it, gives way, or meets the readers' limit, if it finds memory,

@@ -1,32 +1,12 @@
 -- Who has heard a notification and hasn't used it, and what a step leaves before a starved party, as those count it who build on a mutex.
 use Rattle.world_mutex.proofs.Prelude.{◌≡◌, ◌≢◌, ℕ, zero, suc, ◌+◌, ◌-◌, ◌<◌, ◌≤◌, ◌⊎◌, inl, inr, true, List, [], ◌∷◌, length, get_or, Some, refl, ap, arith, sum_by, sum_by-cons, entries_of, LockCall, Step, Course, out, holding, waiting, Mutex, course_at}
 use Rattle.world_base.specs.Overtaking.{before}
+use Rattle.world_base.proofs.Draining.{moved_sum}
 use Rattle.world_mutex.specs.machine.Conduct.{ServesInTurn}
 use Rattle.world_mutex.specs.machine.Course.{heard, holds, is_resting}
 use Rattle.world_mutex.specs.machine.Mutex.{IsStarved, IsMutex, holder_of}
 use Rattle.world_mutex.specs.machine.Steps.{LockBegins, LockGoesOn}
 use Rattle.world_mutex.proofs.of_machine.callers.Holders as sees
-
--- ---- sums over lists that differ at one place
-
-same_sum : {A : Type 0} (f : A → ℕ) (d : A) (xs ys : List A) → length ys ≡ length xs → ((q : ℕ) → get_or ys q d ≡ get_or xs q d) → sum_by f ys ≡ sum_by f xs
-same_sum f d [] [] e same = refl
-same_sum f d [] (y ∷ ys) e same = absurd (omega (arith, e))
-same_sum f d (x ∷ xs) [] e same = absurd (omega (arith, e))
-same_sum f d (x ∷ xs) (y ∷ ys) e same =
-    let rest : sum_by f ys ≡ sum_by f xs = same_sum f d xs ys (omega (arith, e)) (λ q. same (suc q)) in
-    omega (arith, rest, ap f (same 0), sum_by-cons f x xs, sum_by-cons f y ys)
-
-moved_sum : {A : Type 0} (f : A → ℕ) (d : A) (xs ys : List A) (p : ℕ) → length ys ≡ length xs → ((q : ℕ) → q ≢ p → get_or ys q d ≡ get_or xs q d) → sum_by f ys + f (get_or xs p d) ≡ sum_by f xs + f (get_or ys p d)
-moved_sum f d [] [] p e same = refl
-moved_sum f d [] (y ∷ ys) p e same = absurd (omega (arith, e))
-moved_sum f d (x ∷ xs) [] p e same = absurd (omega (arith, e))
-moved_sum f d (x ∷ xs) (y ∷ ys) zero e same =
-    let rest : sum_by f ys ≡ sum_by f xs = same_sum f d xs ys (omega (arith, e)) (λ q. same (suc q) (λ h. absurd (omega (arith, h)))) in
-    omega (arith, rest, sum_by-cons f x xs, sum_by-cons f y ys)
-moved_sum f d (x ∷ xs) (y ∷ ys) (suc p) e same =
-    let rest : sum_by f ys + f (get_or xs p d) ≡ sum_by f xs + f (get_or ys p d) = moved_sum f d xs ys p (omega (arith, e)) (λ q apart. same (suc q) (λ h. apart (omega (arith, h)))) in
-    omega (arith, rest, ap f (same 0 (λ h. absurd (omega (arith, h)))), sum_by-cons f x xs, sum_by-cons f y ys)
 
 -- ---- a step
 

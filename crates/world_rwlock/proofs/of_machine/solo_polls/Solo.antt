@@ -1,5 +1,7 @@
 -- Where a poll leads that is carried out alone while the lock is free for it.
 use Rattle.world_rwlock.proofs.Prelude.{◌≡◌, ℕ, ◌+◌, ◌<◌, ◌⊎◌, inl, inr, zero, suc, Bool, true, List, [], ◌∷◌, length, get_or, refl, ap, arith, subst, ◌∙◌, get_or-set_same, length-set, set, sum_by, sum_by-set, Entry, is_marked_at, is_party, TurnCourse, listed, turn_at, out_unlisted, holding_unlisted, first_marked, Place, Out, Made, Reading, Upgradable, Writing, EnterRead, AskNoWriter, PassOn, WaitTurn, AwaitNoReaders, LookUnlisted, LeaveNoReaders, Action, Found, Done, Writer, Full, NoneLeft, SomeLeft, Yes, No, End, Got, Next, next_of, place_after, go_to, ends, reads, marks, in_no_writer, in_no_readers, fits_turn, is_resting, OnNoWriter, RwLock, place_at, Acts, Finds, IsRwLock, readers, marked, GoesOnAlone, last, step, PollsAlone, at_once, begun, waits_to_read, looks_for_readers, waits_for_turn, Took, SoloPolls}
+use Rattle.lock_program.specs.declared.refusal.Refusal.TheVariants.{Readers}
+use Rattle.world_rwlock.proofs.Prelude.{◌≤◌, Refused, Wanted}
 use Rattle.world_rwlock.specs.machine.Solo.{waits_to_write}
 use Rattle.world_rwlock.proofs.of_machine.solo_polls.SoloTurns.{either, must_take, must_give_way}
 
@@ -73,6 +75,13 @@ entered memory v Writer e free below = absurd (omega arith)
 entered memory v Full e free below = absurd (omega arith)
 entered memory v _ e free below = absurd e
 
+-- and where as many read as may, one is refused
+met : (memory : Bool) (v : RwLock) (f : Found) → Finds memory Action.Read f v → marked v ≡ 0 → v.limit ≤ readers v → next_of (EnterRead true) f ≡ go_to (Place.RefuseNotify Readers)
+met memory v Full e free full = refl
+met memory v Done e free full = absurd (omega (arith, e.1, full))
+met memory v Writer e free full = absurd (omega (arith, e, free))
+met memory v _ e free full = absurd e
+
 -- where no reader is left, none is found
 none_left : (memory : Bool) (v : RwLock) (upgrade : Bool) (f : Found) → Finds memory Action.Load f v → readers v ≡ 0 → next_of (AwaitNoReaders upgrade) f ≡ go_to LeaveNoReaders
 none_left memory v upgrade NoneLeft e none = refl
@@ -137,6 +146,23 @@ module _ (memory : Bool) (p : ℕ) (e : End) (new : RwLock) where
       let done = along memory p v e new (EnterRead true) two.mid three (ends Got Reading) (three.acts.next_is ∙ entered memory two.mid three.acts.found three.acts.finds free_now below_now) in
       took memory p v e new Reading three.mid done.0 done.1
 
+  reader_refused : (v : RwLock) → marked v ≡ 0 → v.limit ≤ readers v → waits_to_read (place_at v.places p) ≡ true → is_marked_at (is_party p) v.no_writer ≡ true → PollsAlone memory p e new v → e ≡ Refused Readers
+  reader_refused v free full waits told polls =
+      let here : place_at v.places p ≡ AskNoWriter = reader_at (place_at v.places p) waits in
+      let one = unfolds memory p v e new AskNoWriter v (at_start memory p v AskNoWriter (known_reader v.places p waits) here) (reader_goes_on v here polls) in
+      let passed = along memory p v e new AskNoWriter v one (go_to PassOn) (one.acts.next_is ∙ asked p v.no_writer one.mid.no_writer one.acts.found one.acts.no_writer told) in
+      let two = unfolds memory p v e new PassOn one.mid passed.1 passed.0 in
+      let entering = along memory p v e new PassOn one.mid two (go_to (EnterRead true)) two.acts.next_is in
+      let three = unfolds memory p v e new (EnterRead true) two.mid entering.1 entering.0 in
+      let was_marked : marks (place_at v.places p) ≡ 0 = ap marks here in
+      let was_reading : reads (place_at v.places p) ≡ 0 = ap reads here in
+      let free_now : marked two.mid ≡ 0 = omega (arith, entering.1.sums marks) in
+      let full_now : two.mid.limit ≤ readers two.mid = omega (arith, entering.1.sums reads, entering.1.limit, full) in
+      let refusing = along memory p v e new (EnterRead true) two.mid three (go_to (Place.RefuseNotify Readers)) (three.acts.next_is ∙ met memory two.mid three.acts.found three.acts.finds free_now full_now) in
+      let four = unfolds memory p v e new (Place.RefuseNotify Readers) three.mid refusing.1 refusing.0 in
+      let done = along memory p v e new (Place.RefuseNotify Readers) three.mid four (ends (Refused Readers) (Made Wanted.Read)) four.acts.next_is in
+      done.0.0
+
   listed_polls : (v : RwLock) (upgrade : Bool) → readers v ≡ 0 → p < length v.places → place_at v.places p ≡ AwaitNoReaders upgrade → PollsAlone memory p e new v → Took p Writing e new
   listed_polls v upgrade none known here polls =
       let one = unfolds memory p v e new (AwaitNoReaders upgrade) v (at_start memory p v (AwaitNoReaders upgrade) known here) (writer_goes_on v upgrade here polls) in
@@ -200,6 +226,7 @@ pending_t _ t h fits there = absurd (cc)
 pub solo_polls : (v : RwLock) → IsRwLock v → SoloPolls v
 solo_polls v laws = record {
   reads = λ free below memory p e new called polls. reader_polls memory p e new v free below called.0 called.1 polls;
+  reads_full = λ free full memory p e new called polls. reader_refused memory p e new v free full called.0 called.1 polls;
   writes = λ none memory p e new looks polls. writer_polls memory p e new v none looks polls;
   takes_turn_or_gives_way = λ free p e new called polls. either true p e new v laws free called refl polls;
   takes_turn = λ free memory p e new called enough why polls. must_take memory p e new v laws free called enough why polls;
