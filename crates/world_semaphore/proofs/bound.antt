@@ -1,3 +1,4 @@
 -- Solo polls in turn.
 pub mod Bound
 pub mod Ending
+pub mod Drains

@@ -1,5 +1,5 @@
 -- How often permits that are available may be passed over: whole polls of notified parties, one after the other, each carried out while the others stand still.
-use Rattle.std.specs.Prelude.{◌≡◌, ℕ, ◌<◌, ◌≤◌, ◌⊎◌, true, false, length}
+use Rattle.std.specs.Prelude.{◌≡◌, ℕ, ◌+◌, ◌<◌, ◌≤◌, ◌⊎◌, true, false, length}
 use Rattle.lock_event.specs.Lists.{marked_count, is_marked_at}
 use Rattle.world_base.specs.queue.Parties.{is_party, entries_of}
 use Rattle.world_base.specs.declared.moves.Answer.{Answer}
@@ -14,7 +14,7 @@ use Rattle.world_base.specs.Standings.{outside}
 use Rattle.world_base.specs.Frame.{is_refusal}
 use Rattle.world_base.specs.Bounds as bounds
 use Rattle.world_semaphore.specs.machine.Seats.{guard_of}
-use Rattle.world_semaphore.specs.State.{World, share_at, has_permits, available, standing_of, size_of}
+use Rattle.world_semaphore.specs.State.{World, share_at, has_permits, held, available, standing_of, size_of}
 use Rattle.world_semaphore.specs.Legal.{wanted_in}
 use Rattle.world_semaphore.specs.AtOnce.{is_first_poll}
 use Rattle.world_semaphore.specs.Laws.{IsFreeAndWanted}
@@ -56,8 +56,24 @@ pub record PassesOver (w : World) (p : ℕ) (inputs : Inputs) (a : Answer) (v : 
   pub whole : IsWholeCall w p call.Poll inputs a v
   pub not_taken : has_permits v.state p ≡ false
 
+-- A whole poll of a party that was notified.
+pub record PollsTold (w : World) (p : ℕ) (inputs : Inputs) (a : Answer) (v : World) : Type 0 where
+  pub pending : standing_of w p ≡ outside Pending
+  pub marked : is_marked_at (is_party p) w.entries ≡ true
+  pub whole : IsWholeCall w p call.Poll inputs a v
+
+-- After so many of them as many permits more are had, and the list is as much shorter; and while there were more permits, and somebody waits, there is a next party to poll.
+pub record Drained (polls : ℕ) (w v : World) : Type 0 where
+  pub had : held v.state ≡ held w.state + polls
+  pub left : length v.entries + polls ≡ length w.entries
+  pub next : polls < available w.state → 0 < length v.entries → bounds.SomeMarked (standing_of v) v.entries
+
+-- Where everybody listed waits for one permit, as many polls of notified parties in turn as permits are available, and parties wait, give each its own.
+abbrev pub Drains : World → Type 0
+Drains w = ((p : ℕ) → 0 < entries_of p w.entries → size_of w p ≡ 1) → (polls : ℕ) (v : World) → polls ≤ available w.state → bounds.PolledInTurn PollsTold polls w v → Drained polls w v
+
 -- What holds at rest where as many permits are available as somebody listed waits for: some entry is marked, of a party that is pending; and fewer solo polls in turn pass the permits over than the list has entries, and one at most: the first or the second one takes.
 pub record IsBounded (w : World) : Type 0 where
   pub some_marked : bounds.SomeMarked (standing_of w) w.entries
   pub one_takes : bounds.OneTakes PassesOver (λ v. v.entries) w
-  pub second_takes : (n : ℕ) (v : World) → bounds.PassedOver PassesOver n w v → n ≤ 1
+  pub second_takes : (n : ℕ) (v : World) → bounds.PolledInTurn PassesOver n w v → n ≤ 1

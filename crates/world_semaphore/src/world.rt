@@ -12,7 +12,7 @@ ghost use Rattle.world_semaphore.specs.State.{new_world, available};
 ghost use Rattle.world_semaphore.specs.Steps.{Steps};
 ghost use Rattle.world_semaphore.specs.Laws.{IsSound, IsAwake, IsFreeAndWanted, is_at_rest};
 ghost use Rattle.world_semaphore.specs.Whole.{EndsSoon};
-ghost use Rattle.world_semaphore.specs.Bound.{IsBounded};
+ghost use Rattle.world_semaphore.specs.Bound.{IsBounded, Drains};
 ghost use Rattle.world_semaphore.specs.Limits.{IsRefusedFor};
 
 use crate::machine::{Semaphore, may_begin_with};
@@ -148,8 +148,12 @@ impl World {
     ///
     /// A solo poll is a [`AnyWorld::poll_whole`] of a pending party whose entry is marked and that finds
     /// memory. The clause `bounded` also says that some entry is marked, so that there is a party to poll.
+    ///
+    /// Where everybody listed waits for one permit, polls of notified parties in turn drain the list (`drains`): as many as permits
+    /// are available, and parties wait, give each its own.
     pub fn solo_polls(&self)
         ensures bounded { is_at_rest self.now ≡ true → IsFreeAndWanted self.now → IsBounded self.now }
+        ensures drains { is_at_rest self.now ≡ true → Drains self.now }
     {
         self.laws();
     }

@@ -1,6 +1,6 @@
 -- Permits that are available are taken by the first or the second solo poll.
 use Rattle.world_semaphore.proofs.Prelude.{◌≡◌, ℕ, zero, suc, ◌<◌, ◌≤◌, ◌⊎◌, inl, inr, Bool, true, false, List, [], ◌∷◌, length, is_some, refl, arith, ap, sym, ◌∙◌, nat_tests, Entry, is_marked, is_marked_at, marked_count, is_party, entries_of, Answer, Call, Inputs, marked_listed, some_listed, Share, World, available, has_permits, size_of, IsSound, IsAwake, IsFreeAndWanted, known_of, HandsOver, PassesOver, IsBounded}
-use Rattle.world_base.specs.Bounds.{PassedOver}
+use Rattle.world_base.specs.Bounds.{PolledInTurn}
 use Rattle.world_semaphore.proofs.whole.Promises.{keeps_promises}
 
 -- where some entry is marked, and no party has two, it is some party's
@@ -60,12 +60,12 @@ never_twice w p i a mid q j b v one two =
     let enough = (hands w p i a mid one).enough two.free q two.solo.marked in
     omega (arith, enough, short mid q j b v two)
 
-one_at_most : (n : ℕ) (w v : World) → PassedOver PassesOver n w v → n ≤ 1
+one_at_most : (n : ℕ) (w v : World) → PolledInTurn PassesOver n w v → n ≤ 1
 one_at_most zero w v t = omega arith
 one_at_most (suc zero) w v t = omega arith
 one_at_most (suc (suc n)) w v t = absurd (never_twice w t.0 t.1 t.2 t.3 t.5.0 t.5.1 t.5.2 t.5.3 t.4 t.5.4)
 
-fewer_than_listed : (n : ℕ) (w v : World) → IsFreeAndWanted w → PassedOver PassesOver n w v → n < length w.entries
+fewer_than_listed : (n : ℕ) (w v : World) → IsFreeAndWanted w → PolledInTurn PassesOver n w v → n < length w.entries
 fewer_than_listed zero w v free t = some_listed free.0 w.entries free.1
 fewer_than_listed (suc n) w v free t = let most = one_at_most (suc n) w v t in omega (arith, most, two w t.0 t.1 t.2 t.3 t.4)
 
