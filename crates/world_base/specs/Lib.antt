@@ -11,5 +11,6 @@ pub mod Bounds
 pub mod Overtaking
 pub mod Marks
 pub mod Ending
+pub mod Patience
 pub mod any_world
 pub mod table

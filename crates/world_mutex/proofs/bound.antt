@@ -7,4 +7,6 @@ pub mod Counted
 pub mod Behind
 pub mod InTurn
 pub mod Ending
+pub mod Waking
+pub mod Patience
 pub mod Overtaking

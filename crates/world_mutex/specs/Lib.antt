@@ -11,5 +11,6 @@ pub mod Runs
 pub mod Whole
 pub mod Bound
 pub mod Overtaking
+pub mod Waking
 pub mod Openings
 pub mod Lending

@@ -12,6 +12,7 @@ ghost use Rattle.world_mutex.specs.Steps.{Steps};
 ghost use Rattle.world_mutex.specs.Laws.{IsSound, IsAwake, IsFreeAndWanted, is_at_rest};
 ghost use Rattle.world_mutex.specs.Bound.{IsBounded};
 ghost use Rattle.world_mutex.specs.Overtaking.{IsOvertakenSeldom, IsOvertakenSeldomInSteps};
+ghost use Rattle.world_mutex.specs.Waking.{CountsWhoWakes, StarvesForCause};
 ghost use Rattle.world_mutex.specs.Whole.{EndsSoon};
 
 use crate::guarded::Guarded;
@@ -118,11 +119,15 @@ impl World {
 
     /// What always holds of a World, between any two moves: nobody has the lock beside its holder, each
     /// party has what its standing says, and at rest no notification is lost; and a call that is decided
-    /// ends within two further steps of its own, whatever others do meanwhile. It does nothing.
+    /// ends within two further steps of its own, whatever others do meanwhile. Who wakes another in a poll that isn't decided, and
+    /// isn't starved, is counted as starved by its next step, or refused; and who hasn't waited for too long, and meets nobody that is
+    /// starved where it steps, is neither. It does nothing.
     pub fn laws(&self)
         ensures sound { IsSound self.now }
         ensures awake { is_at_rest self.now ≡ true → IsAwake self.now }
         ensures ends_soon { EndsSoon self.now }
+        ensures counts_who_wakes { CountsWhoWakes self.now }
+        ensures starves_for_cause { StarvesForCause self.now }
     {
         self.table.laws();
         self.table.machine().laws();

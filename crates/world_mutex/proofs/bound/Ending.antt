@@ -41,6 +41,11 @@ same_place : (q p : ℕ) (stages : _) (l k : Lock) → q ≢ p → (k ≡ l) ⊎
 same_place q p stages l k apart (inl same) = ap (λ x. place_at x.places q) same
 same_place q p stages l k apart (inr d) = ap (λ ps. place_at ps q) d.acts.places ∙ get_or-set_other l.places p q _ Place.Out apart
 
+pub same_at : (w : World) (m : Move) (a : Answer) (v : World) → Steps w m a v → (q : ℕ) → q ≢ m.party → place_at v.behind.machine.lock.places q ≡ place_at w.behind.machine.lock.places q
+same_at w m a v s q apart =
+    let t = w.behind in
+    same_place q m.party t.stages t.machine.lock v.behind.machine.lock apart (acts_or_not (call_at (known_calls t.machine m.party) (stage_at t.stages m.party) m.what) (polls_again (stage_at t.stages m.party) m.what) t m a v.behind s.did.step)
+
 module _ (w : World) (m : Move) (a : Answer) (v : World) (s : Steps w m a v) (q : ℕ) where
   abbrev l : Lock
   l = w.behind.machine.lock
@@ -50,8 +55,7 @@ module _ (w : World) (m : Move) (a : Answer) (v : World) (s : Steps w m a v) (q 
 
   keeps : q ≢ m.party → is_decided (standing_of w q) ≡ true → steps_left_of v q ≤ steps_left_of w q
   keeps apart decided =
-      let t = w.behind in
-      let same = same_place q m.party t.stages l k apart (acts_or_not (call_at (known_calls t.machine m.party) (stage_at t.stages m.party) m.what) (polls_again (stage_at t.stages m.party) m.what) t m a v.behind s.did.step) in
+      let same = same_at w m a v s q apart in
       let alike = steady (place_at l.places q) (is_own_marked k q) (is_open k) (is_own_marked l q) (is_open l) (decided_there w q s.did.stood decided) in
       omega (arith, ap (λ x. left x (is_own_marked k q) (is_open k)) same, alike.0)
 

@@ -1,5 +1,7 @@
 -- What holds of the table holds as callers see it.
 use Rattle.world_mutex.proofs.bound.Ending.{ends_soon}
+use Rattle.world_mutex.proofs.bound.Patience.{starves_for_cause}
+use Rattle.world_mutex.proofs.bound.Waking.{counts_who_wakes}
 use Rattle.world_mutex.proofs.laws.Sound.{sound, awake}
 use Rattle.world_mutex.proofs.world.World.laws.Goals as goal
 
@@ -11,3 +13,9 @@ returns-clause-awake c = rw (← c.self.view_is) (λ rests. awake c.self.inside.
 
 pub returns-clause-ends_soon : goal.returns-clause-ends_soon
 returns-clause-ends_soon c = ends_soon c.args.self.now
+
+pub returns-clause-counts_who_wakes : goal.returns-clause-counts_who_wakes
+returns-clause-counts_who_wakes c = counts_who_wakes c.args.self.now
+
+pub returns-clause-starves_for_cause : goal.returns-clause-starves_for_cause
+returns-clause-starves_for_cause c = starves_for_cause c.args.self.now
