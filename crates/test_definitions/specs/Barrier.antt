@@ -25,6 +25,8 @@ use Rattle.world_base.specs.Overtaking as overtaking
 use Rattle.world_base.specs.Overtaking.{before, how_many_inside}
 use Rattle.world_barrier.specs.Overtaking.{starved_in, HoldsLock, IsOvertakenSeldomInSteps}
 use Rattle.world_barrier.specs.Steps.{Steps}
+use Rattle.world_base.specs.Ending.{GoesOnFor}
+use Rattle.world_barrier.specs.Whole.{EndsSoon}
 use Rattle.world_barrier.specs.Laws.{IsSound, IsAwake, is_at_rest}
 use Rattle.world_barrier.specs.Legal.{Legal, DecidesOn, HasToWait, next_arrival}
 use Rattle.world_barrier.specs.Numbers.{Leads, IsFinished, generations_of}
@@ -476,3 +478,13 @@ pub record TwoToldOfLock : Type 0 where
   pub world : World
   pub two : 1 < marked_count world.lock_list
   pub sound : IsSound world
+
+-- A call that is decided, as that of a guard's drop that has given its right back, goes on after three further steps of its own, whatever others did in between.
+pub record EndsLate : Type 0 where
+  pub party : ℕ
+  pub steps : ℕ
+  pub old : World
+  pub new : World
+  pub decided : is_decided (standing_of old party) ≡ true
+  pub goes_on : GoesOnFor Steps standing_of party steps 3 old new
+  pub soon : EndsSoon old

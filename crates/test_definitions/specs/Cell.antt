@@ -30,6 +30,9 @@ use Rattle.world_once_cell.specs.Laws.{IsSound, is_due}
 use Rattle.world_once_cell.specs.Legal.{Legal, DecidesOn}
 use Rattle.world_once_cell.specs.State.{World, list_in, is_empty, standing_of, task_of}
 use Rattle.world_once_cell.specs.Tasks.{task_then, list_for, is_open}
+use Rattle.world_base.specs.Ending.{GoesOnFor}
+use Rattle.world_once_cell.specs.Steps.{Steps}
+use Rattle.world_once_cell.specs.Whole.{EndsSoon}
 
 -- A move of a party, and what it leads to.
 pub record Step : Type 0 where
@@ -479,3 +482,13 @@ pub record TwoTellers : Type 0 where
   pub fills_too : task_of world second ≡ fills_with another
   pub apart : first ≢ second
   pub sound : IsSound world
+
+-- A call that is decided, as that of a guard's drop that has given its right back, goes on after three further steps of its own, whatever others did in between.
+pub record EndsLate : Type 0 where
+  pub party : ℕ
+  pub steps : ℕ
+  pub old : World
+  pub new : World
+  pub decided : is_decided (standing_of old party) ≡ true
+  pub goes_on : GoesOnFor Steps standing_of party steps 3 old new
+  pub soon : EndsSoon old

@@ -18,7 +18,7 @@ use Rattle.world_base.specs.declared.standing.Rest.TheVariants.{Pending, Holding
 use Rattle.world_base.specs.declared.standing.Within.{Within}
 use Rattle.world_base.specs.Frame.{is_drop, is_refusal}
 use Rattle.world_base.specs.Rosters.{how_many}
-use Rattle.world_base.specs.Standings.{outside, inside, may_end, refused}
+use Rattle.world_base.specs.Standings.{outside, inside, may_end, decision, refused}
 use Rattle.world_base.specs.Steps.{does, notifies_additionally}
 use Rattle.world_mutex.specs.Bound.{IsSolo, IsNotified, Promises}
 use Rattle.world_mutex.specs.Legal.{ListName, call_of, DecidesOn, is_first_poll, is_later_poll, Legal, AnswersAtOnce}
@@ -31,8 +31,12 @@ use Rattle.world_base.specs.Overtaking as overtaking
 use Rattle.world_base.specs.Overtaking.{before, how_many_inside}
 use Rattle.world_mutex.specs.Overtaking.{starved_in, Holds, IsOvertakenSeldom, IsOvertakenSeldomInSteps}
 use Rattle.world_mutex.specs.Steps.{Steps}
+use Rattle.world_base.specs.Ending.{GoesOnFor}
+use Rattle.world_base.specs.Standings.{is_decided}
 use Rattle.world_mutex.specs.Steps.{Steps}
-use Rattle.world_mutex.specs.Whole.{IsWholeCall, steps_left_of}
+use Rattle.world_mutex.specs.Whole.{IsWholeCall, EndsSoon, steps_left_of}
+use Rattle.world_base.specs.Patience.{StepsInPeace, IsInPeace}
+use Rattle.world_mutex.specs.Waking.{Wakes, CountsWhoWakes, StarvesForCause}
 use Rattle.world_base.specs.Whole.{going_on}
 use Rattle.world_base.specs.any_world.Steps.{left_by}
 use Rattle.world_base.specs.Standings.{inputs_of}
@@ -506,3 +510,79 @@ pub record GoesOnForEver : Type 0 where
   pub world : ℕ → World
   pub stepped : (n : ℕ) → Steps (world n) (going_on party inputs) answer.Stepped (world (suc n))
   pub falls : (w : World) (p : ℕ) (i : Inputs) (a : Answer) (v : World) → Steps w (going_on p i) a v → left_by a (steps_left_of v p) < steps_left_of w p
+
+-- A call that is decided, as that of a guard's drop that has given its right back, goes on after two further steps of its own, whatever others did in between.
+pub record EndsLate : Type 0 where
+  pub party : ℕ
+  pub steps : ℕ
+  pub old : World
+  pub new : World
+  pub decided : is_decided (standing_of old party) ≡ true
+  pub goes_on : GoesOnFor Steps standing_of party steps 2 old new
+  pub soon : EndsSoon old
+
+-- A party wakes another in a poll that isn't decided, others step, a try for instance, and by its next step it waits again, as one that isn't starved: so two waiting parties wake each other for ever over a lock that neither of them gets.
+pub record WakesAndWaits : Type 0 where
+  pub move : Move
+  pub answer : Answer
+  pub old : World
+  pub woken : World
+  pub wakes : Wakes old move answer woken
+  pub steps : ℕ
+  pub later : World
+  pub others : GoesOnFor Steps standing_of move.party steps 0 woken later
+  pub inputs : Inputs
+  pub next : Answer
+  pub new : World
+  pub goes_on : Steps later (going_on move.party inputs) next new
+  pub unstarved : is_starved new.state move.party ≡ false
+  pub unrefused : decision next (standing_of new move.party) ≢ Some (refused Starved)
+  pub counts : CountsWhoWakes old
+
+abbrev pub AreInPeace : ℕ → ℕ → World → World → Type 0
+AreInPeace = StepsInPeace Steps standing_of (λ w. w.state.starved)
+
+-- A party that was outside every call is counted as starved, though its clock said nothing, and nobody was starved where it stepped, whatever others did in between: as a newcomer's first poll, beside which another tries.
+pub record StarvedUnasked : Type 0 where
+  pub party : ℕ
+  pub steps : ℕ
+  pub old : World
+  pub new : World
+  pub outside : is_outside (standing_of old party) ≡ true
+  pub plain : is_starved old.state party ≡ false
+  pub in_peace : AreInPeace party steps old new
+  pub starved : is_starved new.state party ≡ true
+  pub cause : StarvesForCause old
+
+-- Or it is refused so, as one too many of the starved, by one more such step.
+pub record RefusedUnasked : Type 0 where
+  pub party : ℕ
+  pub steps : ℕ
+  pub old : World
+  pub mid : World
+  pub move : Move
+  pub new : World
+  pub outside : is_outside (standing_of old party) ≡ true
+  pub plain : is_starved old.state party ≡ false
+  pub in_peace : AreInPeace party steps old mid
+  pub own : move.party ≡ party
+  pub last : IsInPeace Steps standing_of (λ w. w.state.starved) party mid move
+  pub refused : Steps mid move (refused Starved) new
+  pub cause : StarvesForCause old
+
+-- A party takes a step of its call, which goes on, and then another steps.
+pub record StepsBetween : Type 0 where
+  pub party : ℕ
+  pub inputs : Inputs
+  pub move : Move
+  pub answered : Answer
+  pub old : World
+  pub mid : World
+  pub new : World
+  pub own : Steps old (going_on party inputs) answer.Stepped mid
+  pub another : move.party ≢ party
+  pub others : Steps mid move answered new
+
+-- Of these two steps one is its own.
+abbrev pub GoesOnOnce : StepsBetween → Type 0
+GoesOnOnce s = GoesOnFor Steps standing_of s.party 2 1 s.old s.new

@@ -45,6 +45,7 @@ actions =
     (place.PassOn, act.Notify) ∷
     (place.Count true false, act.Count) ∷
     (place.Count true true, act.Count) ∷
+    (place.Count false false, act.Count) ∷
     (place.Count false true, act.Count) ∷
     (place.JoinStarved, act.Join) ∷
     (place.LookAlone, act.TakeAlone) ∷
@@ -70,6 +71,7 @@ actions =
 abbrev pub followings : List (Place × Found × Next Place Place)
 followings =
     (place.Out, found.Done, next.End ended.GivenBack place.Out) ∷
+    (place.Holding, found.Done, next.End ended.Got place.Holding) ∷
     (place.Enter, found.Free, next.End ended.Got place.Holding) ∷
     (place.Enter, found.Held false, next.Do (place.Join false)) ∷
     (place.Enter, found.Held true, next.Do (place.Join false)) ∷
@@ -105,17 +107,21 @@ followings =
     (place.Count false true, found.AtLimit, next.Do place.RefuseNotifyStarved) ∷
     (place.Count false false, found.AtLimit, next.End (ended.Refused refusal.Starved) place.Out) ∷
     (place.Count true false, found.Done, next.Do place.AskStarved) ∷
+    (place.Count true true, found.Done, next.Do place.AskStarved) ∷
+    (place.Count false false, found.Done, next.Do place.JoinStarved) ∷
     (place.Count false true, found.Done, next.Do place.JoinStarved) ∷
     (place.JoinStarved, found.NoMemory, next.Do place.RefuseUncount) ∷
     (place.JoinStarved, found.Done, next.Do place.LookAlone) ∷
     (place.LookAlone, found.Free, next.Do (place.Uncount true)) ∷
     (place.LookAlone, found.Held false, next.Do place.AskStarved) ∷
+    (place.LookAlone, found.Held true, next.Do place.AskStarved) ∷
     (place.LookAlone, found.SomeStarved, next.Do place.PassOnListed) ∷
     (place.PassOnListed, found.Done, next.Do place.AskStarved) ∷
     (place.AskStarved, found.No, next.End ended.Pending place.AskStarved) ∷
     (place.AskStarved, found.Yes, next.Do place.Seize) ∷
     (place.Seize, found.Free, next.Do (place.Uncount false)) ∷
     (place.Seize, found.Held false, next.Do place.JoinStarved) ∷
+    (place.Seize, found.Held true, next.Do place.JoinStarved) ∷
     (place.Uncount true, found.Done, next.Do place.Leave) ∷
     (place.Uncount false, found.Done, next.End ended.Got place.Holding) ∷
     (place.Leave, found.Done, next.End ended.Got place.Holding) ∷

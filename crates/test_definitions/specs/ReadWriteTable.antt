@@ -146,6 +146,12 @@ actions =
 abbrev pub followings : List (Place × Found × Next Place Place)
 followings =
     (place.Out, found.Done, next.End ended.GivenBack place.Out) ∷
+    (place.Made wanted.Read, found.Done, next.End ended.GivenBack place.Out) ∷
+    (place.Made wanted.UpgradableRead, found.Done, next.End ended.GivenBack place.Out) ∷
+    (place.Made wanted.Write, found.Done, next.End ended.GivenBack place.Out) ∷
+    (place.Reading, found.Done, next.End ended.Got place.Reading) ∷
+    (place.Upgradable, found.Done, next.End ended.Got place.Upgradable) ∷
+    (place.Writing, found.Done, next.End ended.Got place.Writing) ∷
     (place.EnterRead false, found.Done, next.End ended.Got place.Reading) ∷
     (place.EnterRead false, found.Writer, next.Do (place.JoinNoWriter false)) ∷
     (place.EnterRead true, found.Done, next.End ended.Got place.Reading) ∷

@@ -1,5 +1,5 @@
 -- Wake-ups of a read-write lock, and overtaking, that no user would accept. Each record is one wrong run.
-use Rattle.std.specs.Prelude.{◌≡◌, ◌≢◌, ℕ, ◌<◌, true, false, List, [], ◌∷◌, Some}
+use Rattle.std.specs.Prelude.{◌≡◌, ◌≢◌, ℕ, ◌+◌, ◌<◌, ◌≤◌, true, false, List, [], ◌∷◌, length, Some}
 use Rattle.lock_event.specs.Lists.{marked_count}
 use Rattle.world_base.specs.queue.Parties.{entries_of}
 use Rattle.world_base.specs.declared.moves.Answer.TheVariants as answer
@@ -7,6 +7,7 @@ use Rattle.world_base.specs.declared.moves.Call.TheVariants as call
 use Rattle.world_base.specs.declared.moves.Inputs.{Inputs}
 use Rattle.world_base.specs.declared.moves.What.TheVariants.{Begin}
 use Rattle.lock_program.specs.declared.refusal.Refusal.TheVariants.{Memory, Starved}
+use Rattle.lock_program.specs.declared.refusal.Refusal.TheVariants.{Readers}
 use Rattle.world_base.specs.declared.standing.Rest.TheVariants.{Pending}
 use Rattle.world_base.specs.declared.standing.Within.{Within}
 use Rattle.world_base.specs.Frame.{is_drop, is_refusal}
@@ -30,6 +31,10 @@ use Rattle.world_base.specs.Overtaking.{before, how_many_inside}
 use Rattle.world_rwlock.specs.Overtaking.{HasItsTurn, IsOvertakenSeldom, IsOvertakenSeldomInSteps}
 use Rattle.world_rwlock.specs.Steps.{Steps}
 use Rattle.world_rwlock.specs.Whole.{IsWholeCall}
+use Rattle.world_base.specs.Ending.{GoesOnFor}
+use Rattle.world_base.specs.Bounds.{PolledInTurn}
+use Rattle.world_rwlock.specs.Bound.{PollsToRead, LetsReadersIn}
+use Rattle.world_rwlock.specs.Whole.{EndsSoon}
 use Rattle.world_base.specs.queue.Parties.{is_party}
 use Rattle.lock_event.specs.Lists.{is_marked_at, notified}
 use Rattle.test_definitions.specs.ReadWrite.{Step, IsLegal, IsAtOnce, Whole, Keeps}
@@ -501,3 +506,71 @@ pub record OvertakenInTheMidst : Type 0 where
   pub idle : how_many_inside old.standings ≡ 0
   pub overtaken : overtaking.OvertakenInSteps Steps (λ w. w.turn_list) is_starved HasItsTurn (λ w. w.standings) party steps 1 old new
   pub seldom : IsOvertakenSeldomInSteps old
+
+-- A call that is decided, as that of a guard's drop that has given its right back, goes on after four further steps of its own, whatever others did in between.
+pub record EndsLate : Type 0 where
+  pub party : ℕ
+  pub steps : ℕ
+  pub old : World
+  pub new : World
+  pub decided : is_decided (standing_of old party) ≡ true
+  pub goes_on : GoesOnFor Steps standing_of party steps 4 old new
+  pub soon : EndsSoon old
+
+-- Nobody writes or waits to write, and two notified readers poll in turn, below the readers' limit; and only one more reads then.
+pub record ReadersLeftOut : Type 0 where
+  pub old : World
+  pub new : World
+  pub at_rest : is_at_rest old ≡ true
+  pub unmarked : is_marked old.state.turn ≡ false
+  pub below : how_many_read old + 2 ≤ old.readers_limit
+  pub polled : PolledInTurn PollsToRead 2 old new
+  pub read : how_many_read new ≡ how_many_read old + 1
+  pub lets_in : is_at_rest old ≡ true → LetsReadersIn old
+
+-- Or one of them polls, others wait to read still, and nobody there is told.
+pub record NoNextReader : Type 0 where
+  pub old : World
+  pub new : World
+  pub at_rest : is_at_rest old ≡ true
+  pub unmarked : is_marked old.state.turn ≡ false
+  pub below : how_many_read old + 1 ≤ old.readers_limit
+  pub polled : PolledInTurn PollsToRead 1 old new
+  pub some : 0 < length new.no_writer
+  pub none_told : (p : ℕ) → is_marked_at (is_party p) new.no_writer ≡ false
+  pub lets_in : is_at_rest old ≡ true → LetsReadersIn old
+
+-- A party comes to have to tell those that wait for the turn, and hasn't given it up: so each drop of a reader would wake one of them.
+pub record OwesNoTurn : Type 0 where
+  pub step : Step
+  pub had : has_to_tell for_the_turn step.old step.move.party ≡ false
+  pub has : has_to_tell for_the_turn step.new step.move.party ≡ true
+  pub without : HasTurn step.old.state.turn step.move.party → ⊥
+  pub legal : IsAtOnce step
+
+-- Or those that wait to read, beside a writer or one that waits to write.
+pub record OwesNoBit : Type 0 where
+  pub step : Step
+  pub had : has_to_tell for_no_writer step.old step.move.party ≡ false
+  pub has : has_to_tell for_no_writer step.new step.move.party ≡ true
+  pub marked : is_marked step.new.state.turn ≡ true
+  pub legal : IsAtOnce step
+
+-- As many read as may, nobody writes or waits to write, and a notified reader waits again: so two of them wake each other for ever.
+pub record WaitsAtTheLimit : Type 0 where
+  pub whole : Whole
+  pub polls : whole.call ≡ call.Poll
+  pub told : IsToldToRead whole.old whole.party
+  pub unmarked : is_marked whole.old.state.turn ≡ false
+  pub full : whole.old.readers_limit ≤ how_many_read whole.old
+  pub unrefused : whole.answer ≢ refused Readers
+  pub kept : Keeps whole
+
+-- So does the first poll of a read, and may join the list.
+pub record JoinsAtTheLimit : Type 0 where
+  pub step : Step
+  pub first : is_first step.old step.move read ≡ true
+  pub unmarked : is_marked step.old.state.turn ≡ false
+  pub full : step.old.readers_limit ≤ how_many_read step.old
+  pub unrefused : step.answer ≢ refused Readers
+  pub legal : IsAtOnce step

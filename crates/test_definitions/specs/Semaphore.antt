@@ -1,5 +1,5 @@
 -- Runs of a semaphore that no user would accept. Each record is one wrong run: what its steps would be, if it were legal.
-use Rattle.std.specs.Prelude.{◌≡◌, ◌≢◌, ℕ, ◌+◌, ◌<◌, ◌≤◌, true, false, Some, None}
+use Rattle.std.specs.Prelude.{◌≡◌, ◌≢◌, ℕ, ◌+◌, ◌<◌, ◌≤◌, true, false, length, Some, None}
 use Rattle.lock_event.specs.Lists.{marked_count, is_marked_at}
 use Rattle.lock_event.specs.Weights.{is_wanted}
 use Rattle.world_base.specs.queue.Parties.{is_party, entries_of}
@@ -21,10 +21,15 @@ use Rattle.world_base.specs.Standings.{outside, inside, is_outside, is_possible,
 use Rattle.world_semaphore.specs.machine.Deeds.{changes, does, fits, takes, gives_back, gives}
 use Rattle.world_semaphore.specs.machine.Seats.{nothing_owed, a_fit, pays}
 use Rattle.world_semaphore.specs.AtOnce.{AnswersAtOnce, is_try, is_first_poll, is_enough}
-use Rattle.world_semaphore.specs.Bound.{Promises, IsSolo}
+use Rattle.world_semaphore.specs.Bound.{Promises, IsSolo, PollsTold, Drains}
 use Rattle.world_semaphore.specs.Legal.{Legal, DecidesOn, added_in, is_forget, is_poll_call, state_after, wanted, wanted_in}
-use Rattle.world_semaphore.specs.Laws.{IsSound, IsAwake, IsFreeAndWanted}
-use Rattle.world_semaphore.specs.State.{World, share_at, has_permits, available, standing_of, size_of, debt_of}
+use Rattle.world_semaphore.specs.Laws.{IsSound, IsAwake, IsFreeAndWanted, is_at_rest}
+use Rattle.world_base.specs.Ending.{GoesOnFor}
+use Rattle.world_base.specs.Standings.{is_decided}
+use Rattle.world_base.specs.Bounds.{PolledInTurn}
+use Rattle.world_semaphore.specs.Steps.{Steps}
+use Rattle.world_semaphore.specs.Whole.{EndsSoon}
+use Rattle.world_semaphore.specs.State.{World, share_at, has_permits, held, available, standing_of, size_of, debt_of}
 
 -- A move of a party, and what it leads to.
 pub record Step : Type 0 where
@@ -358,3 +363,36 @@ pub record GoesOnWithTheOlder : Type 0 where
   pub gone : is_marked_at (is_party step.move.party) step.new.entries ≡ false
   pub older : debt_of step.new step.move.party ≡ a_fit number
   pub legal : IsLegal step
+
+-- A call that is decided, as that of a guard's drop that has given its right back, goes on after three further steps of its own, whatever others did in between.
+pub record EndsLate : Type 0 where
+  pub party : ℕ
+  pub steps : ℕ
+  pub old : World
+  pub new : World
+  pub decided : is_decided (standing_of old party) ≡ true
+  pub goes_on : GoesOnFor Steps standing_of party steps 3 old new
+  pub soon : EndsSoon old
+
+-- Two permits are available, everybody listed waits for one, and two notified parties poll in turn; and only one of them has its permit then.
+pub record DrainsInVain : Type 0 where
+  pub old : World
+  pub new : World
+  pub at_rest : is_at_rest old ≡ true
+  pub ones : (p : ℕ) → 0 < entries_of p old.entries → size_of old p ≡ 1
+  pub enough : 2 ≤ available old.state
+  pub polled : PolledInTurn PollsTold 2 old new
+  pub had : held new.state ≡ held old.state + 1
+  pub drains : is_at_rest old ≡ true → Drains old
+
+-- Or one of them polls, others wait still, and nobody there is told of the second permit.
+pub record DrainsHalf : Type 0 where
+  pub old : World
+  pub new : World
+  pub at_rest : is_at_rest old ≡ true
+  pub ones : (p : ℕ) → 0 < entries_of p old.entries → size_of old p ≡ 1
+  pub enough : 2 ≤ available old.state
+  pub polled : PolledInTurn PollsTold 1 old new
+  pub some : 0 < length new.entries
+  pub none_told : (p : ℕ) → is_marked_at (is_party p) new.entries ≡ false
+  pub drains : is_at_rest old ≡ true → Drains old

@@ -5,7 +5,7 @@ ghost use Rattle.test_definitions.specs.CellTable.{beginnings, actions, followin
 ghost use Rattle.sync_program.specs.OnceCell.{action_of, next_of};
 ghost use Rattle.world_once_cell.specs.program.Program.{start_of};
 ghost use Rattle.test_definitions.specs.Never.{Never};
-ghost use Rattle.test_definitions.specs.Cell.{EntersTwice, EndsByNothing, FillsAnother, MakesAnother, ReadyTooSoon, WaitsWithoutMaking, WaitsInPassive, WaitsInActive, TriesInVain, TriesWhileMade, LosesItsOwn, StaysMade, TellsNobody, PassesOverInVain, KeepsItsTold, LeftUntold, GoesOnUndecided, DropsListed, MakesAndWaits, RefusesMaker, MarksUndecided, GrantsNothing, HasAnotherBack, FailsUntold, DropsUntold, RefusedUntold, WaitsThoughTold, GoesOnUntold, WaitsForFull, RefusedToMake, LeftToNobody, TellsAnyone, TellsPassive, LosesWhatWasMade, JoinsUnlooked, KeepsItsMark, DropsOn, LingersWithValue, MakesAfterFailure, MakerJoins, MadeByNobody, FillsUntold, TwoTellers};
+ghost use Rattle.test_definitions.specs.Cell.{EntersTwice, EndsByNothing, FillsAnother, MakesAnother, ReadyTooSoon, WaitsWithoutMaking, WaitsInPassive, WaitsInActive, TriesInVain, TriesWhileMade, LosesItsOwn, StaysMade, TellsNobody, PassesOverInVain, KeepsItsTold, LeftUntold, GoesOnUndecided, DropsListed, MakesAndWaits, RefusesMaker, MarksUndecided, GrantsNothing, HasAnotherBack, FailsUntold, DropsUntold, RefusedUntold, WaitsThoughTold, GoesOnUntold, WaitsForFull, RefusedToMake, LeftToNobody, TellsAnyone, TellsPassive, LosesWhatWasMade, JoinsUnlooked, KeepsItsMark, DropsOn, LingersWithValue, MakesAfterFailure, MakerJoins, MadeByNobody, FillsUntold, TwoTellers, EndsLate};
 
 /// Each clause says of one wrong run that it isn't legal.
 fn wrong_runs()
@@ -52,6 +52,7 @@ fn wrong_runs()
     ensures made_by_nobody { Never (MadeByNobody) }
     ensures fills_untold { Never (FillsUntold) }
     ensures two_tellers { Never (TwoTellers) }
+    ensures ends_late { Never (EndsLate) }
 {}
 
 /// The programs' places, each with its action and what follows what it finds, as docs/PROGRAMS.md lists them.

@@ -4,7 +4,7 @@ ghost use Rattle.test_definitions.specs.Tables.{AreRowsOf, AreRowsOfTwo};
 ghost use Rattle.test_definitions.specs.MutexTable.{beginnings, actions, followings};
 ghost use Rattle.lock_program.specs.Mutex.{start_of, action_of, next_of};
 ghost use Rattle.test_definitions.specs.Never.{Never};
-ghost use Rattle.test_definitions.specs.Mutex.{TriesInVain, PollsUnready, WaitsUnlisted, WaitsUnmarked, PendsTooEarly, RefusedAtFirst, RefusedHavingTaken, LetsGoUndecided, DropsUndecided, DecidesInVain, StarvedHavingTaken, StarvedTwice, StarvedAtFirst, StarvesUnlisted, HoldsRefused, ReadyWithout, TellsMore, TriesAndTells, StarvesAtFirst, PollsUntold, ReleasesLate, ReleasesSilently, PassesOverInVain, RefusedInVain, StarvesUnasked, StarvedAmongNone, KeepsItsTold, WakesTheNext, SleepsThoughFree, WakesInARing, StarvedUnwaited, RefusedSilently, NeverStarved, OvertakesStarved, TakesUntold, TakesBeforeStarved, CountsUnwaited, TwoTold, OvertakenTwice, OvertakenInTheMidst, TakesPastStarved, RefusedBesideMemory, NeverPossible, LeavesCounted, DropDawdles, GoesOnForEver, StandsBy, IsOvertakenOnce};
+ghost use Rattle.test_definitions.specs.Mutex.{TriesInVain, PollsUnready, WaitsUnlisted, WaitsUnmarked, PendsTooEarly, RefusedAtFirst, RefusedHavingTaken, LetsGoUndecided, DropsUndecided, DecidesInVain, StarvedHavingTaken, StarvedTwice, StarvedAtFirst, StarvesUnlisted, HoldsRefused, ReadyWithout, TellsMore, TriesAndTells, StarvesAtFirst, PollsUntold, ReleasesLate, ReleasesSilently, PassesOverInVain, RefusedInVain, StarvesUnasked, StarvedAmongNone, KeepsItsTold, WakesTheNext, SleepsThoughFree, WakesInARing, StarvedUnwaited, RefusedSilently, NeverStarved, OvertakesStarved, TakesUntold, TakesBeforeStarved, CountsUnwaited, TwoTold, OvertakenTwice, OvertakenInTheMidst, TakesPastStarved, RefusedBesideMemory, NeverPossible, LeavesCounted, DropDawdles, GoesOnForEver, StandsBy, IsOvertakenOnce, EndsLate, WakesAndWaits, StarvedUnasked, RefusedUnasked, StepsBetween, GoesOnOnce};
 
 /// Each clause says of one wrong run that it isn't legal.
 fn wrong_runs()
@@ -54,11 +54,20 @@ fn wrong_runs()
     ensures leaves_counted { Never (LeavesCounted) }
     ensures drop_dawdles { Never (DropDawdles) }
     ensures goes_on_for_ever { Never (GoesOnForEver) }
+    ensures ends_late { Never (EndsLate) }
+    ensures wakes_and_waits { Never (WakesAndWaits) }
+    ensures starved_unasked { Never (StarvedUnasked) }
+    ensures refused_unasked { Never (RefusedUnasked) }
 {}
 
 /// A worked chain of calls, which the bound on overtaking counts: two calls, one of which took the lock.
 fn overtaking()
     ensures once { (s : StandsBy) → IsOvertakenOnce s }
+{}
+
+/// A worked chain of steps, of which the bound on the end of a decided call counts the party's own.
+fn ending()
+    ensures once { (s : StepsBetween) → GoesOnOnce s }
 {}
 
 /// The programs' places, each with its action and what follows what it finds, as docs/PROGRAMS.md lists them.

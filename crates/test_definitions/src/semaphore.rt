@@ -5,7 +5,7 @@ ghost use Rattle.test_definitions.specs.SemaphoreTable.{beginnings, actions, fol
 ghost use Rattle.sync_program.specs.Permits.{action_of, next_of};
 ghost use Rattle.world_semaphore.specs.machine.Program.{start_of};
 ghost use Rattle.test_definitions.specs.Never.{Never};
-ghost use Rattle.test_definitions.specs.Semaphore.{TriesInVain, TakesUndecided, GivesBackWithin, GivesBeforeItRaises, TellsOfOthers, ForgetsInVain, RefusedThoughFree, RefusedAtLast, WaitsUnlisted, GoesOnUndecided, DecidesInVain, HasRefused, AddsAndTakes, TellsTwo, TriesAndTells, ReturnsLate, ReturnsSilently, AddsSilently, AddsAfterTelling, PassesOverInVain, KeepsItsTold, TakesWhatWasTold, DropsWhatWasTold, HandsOverInVain, WakesTheNext, SleepsThoughFree, SleepsBehindALargerOne, RefusedSilently, WaitsSilently, TakesOthers, TakesTooMany, ReadyWithoutAGuard, GoesOnWithTheOlder};
+ghost use Rattle.test_definitions.specs.Semaphore.{TriesInVain, TakesUndecided, GivesBackWithin, GivesBeforeItRaises, TellsOfOthers, ForgetsInVain, RefusedThoughFree, RefusedAtLast, WaitsUnlisted, GoesOnUndecided, DecidesInVain, HasRefused, AddsAndTakes, TellsTwo, TriesAndTells, ReturnsLate, ReturnsSilently, AddsSilently, AddsAfterTelling, PassesOverInVain, KeepsItsTold, TakesWhatWasTold, DropsWhatWasTold, HandsOverInVain, WakesTheNext, SleepsThoughFree, SleepsBehindALargerOne, RefusedSilently, WaitsSilently, TakesOthers, TakesTooMany, ReadyWithoutAGuard, GoesOnWithTheOlder, EndsLate, DrainsInVain, DrainsHalf};
 
 /// Each clause says of one wrong run that it isn't legal.
 fn wrong_runs()
@@ -42,6 +42,9 @@ fn wrong_runs()
     ensures takes_too_many { Never (TakesTooMany) }
     ensures ready_without_a_guard { Never (ReadyWithoutAGuard) }
     ensures goes_on_with_the_older { Never (GoesOnWithTheOlder) }
+    ensures ends_late { Never (EndsLate) }
+    ensures drains_in_vain { Never (DrainsInVain) }
+    ensures drains_half { Never (DrainsHalf) }
 {}
 
 /// The programs' places, each with its action and what follows what it finds, as docs/PROGRAMS.md lists them.

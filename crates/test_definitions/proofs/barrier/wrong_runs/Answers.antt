@@ -337,3 +337,6 @@ returns-clause-overtaken_in_the_midst c = λ r. (let few = r.seldom r.party r.st
 
 pub returns-clause-passes_the_starved : goal.returns-clause-passes_the_starved
 returns-clause-passes_the_starved c = λ r. (let gives = (r.kept.solo r.polls r.solo r.free).behind r.at_rest r.patient r.some_starved r.unrefused in true≢false (sym gives.gave_way.is_starved ∙ r.still_patient))
+
+pub returns-clause-ends_late : goal.returns-clause-ends_late
+returns-clause-ends_late c = λ r. (let few = r.soon r.party r.steps 3 r.new r.decided r.goes_on in absurd (omega (arith, few)))

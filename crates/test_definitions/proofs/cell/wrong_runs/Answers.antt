@@ -302,3 +302,6 @@ returns-clause-fills_untold c = λ r. true≢false (sym (r.legal.told_all r.valu
 
 pub returns-clause-two_tellers : goal.returns-clause-two_tellers
 returns-clause-two_tellers c = λ r. r.apart (r.sound.one_teller r.first r.second r.one r.another r.fills r.fills_too)
+
+pub returns-clause-ends_late : goal.returns-clause-ends_late
+returns-clause-ends_late c = λ r. (let few = r.soon r.party r.steps 3 r.new r.decided r.goes_on in absurd (omega (arith, few)))

@@ -246,3 +246,15 @@ returns-clause-goes_on_for_ever c = λ r.
 
 pub returns-clause-overtaken_in_the_midst : goal.returns-clause-overtaken_in_the_midst
 returns-clause-overtaken_in_the_midst c = λ r. (let few = r.seldom r.party r.steps 1 r.new r.overtaken in absurd (omega (arith, few, r.first, r.idle)))
+
+pub returns-clause-ends_late : goal.returns-clause-ends_late
+returns-clause-ends_late c = λ r. (let few = r.soon r.party r.steps 2 r.new r.decided r.goes_on in absurd (omega (arith, few)))
+
+pub returns-clause-wakes_and_waits : goal.returns-clause-wakes_and_waits
+returns-clause-wakes_and_waits c = λ r. elim (r.counts r.move r.answer r.woken r.wakes r.steps r.later r.others r.inputs r.next r.new r.goes_on) as (λ _. ⊥) [ inl starved ↦ true≢false (sym starved ∙ r.unstarved) | inr refused ↦ r.unrefused refused ]
+
+pub returns-clause-starved_unasked : goal.returns-clause-starved_unasked
+returns-clause-starved_unasked c = λ r. true≢false (sym r.starved ∙ (r.cause r.party r.steps r.new r.outside r.plain r.in_peace).unstarved)
+
+pub returns-clause-refused_unasked : goal.returns-clause-refused_unasked
+returns-clause-refused_unasked c = λ r. (r.cause r.party r.steps r.mid r.outside r.plain r.in_peace).patient r.move (answer.Refused (number_of refusal.Starved)) r.new r.refused r.own r.last refl

@@ -528,3 +528,26 @@ returns-clause-overtaken_in_the_midst c = λ r. (let few = r.seldom r.party r.st
 
 pub returns-clause-takes_turn_before_starved : goal.returns-clause-takes_turn_before_starved
 returns-clause-takes_turn_before_starved c = λ r. (let gives = (r.kept.turn r.polls r.solo r.free).behind r.at_rest r.patient r.some_starved r.unrefused in subst (λ t. HasTurn t r.whole.party) gives.free r.takes)
+
+pub returns-clause-ends_late : goal.returns-clause-ends_late
+returns-clause-ends_late c = λ r. (let few = r.soon r.party r.steps 4 r.new r.decided r.goes_on in absurd (omega (arith, few)))
+
+pub returns-clause-readers_left_out : goal.returns-clause-readers_left_out
+returns-clause-readers_left_out c = λ r. (let all = (r.lets_in r.at_rest r.unmarked 2 r.new r.below r.polled).read in absurd (omega (arith, all, r.read)))
+
+pub returns-clause-no_next_reader : goal.returns-clause-no_next_reader
+returns-clause-no_next_reader c = λ r.
+    let next = (r.lets_in r.at_rest r.unmarked 1 r.new r.below r.polled).next r.some in
+    true≢false (sym next.1 ∙ r.none_told next.0)
+
+pub returns-clause-owes_no_turn : goal.returns-clause-owes_no_turn
+returns-clause-owes_no_turn c = λ r. r.without (r.legal.gives_up.only_turn r.had r.has).0
+
+pub returns-clause-owes_no_bit : goal.returns-clause-owes_no_bit
+returns-clause-owes_no_bit c = λ r. true≢false (sym r.marked ∙ (r.legal.gives_up.only_bit r.had r.has).2)
+
+pub returns-clause-waits_at_the_limit : goal.returns-clause-waits_at_the_limit
+returns-clause-waits_at_the_limit c = λ r. r.unrefused (r.kept.full r.polls r.told r.unmarked r.full)
+
+pub returns-clause-joins_at_the_limit : goal.returns-clause-joins_at_the_limit
+returns-clause-joins_at_the_limit c = λ r. r.unrefused (r.legal.first_read_full r.first r.unmarked r.full)

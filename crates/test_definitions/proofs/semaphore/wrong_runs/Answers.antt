@@ -160,3 +160,14 @@ returns-clause-ready_without_a_guard c = λ r. true≢false (sym (ap (λ (s : Sh
 
 pub returns-clause-goes_on_with_the_older : goal.returns-clause-goes_on_with_the_older
 returns-clause-goes_on_with_the_older c = λ r. let look = (r.legal.knows_debts r.possible).own.told r.was_told r.gone in absurd (cc (look, r.older))
+
+pub returns-clause-ends_late : goal.returns-clause-ends_late
+returns-clause-ends_late c = λ r. (let few = r.soon r.party r.steps 3 r.new r.decided r.goes_on in absurd (omega (arith, few)))
+
+pub returns-clause-drains_in_vain : goal.returns-clause-drains_in_vain
+returns-clause-drains_in_vain c = λ r. (let all = (r.drains r.at_rest r.ones 2 r.new r.enough r.polled).had in absurd (omega (arith, all, r.had)))
+
+pub returns-clause-drains_half : goal.returns-clause-drains_half
+returns-clause-drains_half c = λ r.
+    let next = (r.drains r.at_rest r.ones 1 r.new (omega (arith, r.enough)) r.polled).next (omega (arith, r.enough)) r.some in
+    true≢false (sym next.1 ∙ r.none_told next.0)
