@@ -56,7 +56,7 @@ pub use Rattle.world_mutex.specs.machine.Course.{Course, bit, counted as starved
 pub use Rattle.world_mutex.specs.machine.Mutex.{course_at, IsAtRest as LockAtRest, Mutex, left_after as lock_left_after, steps_left as lock_steps_left, IsMutex, holder_from, holders, new_mutex, starved, holder_of, starved_of, IsStarved}
 pub use Rattle.world_mutex.proofs.of_machine.callers.Callers.{out_rests, waiting_rests, out_unlisted, holding_unlisted, listed_once, may_lock, may_poll, may_cancel, may_release, holding_holds, out_free, waiting_free, new_is_out, new_parties, waiting_listed, IsPolls, releasing_free, out_unstarved, taking_decided, releasing_decided, cancelling_decided, new_has_no_holder, new_has_none_starved, gave_way, out_uncounted, waiting_uncounted}
 pub use Rattle.world_mutex.proofs.of_machine.callers.Holders.{held_at, none_held, holds_it, held_seen, how_many_counted}
-pub use Rattle.world_barrier.specs.AtOnce.{TakesAtOnce, AnswersAtOnce, entries_in, is_first_poll, is_later_poll}
+pub use Rattle.world_barrier.specs.AtOnce.{TakesAtOnce, AnswersAtOnce, entries_in, is_first_poll, is_later_poll, is_dropping}
 pub use Rattle.world_barrier.specs.Bound.{GivesWay, PassesOver, IsBounded, WaitsOn, ComesTo, IsSolo, IsNotified, IsToldOfLock, SoloPoll, Promises}
 pub use Rattle.world_barrier.specs.Changes.{Change, takes, releases, starves, recovers, arrives, arrivals_after, lock_after, wait_then, wait_after, lock_list_after, gives_back, gives_up, generation_list_after}
 pub use Rattle.world_barrier.specs.Laws.{IsSound, IsAwake, IsWanted, IsStillThere, is_at_rest, is_long_call, is_due, is_refused, IsDue}

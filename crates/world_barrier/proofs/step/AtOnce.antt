@@ -1,5 +1,5 @@
 -- What the first step of a poll decides at once.
-use Rattle.world_barrier.proofs.Prelude.{◌≡◌, ℕ, ◌+◌, ◌<◌, ◌==◌, ◌&&◌, ◌⊎◌, inl, inr, if◌then◌else◌, Bool, true, false, Option, Some, None, is_none, refl, arith, ap, sym, ◌∙◌, subst, nat_tests, is_marked_at, is_party, entries_of, Answer, Inputs, Move, Call, What, Begin, Within, how_many, Standing, outside, inputs_of, some_eq, none_some, stage_at, stands_as, inside_as, Table, Course, is_waiting, listed_there, LockStep, course_at, holders, starved, out_unlisted, waiting_listed, Aim, Found, Place, EnterLock, WaitLock, Ask, Position, Out, Made, Locking, Waiting, At, Progress, place_for, action_of, next_of, after_lock, Finds, FindsAsk, OnLock, fits_lock, in_lock, listed, verdict, Barrier, position_at, arrival_at, answer_by, World, standing_of, is_free, view_of, TakesAtOnce, AnswersAtOnce, entries_in, is_first_poll, is_later_poll, ◌≢◌, notified, Go, Refusal, Stage, Inside, inside, refused, call_at, End as LockEnd, decision, starved_there as counted, bit, holding_holds, Ending, TakeLock, ReleaseLock, ReleasingLock, NotifyAll, CancelLock, CancellingLock, CancelLeave, Abandon, after_release, released, knows, refused_by, verdict_of, verdict_until, is_starved}
+use Rattle.world_barrier.proofs.Prelude.{◌≡◌, ℕ, ◌+◌, ◌<◌, ◌==◌, ◌&&◌, ◌⊎◌, inl, inr, if◌then◌else◌, Bool, true, false, Option, Some, None, is_none, refl, arith, ap, sym, ◌∙◌, subst, nat_tests, is_marked_at, is_party, entries_of, Answer, Inputs, Move, Call, What, Begin, Within, how_many, Standing, outside, inputs_of, some_eq, none_some, stage_at, stands_as, inside_as, Table, Course, is_waiting, listed_there, LockStep, course_at, holders, starved, out_unlisted, waiting_listed, Aim, Found, Place, EnterLock, WaitLock, Ask, Position, Out, Made, Locking, Waiting, At, Progress, place_for, action_of, next_of, after_lock, Finds, FindsAsk, OnLock, fits_lock, in_lock, listed, verdict, Barrier, position_at, arrival_at, answer_by, World, standing_of, is_free, view_of, TakesAtOnce, AnswersAtOnce, entries_in, is_first_poll, is_later_poll, ◌≢◌, notified, Go, Refusal, Stage, Inside, inside, refused, call_at, End as LockEnd, decision, starved_there as counted, bit, holding_holds, IsLegal, MayDo, may_tell, is_dropping, true≢false, Deed, nothing, changes, does, joins, asks, notifies, notifies_additionally, Ending, TakeLock, ReleaseLock, ReleasingLock, NotifyAll, CancelLock, CancellingLock, CancelLeave, Abandon, after_release, released, knows, refused_by, verdict_of, verdict_until, is_starved}
 use Rattle.world_base.specs.declared.standing.Rest.TheVariants.{Pending}
 use Rattle.world_mutex.proofs.of_machine.callers.Holders as sees
 use Rattle.world_barrier.proofs.step.Here.{HasEntries, enters_lock}
@@ -10,6 +10,7 @@ use Rattle.world_mutex.specs.machine.Deeds.{entries_after as lock_entries_after}
 use Rattle.world_base.specs.Frame.{is_drop}
 use Rattle.world_base.specs.Steps.{leaves, list_after}
 use Rattle.world_mutex.specs.machine.Course as course
+use Rattle.world_mutex.specs.machine.Deeds as mutex
 
 -- a free inner lock
 free_by : (h : Option ℕ) (n : ℕ) → is_none h && (n == 0) ≡ true → (h ≡ None) × (n ≡ 0)
@@ -57,6 +58,60 @@ drops_there (Begin Call.Drop i) Waiting c from h e link some = let none = out_un
 drops_there (Begin Call.Drop i) Out c from h e link some = let none = out_unlisted c link in absurd (omega arith)
 drops_there (Begin Call.Drop i) (At y) c from h e link some = absurd (none_some e)
 drops_there _ x c from h e link some = absurd (cc h)
+
+-- one that doesn't stand there, and has nothing to do there
+drops_off : (what : What) (x : Position) (c : Course) (from : Place) → is_drop what ≡ true → place_for what x ≡ Some from → fits_lock (in_lock x) c ≡ true → listed_there c ≡ 0 → (from ≡ CancelLeave) ⊎ (from ≡ Abandon)
+drops_off (Begin Call.Drop i) (Locking b) c from h e link none = let one = waiting_listed c link in absurd (omega arith)
+drops_off (Begin Call.Drop i) (Made b) c from h e link none = inr (sym (some_eq e))
+drops_off (Begin Call.Drop i) Waiting c from h e link none = inl (sym (some_eq e))
+drops_off (Begin Call.Drop i) Out c from h e link none = inr (sym (some_eq e))
+drops_off (Begin Call.Drop i) (At y) c from h e link none = absurd (none_some e)
+drops_off _ x c from h e link none = absurd (cc h)
+
+-- a drop's first step, and a further one: in the inner lock it waits, or is leaving
+record Drops (c : Course) (from : Place) : Type 0 where
+  verdict : verdict_of from c ≡ Some Answer.GivenBack
+  waits : from ≡ CancelLock → is_waiting c ≡ true
+  cancels : from ≡ CancellingLock → course.is_cancelling c ≡ true
+
+begins_drop : (what : What) (x : Position) (c : Course) (from : Place) → is_drop what ≡ true → place_for what x ≡ Some from → fits_lock (in_lock x) c ≡ true → Drops c from
+begins_drop (Begin Call.Drop i) (Locking b) c from h e link = let P : Place → Type 0 = Drops c in subst P (some_eq e) (record { verdict = refl; waits = λ g. link; cancels = λ g. absurd (cc g) })
+begins_drop (Begin Call.Drop i) (Made b) c from h e link = let P : Place → Type 0 = Drops c in subst P (some_eq e) (record { verdict = refl; waits = λ g. absurd (cc g); cancels = λ g. absurd (cc g) })
+begins_drop (Begin Call.Drop i) Waiting c from h e link = let P : Place → Type 0 = Drops c in subst P (some_eq e) (record { verdict = refl; waits = λ g. absurd (cc g); cancels = λ g. absurd (cc g) })
+begins_drop (Begin Call.Drop i) Out c from h e link = let P : Place → Type 0 = Drops c in subst P (some_eq e) (record { verdict = refl; waits = λ g. absurd (cc g); cancels = λ g. absurd (cc g) })
+begins_drop (Begin Call.Drop i) (At y) c from h e link = absurd (none_some e)
+begins_drop _ x c from h e link = absurd (cc h)
+
+goes_on_drop : (y : Place) (c : Course) → fits_lock (in_lock (At y)) c ≡ true → verdict_of y c ≡ Some Answer.GivenBack → Drops c y
+goes_on_drop y c link v = record {
+  verdict = v;
+  waits = λ e. (let P : Place → Type 0 = λ z. fits_lock (in_lock (At z)) c ≡ true in subst P e link);
+  cancels = λ e. (let P : Place → Type 0 = λ z. fits_lock (in_lock (At z)) c ≡ true in subst P e link);
+}
+
+dropping : (s : Standing) (what : What) → is_dropping s what ≡ true → (is_drop what ≡ true) ⊎ ((u : Within) × (s ≡ inside u (Some Answer.GivenBack)))
+dropping (outside r) what h = inl h
+dropping (inside u (Some Answer.GivenBack)) what h = inr (u, refl)
+dropping _ what h = absurd (cc h)
+
+never_given : (o : Option LockEnd) → refused_by o ≡ Some Answer.GivenBack → ⊥
+never_given (Some (LockEnd.Refused r)) e = cc e
+never_given _ e = none_some e
+
+until_given : (e : Ending) → verdict_until e ≡ Some Answer.GivenBack → ⊥
+until_given Ending.Wait d = none_some d
+until_given _ d = cc d
+
+-- who waits or leaves notifies nobody there
+silent : (c : Course) → (is_waiting c ≡ true) ⊎ (course.is_cancelling c ≡ true) → may_tell c ≡ false
+silent (course.waiting s) h = refl
+silent (course.cancelling s) h = refl
+silent _ (inl h) = absurd (cc h)
+silent _ (inr h) = absurd (cc h)
+
+cancels_back : (c : Course) → course.is_cancelling c ≡ true → decision c ≡ Some LockEnd.GivenBack
+cancels_back (course.cancelling s) h = refl
+cancels_back _ h = absurd (cc h)
 
 waits_plain : (c : Course) → is_waiting c ≡ true → counted c ≡ 0 → c ≡ course.waiting false
 waits_plain (course.waiting true) w h = absurd (omega (arith, h))
@@ -174,6 +229,52 @@ module _ (t u : Table Barrier) (m : Move) (a : Answer) (w : Within) (k : Acting 
       let it = dropped_by k.found (waits_plain c there.1 uncounted) (subst P there.0 k.acts.lock) in
       (k.answer ∙ (ap (λ y. answer_by (next_of y k.found)) there.0 ∙ it.0), it.1)
 
+  other_by : (k.from ≡ CancelLeave) ⊎ (k.from ≡ Abandon) → (a ≡ Answer.GivenBack) × (new.lock_list ≡ old.lock_list)
+  other_by (inl at) = let P : Place → Type 0 = λ y. OnLock i p (action_of y) k.found t.machine.lock u.machine.lock in
+      (k.answer ∙ ap (λ y. answer_by (next_of y k.found)) at, ap (λ l. l.entries) (subst P at k.acts.lock))
+  other_by (inr at) = let P : Place → Type 0 = λ y. OnLock i p (action_of y) k.found t.machine.lock u.machine.lock in
+      (k.answer ∙ ap (λ y. answer_by (next_of y k.found)) at, ap (λ l. l.entries) (subst P at k.acts.lock))
+
+  other_so : is_drop m.what ≡ true → entries_of p old.lock_list ≡ 0 → (a ≡ Answer.GivenBack) × (new.lock_list ≡ old.lock_list)
+  other_so drops none = other_by (drops_off m.what x c k.from drops k.starts (k.old_laws.links p) (sym (k.old_laws.lock.owners p) ∙ none))
+
+  abbrev Quiet : Type 0
+  Quiet = (new.lock_list ≡ old.lock_list) ⊎ (new.lock_list ≡ list_after p leaves old.lock_list)
+
+  quiet_deed : (d : Deed mutex.Change mutex.ListName) → mutex.gives_back d ≡ true → MayDo p d t.machine.lock → may_tell c ≡ false → new.lock_list ≡ lock_entries_after p d old.lock_list → Quiet
+  quiet_deed nothing g may h e = inl e
+  quiet_deed (changes x) g may h e = inl e
+  quiet_deed (does mutex.for_the_lock joins) g may h e = absurd (cc g)
+  quiet_deed (does mutex.for_the_lock asks) g may h e = absurd (cc g)
+  quiet_deed (does mutex.for_the_lock leaves) g may h e = inr e
+  quiet_deed (does mutex.for_the_lock (notifies n)) g may h e = absurd (true≢false (sym may.1 ∙ h))
+  quiet_deed (does mutex.for_the_lock (notifies_additionally n)) g may h e = absurd may
+
+  quiet_step : (decided : Option LockEnd) (s : LockStep) → IsLegal i.memory p decided s t.machine.lock u.machine.lock → decided ≡ Some LockEnd.GivenBack → may_tell c ≡ false → Quiet
+  quiet_step decided s l is h = quiet_deed l.deed (l.kept LockEnd.GivenBack is).1 l.allowed h l.entries
+
+  quiet_by : (y : Place) (f : Found) → Drops c y → OnLock i p (action_of y) f t.machine.lock u.machine.lock → Quiet
+  quiet_by CancelLock (Found.Lock s) d l = quiet_step (Some LockEnd.GivenBack) s l.legal refl (silent c (inl (d.waits refl)))
+  quiet_by CancelLock _ d l = absurd l
+  quiet_by CancellingLock (Found.Lock s) d l = quiet_step (decision c) s l.legal (cancels_back c (d.cancels refl)) (silent c (inr (d.cancels refl)))
+  quiet_by CancellingLock _ d l = absurd l
+  quiet_by CancelLeave f d l = inl (ap (λ z. z.entries) l)
+  quiet_by Abandon f d l = inl (ap (λ z. z.entries) l)
+  quiet_by (TakeLock b) f d l = absurd (never_given (decision c) d.verdict)
+  quiet_by NotifyAll f d l = (let v = d.verdict in absurd (cc v))
+  quiet_by (ReleaseLock e) f d l = absurd (until_given e d.verdict)
+  quiet_by (ReleasingLock e) f d l = absurd (until_given e d.verdict)
+  quiet_by _ f d l = absurd (none_some d.verdict)
+
+  quiet_from : (is_drop m.what ≡ true) ⊎ ((within : Within) × (standing_of old p ≡ inside within (Some Answer.GivenBack))) → Drops c k.from
+  quiet_from (inl drops) = begins_drop m.what x c k.from drops k.starts (k.old_laws.links p)
+  quiet_from (inr (within, at)) =
+      let stood : stands_as (verdict x c) (stage_at t.stages p) ≡ inside within (Some Answer.GivenBack) = sym (acting.stood t u m a w k) ∙ at in
+      let there = inside_as (verdict x c) (stage_at t.stages p) within (Some Answer.GivenBack) stood in
+      let here : x ≡ At k.from = going_here w (stage_at t.stages p) within m.what x k.from k.call there.0 k.starts in
+      let F : Position → Type 0 = λ z. fits_lock (in_lock z) c ≡ true in
+      goes_on_drop k.from c (subst F here (k.old_laws.links p)) (ap (λ z. verdict z c) (sym here) ∙ there.1)
+
   -- where a refused party notifies
   refuses_by : (y : Place) (f : Found) (r : ℕ) → fits_lock (in_lock (At y)) c ≡ true → OnLock i p (action_of y) f t.machine.lock u.machine.lock → verdict_of y c ≡ Some (Answer.Refused r) → old.lock.holder ≢ Some p → listed_there c ≡ 0 → counted c ≡ 0
       → (answer_by (next_of y f) ≡ Answer.Refused r) × (u.machine.lock.entries ≡ notified t.machine.lock.entries 1)
@@ -206,4 +307,4 @@ module _ (t u : Table Barrier) (m : Move) (a : Answer) (w : Within) (k : Acting 
       (k.answer ∙ it.0, it.1)
 
   pub at_once : AnswersAtOnce old m a new
-  at_once = record { first_poll = first; locking = locking_so; listed = listed_so; abandons = λ drops pending some plain. abandons_so drops some plain; refuses = λ within r at apart none plain possible. refuses_so within r at apart none plain }
+  at_once = record { first_poll = first; locking = locking_so; listed = listed_so; abandons = λ drops pending some plain. abandons_so drops some plain; abandons_other = λ drops none possible. other_so drops none; only_leaves = λ h. quiet_by k.from k.found (quiet_from (dropping (standing_of old p) m.what h)) k.acts.lock; refuses = λ within r at apart none plain possible. refuses_so within r at apart none plain }

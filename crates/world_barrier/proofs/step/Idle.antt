@@ -1,5 +1,5 @@
 -- A move that does nothing is a legal step: one that its party may not make, and a poll of a future that has been ready.
-use Rattle.world_barrier.proofs.Prelude.{◌≡◌, ℕ, ◌+◌, true, false, None, refl, arith, sym, ◌∙◌, true≢false, Answer, Call, Move, What, Begin, Refusal, Rest, Standing, outside, call_in, refused, Decides, is_outside, is_possible, is_poll_after_ready, nothing, knows, Wait, World, standing_of, wait_of, has_to_tell, wait_then, call_of, IsCause, ChangesOneThing, TellsOnRelease, Carries, Legal, AnswersAtOnce, is_first_poll, is_later_poll, entries_in, Some, Option, inside, Within, is_drop, subst}
+use Rattle.world_barrier.proofs.Prelude.{◌≡◌, ℕ, ◌+◌, inl, true, false, None, refl, arith, sym, ◌∙◌, true≢false, Answer, Call, Move, What, Begin, Refusal, Rest, Standing, outside, call_in, refused, Decides, is_outside, is_possible, is_poll_after_ready, nothing, knows, Wait, World, standing_of, wait_of, has_to_tell, wait_then, call_of, IsCause, ChangesOneThing, TellsOnRelease, Carries, Legal, AnswersAtOnce, is_first_poll, is_later_poll, entries_in, Some, Option, inside, Within, is_drop, subst}
 use Rattle.world_base.proofs.of_table.Idle as idle
 use Rattle.world_base.proofs.of_table.Idle.{Idle, same_decides}
 use Rattle.world_barrier.proofs.step.Owns.{Standing_well}
@@ -20,12 +20,13 @@ record Again (s : Standing) (what : What) : Type 0 where
   first : (n : ℕ) → is_first_poll s what n ≡ false
   later : is_later_poll s what ≡ false
   wait : (b : Wait) → wait_then what (refused Refusal.Finished) b ≡ b
+  dropless : is_drop what ≡ false
   outside : is_outside s ≡ true
   outside_it : (u : Within) (d : Option Answer) → s ≡ inside u d → ⊥
 
 again : (s : Standing) (what : What) → is_poll_after_ready s what ≡ true → Again s what
-again (outside Rest.Holding) (Begin Call.Poll i) h = record { first = λ n. refl; later = refl; wait = λ b. refl; outside = refl; outside_it = λ u d e. cc e }
-again (outside Rest.Finished) (Begin Call.Poll i) h = record { first = λ n. refl; later = refl; wait = λ b. refl; outside = refl; outside_it = λ u d e. cc e }
+again (outside Rest.Holding) (Begin Call.Poll i) h = record { first = λ n. refl; later = refl; wait = λ b. refl; dropless = refl; outside = refl; outside_it = λ u d e. cc e }
+again (outside Rest.Finished) (Begin Call.Poll i) h = record { first = λ n. refl; later = refl; wait = λ b. refl; dropless = refl; outside = refl; outside_it = λ u d e. cc e }
 again _ _ h = absurd (cc)
 
 drop_possible : (what : What) → is_drop what ≡ true → call_in knows (outside Rest.Pending) what ≡ None → ⊥
@@ -89,6 +90,8 @@ module _ (w : World) (m : Move) (well : Standing_well w) where
     refuses = λ within r at apart unlisted plain possible. absurd (cc);
     listed = λ h some. absurd (later_possible s m.what h none);
     abandons = λ d pending some plain. (let S : Standing → Type 0 = λ z. call_in knows z m.what ≡ None in absurd (drop_possible m.what d (subst S pending none)));
+    abandons_other = λ d unlisted possible. absurd (cc possible);
+    only_leaves = λ h. inl refl;
   }
 
   module _ (h : is_poll_after_ready s m.what ≡ true) where
@@ -116,4 +119,6 @@ module _ (w : World) (m : Move) (well : Standing_well w) where
       refuses = λ within r at apart unlisted plain possible. absurd (so.outside_it within (Some (Answer.Refused r)) at);
       listed = λ g some. (let never = so.later in absurd (cc (g, never)));
       abandons = λ d pending some plain. (let S : Standing → Type 0 = λ z. is_poll_after_ready z m.what ≡ true in absurd (cc (subst S pending h)));
+      abandons_other = λ d unlisted possible. (let never = so.dropless in absurd (cc (d, never)));
+      only_leaves = λ h. inl refl;
     }
