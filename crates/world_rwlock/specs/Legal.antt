@@ -284,6 +284,8 @@ pub record AnswersAtOnce (old : World) (m : Move) (a : Answer) (new : World) : T
   -- The drop of a party that waits for the turn and isn't starved, or that waits to read, is one step: it leaves, and hands on there what it was told.
   pub abandons_turn : is_drop m.what ≡ true → standing_of old m.party ≡ outside Pending → 0 < entries_of m.party old.turn_list → is_starved old m.party ≡ false → (a ≡ answer.GivenBack) × (new.turn_list ≡ list_after m.party leaves old.turn_list)
   pub abandons_reading : is_drop m.what ≡ true → standing_of old m.party ≡ outside Pending → 0 < entries_of m.party old.no_writer → (a ≡ answer.GivenBack) × (new.no_writer ≡ list_after m.party leaves old.no_writer)
+  -- So is that of a future that stands in no list, but of an upgrade, and it does nothing in the lists.
+  pub abandons_unlisted : is_drop m.what ≡ true → standing_of old m.party ≡ outside Pending → entries_in old m.party ≡ 0 → is_upgrader old m.party ≡ false → (a ≡ answer.GivenBack) × LeavesLists old new
   -- A call for the turn that is to be refused, has not the turn, stands in its list no more and isn't starved for it, notifies one there as it ends; and so does a read that is to be refused, among those that wait to read.
   pub refuses_turn : (within : Within) (r : ℕ) → standing_of old m.party ≡ inside within (Some (answer.Refused r)) → is_for_turn (sought_by old m.party) ≡ true → (HasTurn old.state.turn m.party → ⊥) → entries_of m.party old.turn_list ≡ 0 → is_starved old m.party ≡ false → is_possible a ≡ true
       → (a ≡ answer.Refused r) × (new.turn_list ≡ notified old.turn_list 1)

@@ -8,6 +8,9 @@ use Rattle.world_mutex.proofs.of_machine.callers.Holders as sees
 use Rattle.world_rwlock.proofs.step.Acting.{Acting, says}
 use Rattle.world_rwlock.proofs.step.Asked.{in_turn_list, in_no_writer_list}
 use Rattle.world_rwlock.proofs.step.Idle.{stood}
+use Rattle.world_rwlock.proofs.Prelude.{OnNoReaders, Wanted, in_no_writer, in_no_readers, is_upgrade, is_upgrader, entries_in, starved_of, LeavesLists}
+use Rattle.world_rwlock.proofs.step.AtOnce.{Lists, waits_for_turn}
+use Rattle.world_rwlock.proofs.table.Begun.{at_future}
 
 drops_so : (what : What) → is_drop what ≡ true → (i : Inputs) × (what ≡ Begin Call.Drop i)
 drops_so (Begin Call.Drop i) h = (i, refl)
@@ -25,6 +28,16 @@ turn_drops memory starving p v _ l k o waits = absurd o
 reading_drops : (p v : ℕ) (f : Found) (l m : List (Entry ℕ)) → OnNoWriter p Action.LeaveNoWriter f l m → (answer_by v (next_of Place.CancelRead f) ≡ Answer.GivenBack) × (m ≡ list_after p leaves l)
 reading_drops p v Found.Done l m o = (refl, o)
 reading_drops p v _ l m o = absurd o
+
+-- a future in no list, but of an upgrade, is as when it was made
+in_none : (x : Place) → is_future x ≡ true → in_no_writer x ≡ 0 → in_no_readers x ≡ 0 → waits_for_turn x ≡ false → is_upgrade x ≡ false → (wanted : Wanted) × (x ≡ Place.Made wanted)
+in_none = at_future (λ x. in_no_writer x ≡ 0 → in_no_readers x ≡ 0 → waits_for_turn x ≡ false → is_upgrade x ≡ false → (wanted : Wanted) × (x ≡ Place.Made wanted)) (record {
+  made = λ w reading writing turn plain. (w, refl);
+  no_writer = λ reading writing turn plain. absurd (omega (arith, reading));
+  turn = λ q reading writing turn plain. absurd (cc turn);
+  no_readers = λ upgrade reading writing turn plain. absurd (omega (arith, writing));
+  upgrade = λ reading writing turn plain. absurd (cc plain);
+})
 
 module _ (t u : Table Guarded) (m : Move) (a : Answer) (w : Within) (c : Acting t u m a w) (drops : is_drop m.what ≡ true) (pending : standing_of (view_of t) m.party ≡ outside Rest.Pending) where
   abbrev p : ℕ
@@ -66,3 +79,15 @@ module _ (t u : Table Guarded) (m : Move) (a : Answer) (w : Within) (c : Acting 
       let A : Place → Type 0 = λ x. a ≡ answer_by t.machine.value (next_of x c.acts.found) in
       let it = reading_drops p t.machine.value c.acts.found t.machine.lock.no_writer u.machine.lock.no_writer (subst O from c.acts.no_writer) in
       (subst A from (says t u m a w c) ∙ it.0, it.1)
+
+  pub from_nowhere : Lists (entries_in (view_of t) p) (is_upgrader (view_of t) p) here → entries_in (view_of t) p ≡ 0 → is_upgrader (view_of t) p ≡ false → (a ≡ Answer.GivenBack) × LeavesLists (view_of t) (view_of u)
+  from_nowhere k none plain =
+      let is = in_none here future (k.no_writer none) (k.no_readers none) (k.turn none) (sym k.upgrade ∙ plain) in
+      let S : Place → Type 0 = λ y. place_for (Begin Call.Drop starts.0) y ≡ Some c.from in
+      let from : c.from ≡ Place.Out = sym (some_eq (subst S is.1 starts.1)) in
+      let O : Place → Type 0 = λ x. OnTurn (inputs_of m.what).memory (inputs_of m.what).starving p (action_of x) c.acts.found t.machine.lock.turn u.machine.lock.turn in
+      let W : Place → Type 0 = λ x. OnNoWriter p (action_of x) c.acts.found t.machine.lock.no_writer u.machine.lock.no_writer in
+      let R : Place → Type 0 = λ x. OnNoReaders p (action_of x) c.acts.found t.machine.lock.no_readers u.machine.lock.no_readers in
+      let A : Place → Type 0 = λ x. a ≡ answer_by t.machine.value (next_of x c.acts.found) in
+      let still : u.machine.lock.turn ≡ t.machine.lock.turn = subst O from c.acts.turn in
+      (subst A from (says t u m a w c), record { turn_list = ap (λ l. l.entries) still; no_writer = subst W from c.acts.no_writer; no_readers = subst R from c.acts.no_readers; starved = ap starved_of still })

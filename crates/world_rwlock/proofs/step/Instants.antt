@@ -243,6 +243,7 @@ record Refuses (old : World) (m : Move) (a : Answer) (new : World) : Type 0 wher
 record Abandons (old : World) (m : Move) (a : Answer) (new : World) : Type 0 where
   pub from_turn : is_drop m.what ≡ true → standing_of old m.party ≡ outside Rest.Pending → 0 < entries_of m.party old.turn_list → is_starved old m.party ≡ false → (a ≡ Answer.GivenBack) × (new.turn_list ≡ list_after m.party leaves old.turn_list)
   pub from_reading : is_drop m.what ≡ true → standing_of old m.party ≡ outside Rest.Pending → 0 < entries_of m.party old.no_writer → (a ≡ Answer.GivenBack) × (new.no_writer ≡ list_after m.party leaves old.no_writer)
+  pub from_nowhere : is_drop m.what ≡ true → standing_of old m.party ≡ outside Rest.Pending → entries_in old m.party ≡ 0 → is_upgrader old m.party ≡ false → (a ≡ Answer.GivenBack) × LeavesLists old new
 
 acted_at_once : (t u : Table Guarded) (m : Move) (a : Answer) (from : Place) → Acted t u m a from → Begins (view_of t) m from → Asking (λ w. w.turn_list) (view_of t) m a (view_of u) → Asking (λ w. w.no_writer) (view_of t) m a (view_of u) → InLists t u m from → Abandons (view_of t) m a (view_of u) → Refuses (view_of t) m a (view_of u) → TellsOnRelease (view_of t) m a (view_of u) → AnswersAtOnce (view_of t) m a (view_of u)
 acted_at_once t u m a from y b for_turn to_read l abandons refuses gives_up =
@@ -271,6 +272,7 @@ acted_at_once t u m a from y b for_turn to_read l abandons refuses gives_up =
       listed_to_read = to_read;
       abandons_turn = abandons.from_turn;
       abandons_reading = abandons.from_reading;
+      abandons_unlisted = abandons.from_nowhere;
       refuses_turn = λ within r at sought without none plain possible. refuses.for_turn within r at sought without none plain;
       refuses_read = λ within r at sought none possible. refuses.to_read within r at sought none;
       gives_up = gives_up;
@@ -332,7 +334,7 @@ module _ (t u : Table Guarded) (m : Move) (a : Answer) (w : Within) (c : Acting 
         decides = decided;
       }) begins (asked.for_turn t u m a w c) (asked.to_read t u m a w c)
       (record { found = c.acts.found; turn = c.acts.turn; no_writer = c.acts.no_writer; no_readers = c.acts.no_readers })
-      (record { from_turn = λ d pending. dropped.from_turn t u m a w c d pending; from_reading = λ d pending. dropped.from_reading t u m a w c d pending })
+      (record { from_turn = λ d pending. dropped.from_turn t u m a w c d pending; from_reading = λ d pending. dropped.from_reading t u m a w c d pending; from_nowhere = λ d pending. dropped.from_nowhere t u m a w c d pending (lists t m.party c.old) })
       (record { for_turn = refusing.for_turn t u m a w c; to_read = refusing.to_read t u m a w c })
       (owing.releases t u m a w c)
 
@@ -406,6 +408,7 @@ still_at_once t m a after k at holds same_turn same_readers same_owing =
       listed_to_read = λ i polls pending. absurd (cc (sym is ∙ pending));
       abandons_turn = λ d pending. absurd (cc (sym is ∙ pending));
       abandons_reading = λ d pending. absurd (cc (sym is ∙ pending));
+      abandons_unlisted = λ d pending. absurd (cc (sym is ∙ pending));
       refuses_turn = λ within r at sought without none plain b. absurd (outside_apart s Rest.Holding within (Some (Answer.Refused r)) is at);
       refuses_read = λ within r at sought none b. absurd (outside_apart s Rest.Holding within (Some (Answer.Refused r)) is at);
       gives_up = owing.keeps_owing (view_of t) m a after same_turn same_owing (λ r none. none_left (view_of t) m.party r (sym (ap how_many same_readers) ∙ none)) (λ list h possible. (let inside = owes_outside t list m.party k h in let out : is_outside s ≡ true = ap is_outside is in cc (inside, out)));
@@ -473,6 +476,7 @@ impossible_at_once w m none =
       listed_to_read = λ i polls pending. absurd (never_polls s o m.what i polls pending none);
       abandons_turn = λ d pending. absurd (never_drops s o m.what d pending none);
       abandons_reading = λ d pending. absurd (never_drops s o m.what d pending none);
+      abandons_unlisted = λ d pending. absurd (never_drops s o m.what d pending none);
       refuses_turn = λ within r at sought without unlisted plain h. absurd (cc);
       refuses_read = λ within r at sought unlisted h. absurd (cc);
       gives_up = owing.keeps_owing w m Answer.NotPossible w refl refl (λ r left. none_left w m.party r left) (λ list h possible. cc possible);
