@@ -1,6 +1,6 @@
 -- Runs of a barrier that no user would accept. Each record is one wrong run: what its steps would be, if it were legal.
 use Rattle.std.specs.Prelude.{◌≡◌, ◌≢◌, ℕ, ◌<◌, ◌≤◌, ◌⊎◌, Bool, true, false, List, [], ◌∷◌, length, Some, None}
-use Rattle.lock_event.specs.Lists.{marked_count, is_marked_at}
+use Rattle.lock_event.specs.Lists.{entry, notified, marked_count, is_marked_at}
 use Rattle.lock_event.specs.declared.event.Mark.TheVariants.{Waiting}
 use Rattle.world_base.specs.queue.Parties.{is_party, entries_of}
 use Rattle.world_base.specs.declared.moves.Answer.{Answer}
@@ -471,6 +471,24 @@ pub record DropDawdles : Type 0 where
   pub listed : 0 < entries_of step.move.party step.old.lock_list
   pub unstarved : is_starved step.old.lock step.move.party ≡ false
   pub goes_on : step.answer ≡ answer.Stepped
+  pub legal : IsAtOnce step
+
+-- The drop of a wait that doesn't stand in the inner lock's list goes on.
+pub record OtherDropDawdles : Type 0 where
+  pub step : Step
+  pub drops : is_drop step.move.what ≡ true
+  pub unlisted : entries_of step.move.party step.old.lock_list ≡ 0
+  pub goes_on : step.answer ≡ answer.Stepped
+  pub legal : IsAtOnce step
+
+-- The first step of the drop of a wait that stands in the inner lock's list notifies another there, whatever it was told itself.
+pub record DropTells : Type 0 where
+  pub step : Step
+  pub drops : is_drop step.move.what ≡ true
+  pub party : step.move.party ≡ 0
+  pub pending : standing_of step.old step.move.party ≡ outside Pending
+  pub before : step.old.lock_list ≡ entry 1 Waiting ∷ entry 0 Waiting ∷ []
+  pub tells : step.new.lock_list ≡ notified step.old.lock_list 1
   pub legal : IsAtOnce step
 
 -- Two parties are told of one inner lock.

@@ -16,7 +16,7 @@ use Rattle.world_base.specs.Standings.{outside, inside, is_possible, refused}
 use Rattle.world_base.specs.Rosters.{how_many}
 use Rattle.world_rwlock.specs.Bound.{IsSoloForTurn, IsToldToRead, IsSoloToWrite}
 use Rattle.world_rwlock.specs.Legal.{may_read, is_first}
-use Rattle.world_rwlock.specs.State.{ListName, list_of, nobody, is_marked, HasTurn, World, standing_of, sought_by, reads, how_many_read, is_starved}
+use Rattle.world_rwlock.specs.State.{ListName, list_of, nobody, is_marked, HasTurn, World, standing_of, sought_by, reads, how_many_read, is_starved, entries_in, is_upgrader}
 use Rattle.world_base.specs.Standings.{is_outside, is_decided}
 use Rattle.world_base.specs.Steps.{does, notifies, notifies_additionally}
 use Rattle.world_rwlock.specs.Laws.{is_at_rest, IsSound, IsDueForTurn, IsDueToReaders, IsDueToWriter, is_due_for_turn, is_due_to_readers, is_refused}
@@ -466,6 +466,26 @@ pub record ReadersDropDawdles : Type 0 where
   pub pending : standing_of step.old step.move.party ≡ outside Pending
   pub listed : 0 < entries_of step.move.party step.old.no_writer
   pub goes_on : step.answer ≡ answer.Stepped
+  pub legal : IsAtOnce step
+
+-- The drop of a future that stands in no list, and is no upgrade's, goes on.
+pub record UnlistedDropDawdles : Type 0 where
+  pub step : Step
+  pub drops : is_drop step.move.what ≡ true
+  pub pending : standing_of step.old step.move.party ≡ outside Pending
+  pub unlisted : entries_in step.old step.move.party ≡ 0
+  pub plain : is_upgrader step.old step.move.party ≡ false
+  pub goes_on : step.answer ≡ answer.Stepped
+  pub legal : IsAtOnce step
+
+-- It notifies one of those that wait for the turn, whom it has nothing to tell.
+pub record UnlistedDropTells : Type 0 where
+  pub step : Step
+  pub drops : is_drop step.move.what ≡ true
+  pub pending : standing_of step.old step.move.party ≡ outside Pending
+  pub unlisted : entries_in step.old step.move.party ≡ 0
+  pub plain : is_upgrader step.old step.move.party ≡ false
+  pub tells : marked_count step.old.turn_list < marked_count step.new.turn_list
   pub legal : IsAtOnce step
 
 -- A starved write that is told of the free turn doesn't take it, however many read.

@@ -5,7 +5,7 @@ ghost use Rattle.test_definitions.specs.BarrierTable.{beginnings, actions, follo
 ghost use Rattle.sync_program.specs.Barrier.{action_of, next_of};
 ghost use Rattle.world_barrier.specs.program.Program.{start_of};
 ghost use Rattle.test_definitions.specs.Never.{Never};
-ghost use Rattle.test_definitions.specs.Barrier.{TwoLeaders, LeadsInTheMidst, HasNoLeader, CountedTwice, TakenBack, FollowsTooSoon, CountedUnlisted, CountedWithoutLock, WaitsUncounted, KeepsTheLock, RefusedAndCounted, RefusedTooSoon, LeftAsleep, LeadsUntold, ReadyUntried, RefusedInVain, WaitsForNothing, PassesOverInVain, KeepsItsTold, LooksInVain, WakesAll, SleepsThoughFree, SleepsBesideAPoll, StarvedHavingTaken, StarvedTwice, StarvedAtFirst, StarvedForNothing, WakesInARing, ReleasesSilently, RefusedSilently, EndsByReleasing, ReleasesUntold, RefusedUnneeded, StarvedUnwaited, CountsUnwaited, OvertakesStarved, NeverStarved, PassesTheStarved, OvertakenInTheMidst, LeavesCounted, DropDawdles, TwoToldOfLock, EndsLate};
+ghost use Rattle.test_definitions.specs.Barrier.{TwoLeaders, LeadsInTheMidst, HasNoLeader, CountedTwice, TakenBack, FollowsTooSoon, CountedUnlisted, CountedWithoutLock, WaitsUncounted, KeepsTheLock, RefusedAndCounted, RefusedTooSoon, LeftAsleep, LeadsUntold, ReadyUntried, RefusedInVain, WaitsForNothing, PassesOverInVain, KeepsItsTold, LooksInVain, WakesAll, SleepsThoughFree, SleepsBesideAPoll, StarvedHavingTaken, StarvedTwice, StarvedAtFirst, StarvedForNothing, WakesInARing, ReleasesSilently, RefusedSilently, EndsByReleasing, ReleasesUntold, RefusedUnneeded, StarvedUnwaited, CountsUnwaited, OvertakesStarved, NeverStarved, PassesTheStarved, OvertakenInTheMidst, LeavesCounted, DropDawdles, OtherDropDawdles, DropTells, TwoToldOfLock, EndsLate};
 
 /// Each clause says of one wrong run that it isn't legal.
 fn wrong_runs()
@@ -50,6 +50,8 @@ fn wrong_runs()
     ensures overtaken_in_the_midst { Never (OvertakenInTheMidst) }
     ensures leaves_counted { Never (LeavesCounted) }
     ensures drop_dawdles { Never (DropDawdles) }
+    ensures other_drop_dawdles { Never (OtherDropDawdles) }
+    ensures drop_tells { Never (DropTells) }
     ensures two_told_of_lock { Never (TwoToldOfLock) }
     ensures ends_late { Never (EndsLate) }
 {}

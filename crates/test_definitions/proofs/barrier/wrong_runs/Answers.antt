@@ -3,25 +3,30 @@ use Rattle.std.proofs.Common.{◌≡◌, ◌≢◌, ◌⊎◌, Some, ℕ, zero, 
 use Rattle.std.proofs.Math.Nat.{mul_comm, div-add-mod}
 use Rattle.std.proofs.lemmas.Bool.{false≢true}
 use Rattle.std.proofs.lemmas.Nat.{le-div}
-use Rattle.lock_event.specs.Lists.{is_marked_at}
+use Rattle.lock_event.specs.Lists.{entry, notified, marked_count, is_marked_at}
+use Rattle.lock_event.specs.declared.event.Entry.{Entry}
+use Rattle.lock_event.specs.declared.event.Mark.TheVariants.{Waiting, Notified}
 use Rattle.world_base.specs.queue.Parties.{is_party}
 use Rattle.world_base.specs.declared.moves.Answer.{Answer}
 use Rattle.world_base.specs.declared.moves.Answer.TheVariants as answer
 use Rattle.world_base.specs.declared.moves.Got.TheVariants as got
 use Rattle.world_base.specs.declared.moves.Move.{Move}
+use Rattle.world_base.specs.declared.moves.What.{What}
 use Rattle.lock_program.specs.declared.refusal.Refusal.{Refusal}
 use Rattle.lock_program.specs.declared.refusal.Refusal.TheVariants as refusal
 use Rattle.world_base.specs.declared.standing.Rest.TheVariants.{Pending}
 use Rattle.lock_program.specs.Refusals.{number_of}
-use Rattle.world_base.specs.Standings.{outside, inside, refused}
-use Rattle.world_base.specs.Steps.{Deed, nothing, changes, does}
+use Rattle.world_base.specs.Standings.{Standing, outside, inside, refused, is_possible}
+use Rattle.world_base.specs.Frame.{is_drop}
+use Rattle.world_base.specs.Steps.{Deed, nothing, changes, does, leaves, list_after}
+use Rattle.world_barrier.specs.AtOnce.{is_dropping}
 use Rattle.world_barrier.specs.machine.Waits.{Wait, no_wait, uncounted, counted}
 use Rattle.world_barrier.specs.Bound.{ComesTo, IsNotified, IsToldOfLock}
 use Rattle.world_barrier.specs.Changes.{Change, takes, releases, starves, recovers, arrives, arrivals_after}
 use Rattle.world_barrier.specs.declared.world.ListName.{ListName}
 use Rattle.world_barrier.specs.Legal.{IsAllowed, MayArrive, IsCause, IsOutOfMemory, IsOutOfGenerations, HasItsOwn, HasToWait, next_arrival}
 use Rattle.world_barrier.specs.Numbers.{Leads, IsFinished, generations_of}
-use Rattle.world_barrier.specs.State.{World, wait_of, has_to_tell}
+use Rattle.world_barrier.specs.State.{World, standing_of, wait_of, has_to_tell}
 use Rattle.world_barrier.proofs.Numbers.{next_generation}
 use Rattle.test_definitions.specs.Barrier.{Step, Meanwhile}
 use Rattle.test_definitions.proofs.barrier.wrong_runs.Goals as goal
@@ -331,6 +336,25 @@ returns-clause-leaves_counted c = λ r. (
 
 pub returns-clause-drop_dawdles : goal.returns-clause-drop_dawdles
 returns-clause-drop_dawdles c = λ r. (let ended = (r.legal.abandons r.drops r.pending r.listed r.unstarved).0 in absurd (cc (ended, r.goes_on)))
+
+pub returns-clause-other_drop_dawdles : goal.returns-clause-other_drop_dawdles
+returns-clause-other_drop_dawdles c = λ r. (let ended = (r.legal.abandons_other r.drops r.unlisted (ap is_possible r.goes_on)).0 in absurd (cc (ended, r.goes_on)))
+
+-- neither the list as it was nor without the party is one where the other is marked
+tells_none : (p : ℕ) (what : What) (s : Standing) (l n : List (Entry ℕ)) → is_drop what ≡ true → p ≡ 0 → s ≡ outside Pending → l ≡ entry 1 Waiting ∷ entry 0 Waiting ∷ [] → n ≡ notified l 1 → (is_dropping s what ≡ true → (n ≡ l) ⊎ (n ≡ list_after p leaves l)) → ⊥
+tells_none p what s l n drops first pending before tells only = cases (only (ap (λ z. is_dropping z what) pending ∙ drops)) where
+  marked : n ≡ entry 1 Notified ∷ entry 0 Waiting ∷ []
+  marked = tells ∙ ap (λ z. notified z 1) before
+
+  left : list_after p leaves l ≡ entry 1 Waiting ∷ []
+  left = ap (λ z. list_after p leaves z) before ∙ ap (λ z. list_after z leaves (entry 1 Waiting ∷ entry 0 Waiting ∷ [])) first
+
+  cases : (n ≡ l) ⊎ (n ≡ list_after p leaves l) → ⊥
+  cases (inl e) = let more = ap (λ z. marked_count z) (sym marked ∙ (e ∙ before)) in omega (arith, more)
+  cases (inr e) = let more = ap (λ z. marked_count z) (sym marked ∙ (e ∙ left)) in omega (arith, more)
+
+pub returns-clause-drop_tells : goal.returns-clause-drop_tells
+returns-clause-drop_tells c = λ r. tells_none r.step.move.party r.step.move.what (standing_of r.step.old r.step.move.party) r.step.old.lock_list r.step.new.lock_list r.drops r.party r.pending r.before r.tells r.legal.only_leaves
 
 pub returns-clause-overtaken_in_the_midst : goal.returns-clause-overtaken_in_the_midst
 returns-clause-overtaken_in_the_midst c = λ r. (let few = r.seldom r.party r.steps 1 r.new r.overtaken in absurd (omega (arith, few, r.first, r.idle)))

@@ -520,6 +520,12 @@ returns-clause-drop_dawdles c = λ r. (let ended = (r.legal.abandons_turn r.drop
 pub returns-clause-readers_drop_dawdles : goal.returns-clause-readers_drop_dawdles
 returns-clause-readers_drop_dawdles c = λ r. (let ended = (r.legal.abandons_reading r.drops r.pending r.listed).0 in absurd (cc (ended, r.goes_on)))
 
+pub returns-clause-unlisted_drop_dawdles : goal.returns-clause-unlisted_drop_dawdles
+returns-clause-unlisted_drop_dawdles c = λ r. (let ended = (r.legal.abandons_unlisted r.drops r.pending r.unlisted r.plain).0 in absurd (cc (ended, r.goes_on)))
+
+pub returns-clause-unlisted_drop_tells : goal.returns-clause-unlisted_drop_tells
+returns-clause-unlisted_drop_tells c = λ r. (let same = (r.legal.abandons_unlisted r.drops r.pending r.unlisted r.plain).1.turn_list in absurd (omega (arith, ap (λ l. marked_count l) same, r.tells)))
+
 pub returns-clause-write_passes_over : goal.returns-clause-write_passes_over
 returns-clause-write_passes_over c = λ r. elim ((r.kept.turn r.polls r.solo r.free).takes (inl r.starved)) as (λ _. ⊥) [ inl took ↦ r.without took.has_turn | inr met ↦ (let same : Some write ≡ Some upgradable = sym r.writes ∙ met.0.0 in cc same) ]
 
