@@ -2,3 +2,4 @@
 pub mod Bound
 pub mod InTurn
 pub mod Ending
+pub mod Patience

@@ -10,6 +10,7 @@ pub mod Laws
 pub mod Steps
 pub mod Runs
 pub mod Whole
+pub mod Waking
 pub mod Bound
 pub mod Overtaking
 pub mod Openings

@@ -18,6 +18,7 @@ ghost use Rattle.world_barrier.specs.State.{new_world, list_in, wait_of, World a
 ghost use Rattle.world_barrier.specs.Steps.{Steps};
 ghost use Rattle.world_barrier.specs.Laws.{IsSound, IsAwake, IsWanted, is_at_rest};
 ghost use Rattle.world_barrier.specs.Whole.{EndsSoon};
+ghost use Rattle.world_barrier.specs.Waking.{StarvesForCause};
 ghost use Rattle.world_barrier.specs.Runs.{Runs, leaders};
 ghost use Rattle.world_barrier.specs.Bound.{IsBounded};
 ghost use Rattle.world_barrier.specs.Overtaking.{IsOvertakenSeldomInSteps};
@@ -153,11 +154,13 @@ impl World {
     /// What always holds of a World, between any two moves: each party has what its standing says, each
     /// arrival is of one wait at most, and while nobody holds the inner lock each listed wait of a finished
     /// generation has been notified. At rest nobody holds it, and no notification is lost. A call that
-    /// is decided ends within three further steps of its own, whatever others do meanwhile. It does nothing.
+    /// is decided ends within three further steps of its own, whatever others do meanwhile. Nobody is counted as starved for the
+    /// inner lock that hasn't waited for too long, and meets nobody starved where it steps. It does nothing.
     pub fn laws(&self)
         ensures sound { IsSound self.now }
         ensures awake { is_at_rest self.now ≡ true → IsAwake self.now }
         ensures ends_soon { EndsSoon self.now }
+        ensures starves_for_cause { StarvesForCause self.now }
     {
         self.table.laws();
         self.table.machine().laws();

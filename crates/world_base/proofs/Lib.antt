@@ -4,6 +4,7 @@ pub mod Alike
 pub mod Bounds
 pub mod Overtaking
 pub mod Ending
+pub mod Patience
 pub mod Draining
 pub mod OneMarked
 pub mod Equations

@@ -151,7 +151,7 @@ module _ (w : World) (m : Move) (a : Answer) (v : World) (s : Steps w m a v) (q 
       (λ u e f k. ap (λ ps. position_at ps q) k.acts.acts.positions ∙ get_or-set_other c.positions m.party q (position_after (next_of k.acts.from k.acts.found)) Out apart)
       (way known_calls Rest.Finished Moves w.behind v.behind m a s.did.step)
 
-  same_there : q ≢ m.party → course_of v q ≡ course_of w q
+  pub same_there : q ≢ m.party → course_of v q ≡ course_of w q
   same_there apart = same_course q m.party c.lock d.lock apart (acts_or_not (call_at knows (stage_at w.behind.stages m.party) m.what) (polls_again (stage_at w.behind.stages m.party) m.what) w.behind m a v.behind s.did.step)
 
   keeps : q ≢ m.party → is_decided (standing_of w q) ≡ true → last_left_of v q ≤ last_left_of w q

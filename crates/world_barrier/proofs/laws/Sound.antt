@@ -308,7 +308,7 @@ module _ (t : Table Barrier) (laws : IsBarrier t.machine) (fits : IsBarrierTable
       (λ past. absurd (some (past_last xs q Out (omega (arith, past, fits.as_many)))))
       (λ inside. fits.stands q inside)
 
-  rests_outside : (q : ℕ) → is_outside (standing_of (view_of t) q) ≡ true → is_resting (x_of q) ≡ true
+  pub rests_outside : (q : ℕ) → is_outside (standing_of (view_of t) q) ≡ true → is_resting (x_of q) ≡ true
   rests_outside q out = by_stage_or_past t.stages q (is_resting (x_of q) ≡ true)
       (λ past. ap is_resting (past_last xs q Out (omega (arith, past, fits.as_many))))
       (λ inside. resting (stage_at t.stages q) (x_of q) (fits.stands q inside) (sym (outside_so (verdict_in t.machine q) (stage_at t.stages q)) ∙ (ap is_outside (sym (seen.standing_seen t q)) ∙ out)))

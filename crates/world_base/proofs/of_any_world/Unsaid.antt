@@ -20,7 +20,7 @@ module _ {W : Type 0} (Steps : W → Move → Answer → W → Type 0) (standing
   impossible_is _ h = absurd (cc h)
 
   -- nor is it after a step that doesn't decide it so
-  never : (x : W) (m : Move) (a : Answer) (v : W) → Steps x m a v → (DecidesOn standing_of x m a v b → ⊥) → Undone m.party x → decision a (standing_of v m.party) ≡ Some b → ⊥
+  pub never : (x : W) (m : Move) (a : Answer) (v : W) → Steps x m a v → (DecidesOn standing_of x m a v b → ⊥) → Undone m.party x → decision a (standing_of v m.party) ≡ Some b → ⊥
   never x m a v s decides_not undone d = by_decided (is_decided (standing_of x m.party)) refl where
     same : (e : Answer) (u : Within) → standing_of x m.party ≡ inside u (Some e) → e ≡ b → ⊥
     same e u at is = undone u (at ∙ ap (λ y. inside u (Some y)) is)
