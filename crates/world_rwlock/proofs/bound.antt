@@ -5,4 +5,5 @@ pub mod Bound
 pub mod InTurn
 pub mod Overtaking
 pub mod Ending
+pub mod Patience
 pub mod Drains

@@ -10,6 +10,7 @@ pub mod Stays
 pub mod View
 pub mod Runs
 pub mod Whole
+pub mod Waking
 pub mod Openings
 pub mod Lending
 pub mod Bound

@@ -12,6 +12,7 @@ ghost use Rattle.world_mutex.specs.machine.Behind.{place_behind};
 ghost use Rattle.world_rwlock.specs.Steps.{Steps};
 ghost use Rattle.world_rwlock.specs.Laws.{IsSound, IsAwake, IsTurnWanted, IsReadingWanted, IsWritingWanted, is_at_rest};
 ghost use Rattle.world_rwlock.specs.Whole.{EndsSoon};
+ghost use Rattle.world_rwlock.specs.Waking.{StarvesForCause};
 ghost use Rattle.world_rwlock.specs.Bound.{IsTurnBounded, IsReadingBounded, IsWritingBounded, LetsReadersIn};
 ghost use Rattle.world_rwlock.specs.Overtaking.{IsOvertakenSeldom, IsOvertakenSeldomInSteps};
 
@@ -147,11 +148,13 @@ impl World {
 
     /// What always holds of a World, between any two moves: rights that exclude each other don't coexist,
     /// each party has what its standing says, and at rest no notification is lost; and a call that is decided
-    /// ends within four further steps of its own, whatever others do meanwhile. It does nothing.
+    /// ends within four further steps of its own, whatever others do meanwhile. Nobody is counted as starved for the turn that
+    /// hasn't waited for too long, and meets nobody starved where it steps. It does nothing.
     pub fn laws(&self)
         ensures sound { IsSound self.now }
         ensures awake { is_at_rest self.now ≡ true → IsAwake self.now }
         ensures ends_soon { EndsSoon self.now }
+        ensures starves_for_cause { StarvesForCause self.now }
     {
         self.table.laws();
         self.table.machine().laws();

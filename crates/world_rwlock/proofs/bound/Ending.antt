@@ -211,7 +211,7 @@ module _ (w : World) (m : Move) (a : Answer) (v : World) (s : Steps w m a v) (q 
       (λ u e f d. same_by (put_in m.what) apart d.acts)
       (way knows_there Rest.Holding MovesThere w.behind v.behind m a s.did.step)
 
-  same_there : q ≢ m.party → course_there v q ≡ course_there w q
+  pub same_there : q ≢ m.party → course_there v q ≡ course_there w q
   same_there apart = same_course q m.party l.turn k.turn apart (acts_or_not (call_at (knows_there w.behind.machine m.party) (stage_at w.behind.stages m.party) m.what) (polls_again (stage_at w.behind.stages m.party) m.what) w.behind m a v.behind s.did.step)
 
   keeps : q ≢ m.party → is_decided (standing_of w q) ≡ true → last_left_of v q ≤ last_left_of w q

@@ -251,7 +251,7 @@ module _ (t : Table Guarded) (laws : IsRwLock t.machine.lock) (fits : IsRwLockTa
     | inr e ↦ rw e refl
   ]
 
-  rests_outside : (q : ℕ) → is_outside (standing_of w q) ≡ true → is_resting (place_at l.places q) ≡ true
+  pub rests_outside : (q : ℕ) → is_outside (standing_of w q) ≡ true → is_resting (place_at l.places q) ≡ true
   rests_outside q out = rests_there q (sym (outside_so (verdict_of t.machine q) (stage_at t.stages q)) ∙ (sym (ap is_outside (stood q)) ∙ out))
 
   owes_there : (list : ListName) (polls : Option Right → Bool) (q : ℕ) → due.Owing list t.machine.value (stage_at t.stages q) (place_at l.places q) (turn_at l.turn.courses q) (polls (sought_at (place_at l.places q))) → OwesIn list w q (polls (state.sought_by w q))

@@ -1,5 +1,6 @@
 -- What holds of the table holds as callers see it.
 use Rattle.world_rwlock.proofs.bound.Ending.{ends_soon}
+use Rattle.world_rwlock.proofs.bound.Patience.{starves_for_cause}
 use Rattle.world_rwlock.proofs.laws.Sound.{sound, awake}
 use Rattle.world_rwlock.proofs.world.World.laws.Goals as goal
 
@@ -11,3 +12,6 @@ returns-clause-awake c = rw (← c.self.view_is) (λ rests. awake c.self.inside.
 
 pub returns-clause-ends_soon : goal.returns-clause-ends_soon
 returns-clause-ends_soon c = ends_soon c.args.self.now
+
+pub returns-clause-starves_for_cause : goal.returns-clause-starves_for_cause
+returns-clause-starves_for_cause c = starves_for_cause c.args.self.now
