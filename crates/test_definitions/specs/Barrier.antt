@@ -27,6 +27,8 @@ use Rattle.world_barrier.specs.Overtaking.{starved_in, HoldsLock, IsOvertakenSel
 use Rattle.world_barrier.specs.Steps.{Steps}
 use Rattle.world_base.specs.Ending.{GoesOnFor}
 use Rattle.world_barrier.specs.Whole.{EndsSoon}
+use Rattle.world_base.specs.Patience.{StepsInPeace, IsInPeace}
+use Rattle.world_barrier.specs.Waking.{StarvesForCause}
 use Rattle.world_barrier.specs.Laws.{IsSound, IsAwake, is_at_rest}
 use Rattle.world_barrier.specs.Legal.{Legal, DecidesOn, HasToWait, next_arrival}
 use Rattle.world_barrier.specs.Numbers.{Leads, IsFinished, generations_of}
@@ -506,3 +508,31 @@ pub record EndsLate : Type 0 where
   pub decided : is_decided (standing_of old party) ≡ true
   pub goes_on : GoesOnFor Steps standing_of party steps 3 old new
   pub soon : EndsSoon old
+
+-- A party that was outside every call is counted as starved for the inner lock, though its clock said nothing, and nobody was starved where it stepped.
+pub record StarvedUnasked : Type 0 where
+  pub party : ℕ
+  pub steps : ℕ
+  pub old : World
+  pub new : World
+  pub outside : is_outside (standing_of old party) ≡ true
+  pub plain : is_starved old.lock party ≡ false
+  pub in_peace : StepsInPeace Steps standing_of (λ w. w.lock.starved) party steps old new
+  pub starved : is_starved new.lock party ≡ true
+  pub cause : StarvesForCause old
+
+-- Or it is refused so, as one too many of the starved, by one more such step.
+pub record RefusedUnasked : Type 0 where
+  pub party : ℕ
+  pub steps : ℕ
+  pub old : World
+  pub mid : World
+  pub move : Move
+  pub new : World
+  pub outside : is_outside (standing_of old party) ≡ true
+  pub plain : is_starved old.lock party ≡ false
+  pub in_peace : StepsInPeace Steps standing_of (λ w. w.lock.starved) party steps old mid
+  pub own : move.party ≡ party
+  pub last : IsInPeace Steps standing_of (λ w. w.lock.starved) party mid move
+  pub refused : Steps mid move (refused refusal.Starved) new
+  pub cause : StarvesForCause old

@@ -5,6 +5,7 @@ use Rattle.world_base.specs.queue.Parties.{entries_of}
 use Rattle.world_base.specs.declared.moves.Answer.TheVariants as answer
 use Rattle.world_base.specs.declared.moves.Call.TheVariants as call
 use Rattle.world_base.specs.declared.moves.Inputs.{Inputs}
+use Rattle.world_base.specs.declared.moves.Move.{Move}
 use Rattle.world_base.specs.declared.moves.What.TheVariants.{Begin}
 use Rattle.lock_program.specs.declared.refusal.Refusal.TheVariants.{Memory, Starved}
 use Rattle.lock_program.specs.declared.refusal.Refusal.TheVariants.{Readers}
@@ -35,6 +36,8 @@ use Rattle.world_base.specs.Ending.{GoesOnFor}
 use Rattle.world_base.specs.Bounds.{PolledInTurn}
 use Rattle.world_rwlock.specs.Bound.{PollsToRead, LetsReadersIn}
 use Rattle.world_rwlock.specs.Whole.{EndsSoon}
+use Rattle.world_base.specs.Patience.{StepsInPeace, IsInPeace}
+use Rattle.world_rwlock.specs.Waking.{StarvesForCause}
 use Rattle.world_base.specs.queue.Parties.{is_party}
 use Rattle.lock_event.specs.Lists.{is_marked_at, notified}
 use Rattle.test_definitions.specs.ReadWrite.{Step, IsLegal, IsAtOnce, Whole, Keeps}
@@ -594,3 +597,31 @@ pub record JoinsAtTheLimit : Type 0 where
   pub full : step.old.readers_limit ≤ how_many_read step.old
   pub unrefused : step.answer ≢ refused Readers
   pub legal : IsAtOnce step
+
+-- A party that was outside every call is counted as starved for the turn, though its clock said nothing, and nobody was starved where it stepped.
+pub record StarvedUnasked : Type 0 where
+  pub party : ℕ
+  pub steps : ℕ
+  pub old : World
+  pub new : World
+  pub outside : is_outside (standing_of old party) ≡ true
+  pub plain : is_starved old party ≡ false
+  pub in_peace : StepsInPeace Steps standing_of (λ w. w.state.starved) party steps old new
+  pub starved : is_starved new party ≡ true
+  pub cause : StarvesForCause old
+
+-- Or it is refused so, as one too many of the starved, by one more such step.
+pub record RefusedUnasked : Type 0 where
+  pub party : ℕ
+  pub steps : ℕ
+  pub old : World
+  pub mid : World
+  pub move : Move
+  pub new : World
+  pub outside : is_outside (standing_of old party) ≡ true
+  pub plain : is_starved old party ≡ false
+  pub in_peace : StepsInPeace Steps standing_of (λ w. w.state.starved) party steps old mid
+  pub own : move.party ≡ party
+  pub last : IsInPeace Steps standing_of (λ w. w.state.starved) party mid move
+  pub refused : Steps mid move (refused Starved) new
+  pub cause : StarvesForCause old

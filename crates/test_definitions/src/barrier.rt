@@ -5,7 +5,7 @@ ghost use Rattle.test_definitions.specs.BarrierTable.{beginnings, actions, follo
 ghost use Rattle.sync_program.specs.Barrier.{action_of, next_of};
 ghost use Rattle.world_barrier.specs.program.Program.{start_of};
 ghost use Rattle.test_definitions.specs.Never.{Never};
-ghost use Rattle.test_definitions.specs.Barrier.{TwoLeaders, LeadsInTheMidst, HasNoLeader, CountedTwice, TakenBack, FollowsTooSoon, CountedUnlisted, CountedWithoutLock, WaitsUncounted, KeepsTheLock, RefusedAndCounted, RefusedTooSoon, LeftAsleep, LeadsUntold, ReadyUntried, RefusedInVain, WaitsForNothing, PassesOverInVain, KeepsItsTold, LooksInVain, WakesAll, SleepsThoughFree, SleepsBesideAPoll, StarvedHavingTaken, StarvedTwice, StarvedAtFirst, StarvedForNothing, WakesInARing, ReleasesSilently, RefusedSilently, EndsByReleasing, ReleasesUntold, RefusedUnneeded, StarvedUnwaited, CountsUnwaited, OvertakesStarved, NeverStarved, PassesTheStarved, OvertakenInTheMidst, LeavesCounted, DropDawdles, OtherDropDawdles, DropTells, TwoToldOfLock, EndsLate};
+ghost use Rattle.test_definitions.specs.Barrier.{TwoLeaders, LeadsInTheMidst, HasNoLeader, CountedTwice, TakenBack, FollowsTooSoon, CountedUnlisted, CountedWithoutLock, WaitsUncounted, KeepsTheLock, RefusedAndCounted, RefusedTooSoon, LeftAsleep, LeadsUntold, ReadyUntried, RefusedInVain, WaitsForNothing, PassesOverInVain, KeepsItsTold, LooksInVain, WakesAll, SleepsThoughFree, SleepsBesideAPoll, StarvedHavingTaken, StarvedTwice, StarvedAtFirst, StarvedForNothing, WakesInARing, ReleasesSilently, RefusedSilently, EndsByReleasing, ReleasesUntold, RefusedUnneeded, StarvedUnwaited, CountsUnwaited, OvertakesStarved, NeverStarved, PassesTheStarved, OvertakenInTheMidst, LeavesCounted, DropDawdles, OtherDropDawdles, DropTells, TwoToldOfLock, EndsLate, StarvedUnasked, RefusedUnasked};
 
 /// Each clause says of one wrong run that it isn't legal.
 fn wrong_runs()
@@ -54,6 +54,8 @@ fn wrong_runs()
     ensures drop_tells { Never (DropTells) }
     ensures two_told_of_lock { Never (TwoToldOfLock) }
     ensures ends_late { Never (EndsLate) }
+    ensures starved_unasked { Never (StarvedUnasked) }
+    ensures refused_unasked { Never (RefusedUnasked) }
 {}
 
 /// The programs' places, each with its action and what follows what it finds, as docs/PROGRAMS.md lists them.

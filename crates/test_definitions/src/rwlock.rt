@@ -6,7 +6,7 @@ ghost use Rattle.lock_program.specs.ReadWrite.{action_of, next_of};
 ghost use Rattle.world_rwlock.specs.program.Program.{start_of};
 ghost use Rattle.test_definitions.specs.Never.{Never};
 ghost use Rattle.test_definitions.specs.ReadWrite.{TriesInVain, ReadsUnready, WaitsUnlisted, PendsTooEarly, RefusedAtFirst, RefusedHavingMoved, ReadsWithTheBit, LetsGoUndecided, UnmarksUndecided, StopsReadingUndecided, DowngradesUndecided, DropsUndecided, DowngradesThroughNothing, OtherIsUpgrade, IdleHasTurn, TriesOn, WriteMeetsReaders, ReadMeetsStarved, LacksMemoryWithTurn, ReadMeetsReadersBesideWriter, MeetsReadersWithoutTurn, MeetsStarvedWithTurn, PassesTurnInVain, PassesReadingInVain, PassesWritingInVain, UpgradeWaitsForNobody, UpgradableUnready, WriteUnready, StarvesUnasked, KeepsItsTold, TriesTurnInVain, StarvedHavingTaken, StarvedTwice, StarvedAtFirst, DecidesInVain};
-ghost use Rattle.test_definitions.specs.ReadWriteWakes.{TellsMany, TellsMore, WakesAWriter, WakesAReader, WakesForTheTurn, NotTheLast, WakesTheNext, SleepsThoughFree, SleepsThoughReadable, SleepsThoughWritable, SleepsBesideADrop, ReadsBesideADrop, WritesBesideADrop, StarvedForNothing, WakesInARing, PollsUntold, PollsUntoldToRead, TriesAndTells, RefusedSilently, RefusedToReadSilently, DropsLastSilently, EndsWithoutTurn, EndsWithoutBit, ReleasesUntold, LastReaderUntold, RefusedToReadUnneeded, RefusedToWriteUnneeded, RefusedTurnUnneeded, TriesTurnAndTells, EntersTurnAndTells, StopsLastSilently, ReadStarves, ReaderLost, StarvedUnwaited, CountsUnwaited, OvertakesStarved, TakesTurnUntold, NeverStarved, LeavesCounted, DropDawdles, ReadersDropDawdles, UnlistedDropDawdles, UnlistedDropTells, WritePassesOver, TwoTold, OvertakenTwice, OvertakenInTheMidst, TakesTurnBeforeStarved, EndsLate, ReadersLeftOut, NoNextReader, OwesNoTurn, OwesNoBit, WaitsAtTheLimit, JoinsAtTheLimit};
+ghost use Rattle.test_definitions.specs.ReadWriteWakes.{TellsMany, TellsMore, WakesAWriter, WakesAReader, WakesForTheTurn, NotTheLast, WakesTheNext, SleepsThoughFree, SleepsThoughReadable, SleepsThoughWritable, SleepsBesideADrop, ReadsBesideADrop, WritesBesideADrop, StarvedForNothing, WakesInARing, PollsUntold, PollsUntoldToRead, TriesAndTells, RefusedSilently, RefusedToReadSilently, DropsLastSilently, EndsWithoutTurn, EndsWithoutBit, ReleasesUntold, LastReaderUntold, RefusedToReadUnneeded, RefusedToWriteUnneeded, RefusedTurnUnneeded, TriesTurnAndTells, EntersTurnAndTells, StopsLastSilently, ReadStarves, ReaderLost, StarvedUnwaited, CountsUnwaited, OvertakesStarved, TakesTurnUntold, NeverStarved, LeavesCounted, DropDawdles, ReadersDropDawdles, UnlistedDropDawdles, UnlistedDropTells, WritePassesOver, TwoTold, OvertakenTwice, OvertakenInTheMidst, TakesTurnBeforeStarved, EndsLate, StarvedUnasked, RefusedUnasked, ReadersLeftOut, NoNextReader, OwesNoTurn, OwesNoBit, WaitsAtTheLimit, JoinsAtTheLimit};
 
 /// Each clause says of one wrong run that it isn't legal.
 fn wrong_runs()
@@ -94,6 +94,8 @@ fn wrong_runs()
     ensures overtaken_in_the_midst { Never (OvertakenInTheMidst) }
     ensures takes_turn_before_starved { Never (TakesTurnBeforeStarved) }
     ensures ends_late { Never (EndsLate) }
+    ensures starved_unasked { Never (StarvedUnasked) }
+    ensures refused_unasked { Never (RefusedUnasked) }
     ensures readers_left_out { Never (ReadersLeftOut) }
     ensures no_next_reader { Never (NoNextReader) }
     ensures owes_no_turn { Never (OwesNoTurn) }

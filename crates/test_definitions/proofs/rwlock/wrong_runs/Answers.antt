@@ -557,3 +557,9 @@ returns-clause-waits_at_the_limit c = λ r. r.unrefused (r.kept.full r.polls r.t
 
 pub returns-clause-joins_at_the_limit : goal.returns-clause-joins_at_the_limit
 returns-clause-joins_at_the_limit c = λ r. r.unrefused (r.legal.first_read_full r.first r.unmarked r.full)
+
+pub returns-clause-starved_unasked : goal.returns-clause-starved_unasked
+returns-clause-starved_unasked c = λ r. true≢false (sym r.starved ∙ (r.cause r.party r.steps r.new r.outside r.plain r.in_peace).unstarved)
+
+pub returns-clause-refused_unasked : goal.returns-clause-refused_unasked
+returns-clause-refused_unasked c = λ r. (r.cause r.party r.steps r.mid r.outside r.plain r.in_peace).patient r.move (refused refusal.Starved) r.new r.refused r.own r.last refl
