@@ -61,7 +61,7 @@ HELD = {
     "cell_set_blocking": 25,
     "cell_get_or_init_blocking": 25,
     "cell_get_or_try_init_blocking": 25,
-    "barrier_wait_blocking": 5,
+    "barrier_wait_blocking": 9,
 }
 BLOCKING = 9
 
