@@ -33,7 +33,7 @@ REFUSED = 400
 
 # The first allocation of what is tried, and the number after that of the last one: that run is refused nothing. (Of the workers' last
 # two allocations either may come first.)
-CALLS = (22, 177)
+CALLS = (22, 172)
 SCRIPT = (3, 47)
 THREADS = (4, 21)
 
@@ -61,7 +61,7 @@ HELD = {
     "cell_set_blocking": 25,
     "cell_get_or_init_blocking": 25,
     "cell_get_or_try_init_blocking": 25,
-    "barrier_wait_blocking": 9,
+    "barrier_wait_blocking": 8,
 }
 BLOCKING = 9
 
