@@ -1,0 +1,6 @@
+pub mod Flags
+pub mod Views
+pub mod Keeps
+pub mod Allowed
+pub mod Wakeups
+pub mod Holding

@@ -1,0 +1,6 @@
+use Rattle.std.proofs.Common.{rules, arith}
+use Rattle.words_access.proofs.Allowed.{given_same}
+use Rattle.words_access.proofs.steps.give_same.Goals as goal
+
+pub swap-requires : goal.swap-requires
+swap-requires g c = let t = c.requires.table.2 in (search rules, search rules, given_same _ _ _ _ _ _ _ (omega (arith, t)) c.requires.lists)

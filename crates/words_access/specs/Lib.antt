@@ -1,0 +1,5 @@
+pub mod Lists
+pub mod Rule
+pub mod Laws
+pub mod Seats
+pub mod Steps
