@@ -1,0 +1,137 @@
+-- What contracts see of a lock's state and lists, and of a seat there.
+use Rattle.std.specs.Prelude.{◌≡◌, ℕ, Bool, true, false, refl}
+use Rattle.std.specs.Coded.{Coded, code_by, coded×, coded_ℕ, coded_bool}
+use Rattle.atomic_table.specs.Seated.{TableId, table_id_coded}
+use Rattle.words_access.specs.declared.view.View.{View}
+
+-- A state with its lists: its table, with which source its waiters register, and how many may read.
+pub record Lock : Type 0 where
+  pub table : TableId
+  pub source : ℕ
+  pub limit : ℕ
+
+abbrev pub lock_coded : Coded Lock
+lock_coded = code_by (TableId × (ℕ × ℕ)) (coded× table_id_coded (coded× coded_ℕ coded_ℕ)) (λ l. (l.table, (l.source, l.limit))) (λ p. record { table = p.0; source = p.1.0; limit = p.1.1 }) (λ _. refl)
+
+-- A seat: of which table it is, and which seat there; whether it has set the writer's bit, reads, and writes; what it owes; in which list it has an
+-- entry, of which number, and whether it has not looked since it joined, or found its right free; and what its last look found.
+pub record Seated : Type 0 where
+  pub table : TableId
+  pub id : ℕ
+  pub marks : Bool
+  pub reads : Bool
+  pub writes : Bool
+  pub owes_readers : Bool
+  pub owes_writer : Bool
+  pub in_readers : Bool
+  pub in_writer : Bool
+  pub fresh : Bool
+  pub entry : ℕ
+  pub found : ℕ
+
+abbrev pub seated_coded : Coded Seated
+seated_coded = code_by (TableId × (ℕ × (Bool × (Bool × (Bool × (Bool × (Bool × (Bool × (Bool × (Bool × (ℕ × ℕ)))))))))))
+    (coded× table_id_coded (coded× coded_ℕ (coded× coded_bool (coded× coded_bool (coded× coded_bool (coded× coded_bool (coded× coded_bool (coded× coded_bool (coded× coded_bool (coded× coded_bool (coded× coded_ℕ coded_ℕ)))))))))))
+    (λ s. (s.table, (s.id, (s.marks, (s.reads, (s.writes, (s.owes_readers, (s.owes_writer, (s.in_readers, (s.in_writer, (s.fresh, (s.entry, s.found))))))))))))
+    (λ p. record { table = p.0; id = p.1.0; marks = p.1.1.0; reads = p.1.1.1.0; writes = p.1.1.1.1.0; owes_readers = p.1.1.1.1.1.0; owes_writer = p.1.1.1.1.1.1.0; in_readers = p.1.1.1.1.1.1.1.0; in_writer = p.1.1.1.1.1.1.1.1.0; fresh = p.1.1.1.1.1.1.1.1.1.0; entry = p.1.1.1.1.1.1.1.1.1.1.0; found = p.1.1.1.1.1.1.1.1.1.1.1 })
+    (λ _. refl)
+
+abbrev pub seated : TableId → ℕ → View → Seated
+seated table id v = record { table = table; id = id; marks = v.marks; reads = v.reads; writes = v.writes; owes_readers = v.owes_readers; owes_writer = v.owes_writer; in_readers = v.in_readers; in_writer = v.in_writer; fresh = v.fresh; entry = v.entry; found = v.found }
+
+-- The seat is one of the lock.
+abbrev pub IsOf : Lock → Seated → Type 0
+IsOf lock seat = seat.table ≡ lock.table
+
+-- a seat with nothing
+abbrev pub entering : Lock → ℕ → Seated
+entering lock id = record { table = lock.table; id = id; marks = false; reads = false; writes = false; owes_readers = false; owes_writer = false; in_readers = false; in_writer = false; fresh = false; entry = 0; found = 0 }
+
+-- what a look and each other step makes of a seat
+abbrev pub with_found : ℕ → Seated → Seated
+with_found n s = record s { found = n }
+
+abbrev pub with_saw_writer : ℕ → Seated → Seated
+with_saw_writer n s = record s { owes_readers = false; fresh = false; found = n }
+
+abbrev pub with_saw_readers : ℕ → Seated → Seated
+with_saw_readers n s = record s { owes_writer = false; fresh = false; found = n }
+
+abbrev pub with_reading : ℕ → Seated → Seated
+with_reading n s = record s { reads = true; found = n }
+
+abbrev pub with_left : ℕ → Seated → Seated
+with_left n s = record s { reads = false; found = n }
+
+abbrev pub with_last_left : ℕ → Seated → Seated
+with_last_left n s = record s { reads = false; owes_writer = true; found = n }
+
+abbrev pub with_writing : Seated → Seated
+with_writing s = record s { marks = true; reads = false; writes = true; owes_writer = false; fresh = false }
+
+abbrev pub with_mark : Seated → Seated
+with_mark s = record s { marks = true }
+
+abbrev pub with_upgrade : Seated → Seated
+with_upgrade s = record s { marks = true; reads = false }
+
+abbrev pub with_down : Seated → Seated
+with_down s = record s { marks = false; writes = false; reads = true; owes_readers = true }
+
+-- it reads in place of writing, and owes nothing any more
+abbrev pub with_downgrade : Seated → Seated
+with_downgrade s = record s { marks = false; writes = false; reads = true }
+
+abbrev pub with_unmarked : Seated → Seated
+with_unmarked s = record s { marks = false; writes = false; owes_readers = true }
+
+abbrev pub with_ease : Seated → Seated
+with_ease s = record s { owes_readers = false; owes_writer = false }
+
+abbrev pub with_joined_readers : ℕ → Seated → Seated
+with_joined_readers n s = record s { in_readers = true; fresh = true; entry = n }
+
+abbrev pub with_joined_writer : ℕ → Seated → Seated
+with_joined_writer n s = record s { in_writer = true; fresh = true; entry = n }
+
+abbrev pub with_told_reader : Seated → Seated
+with_told_reader s = record s { in_readers = false; owes_readers = true }
+
+abbrev pub with_told_writer : Seated → Seated
+with_told_writer s = record s { in_writer = false; owes_writer = true }
+
+abbrev pub with_gone_reader : Seated → Seated
+with_gone_reader s = record s { in_readers = false; fresh = false }
+
+abbrev pub with_gone_writer : Seated → Seated
+with_gone_writer s = record s { in_writer = false; fresh = false }
+
+abbrev pub with_paid_readers : Seated → Seated
+with_paid_readers s = record s { owes_readers = false }
+
+abbrev pub with_paid_writer : Seated → Seated
+with_paid_writer s = record s { owes_writer = false }
+
+-- it owes nothing, stands in no list, and isn't fresh
+abbrev pub IsCalm : Seated → Type 0
+IsCalm s = (s.owes_readers ≡ false) × (s.owes_writer ≡ false) × (s.in_readers ≡ false) × (s.in_writer ≡ false) × (s.fresh ≡ false)
+
+-- it has and owes nothing; reads; has set the writer's bit; writes; and nothing else
+abbrev pub IsIdle : Seated → Type 0
+IsIdle s = (s.marks ≡ false) × (s.reads ≡ false) × (s.writes ≡ false) × IsCalm s
+
+abbrev pub IsReading : Seated → Type 0
+IsReading s = (s.marks ≡ false) × (s.reads ≡ true) × (s.writes ≡ false) × IsCalm s
+
+abbrev pub IsMarking : Seated → Type 0
+IsMarking s = (s.marks ≡ true) × (s.reads ≡ false) × (s.writes ≡ false) × IsCalm s
+
+abbrev pub IsWriting : Seated → Type 0
+IsWriting s = (s.marks ≡ true) × (s.reads ≡ false) × (s.writes ≡ true) × IsCalm s
+
+-- It waits in the readers' list with the entry n, and has looked; or has set the bit and waits so in the writer's list. It owes nothing.
+abbrev pub WaitsToRead : ℕ → Seated → Type 0
+WaitsToRead n s = (s.marks ≡ false) × (s.reads ≡ false) × (s.writes ≡ false) × (s.owes_readers ≡ false) × (s.owes_writer ≡ false) × (s.in_readers ≡ true) × (s.in_writer ≡ false) × (s.fresh ≡ false) × (s.entry ≡ n)
+
+abbrev pub WaitsToWrite : ℕ → Seated → Type 0
+WaitsToWrite n s = (s.marks ≡ true) × (s.reads ≡ false) × (s.writes ≡ false) × (s.owes_readers ≡ false) × (s.owes_writer ≡ false) × (s.in_readers ≡ false) × (s.in_writer ≡ true) × (s.fresh ≡ false) × (s.entry ≡ n)

@@ -1,0 +1,6 @@
+use Rattle.std.proofs.Common.{◌≡◌, true, false}
+use Rattle.access_core.specs.Accesses.{IsOf}
+use Rattle.rwlock_core.proofs.rwlock.RawRwLock.await_on.Given as goal
+
+abbrev pub invariant-loop : goal.invariant-loop
+invariant-loop g l = IsOf l.fn.self.access l.seat × ((l.seat.marks ≡ true) × (l.seat.reads ≡ false) × (l.seat.writes ≡ false) × (l.seat.owes_readers ≡ false) × (l.seat.in_readers ≡ false) × (l.seat.in_writer ≡ false) × (l.seat.fresh ≡ false)) × (l.cx ≡ l.fn.cx)

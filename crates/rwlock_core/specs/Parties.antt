@@ -1,0 +1,59 @@
+-- Which lock a party is of.
+use Rattle.std.specs.Prelude.{◌≡◌}
+use Rattle.futures.specs.declared.task.context.Context.{Context}
+use Rattle.lock_queue.specs.Receipts.{IsReceipt}
+use Rattle.mutex_core.specs.Locks as turn
+use Rattle.mutex_core.specs.Outcomes.{IsHeldOf}
+use Rattle.access_core.specs.Accesses.{IsOf, Seated}
+use Rattle.rwlock_core.specs.declared.party.Reader.{Reader}
+use Rattle.rwlock_core.specs.declared.party.Upgradable.{Upgradable}
+use Rattle.rwlock_core.specs.declared.party.Writer.{Writer}
+use Rattle.rwlock_core.specs.declared.party.Upgrading.{Upgrading}
+use Rattle.rwlock_core.specs.declared.party.WaitsFor.{WaitsFor}
+use Rattle.rwlock_core.specs.declared.party.WaitsFor.TheVariants.{Turn, Readers}
+use Rattle.rwlock_core.specs.declared.party.Begun.{Begun}
+use Rattle.rwlock_core.specs.declared.party.Begun.TheVariants.{Writes, Awaits}
+use Rattle.rwlock_core.specs.declared.party.Upgraded.{Upgraded}
+use Rattle.rwlock_core.specs.declared.party.Upgraded.TheVariants as upgraded
+use Rattle.rwlock_core.specs.declared.rwlock.RawRwLock.{RawRwLock}
+
+module _ (raw : RawRwLock) where
+  abbrev pub IsReaderOf : Reader → Type 0
+  IsReaderOf r = IsOf raw.access r.seat
+
+  abbrev pub IsUpgradableOf : Upgradable → Type 0
+  IsUpgradableOf u = IsOf raw.access u.seat × IsHeldOf raw.turn u.turn
+
+  abbrev pub IsWriterOf : Writer → Type 0
+  IsWriterOf w = IsOf raw.access w.seat × IsHeldOf raw.turn w.turn
+
+  abbrev pub IsUpgradingOf : Upgrading → Type 0
+  IsUpgradingOf u = IsOf raw.access u.seat × IsHeldOf raw.turn u.turn
+
+  abbrev pub IsBegunOf : Begun → Type 0
+  IsBegunOf (Writes w) = IsWriterOf w
+  IsBegunOf (Awaits u) = IsUpgradingOf u
+
+  -- what a write waits for, at this lock
+  abbrev pub WaitsAt : WaitsFor → Type 0
+  WaitsAt (Turn w) = turn.IsOf raw.turn w.seat
+  WaitsAt (Readers w held) = IsOf raw.access w.seat × IsHeldOf raw.turn held
+
+  -- An entry keeps a waker of the task that polls, which has registered with the source of what it waits for.
+  abbrev pub HasReceipt : Context → WaitsFor → Type 0
+  HasReceipt cx (Turn w) = IsReceipt raw.turn.source cx w.whose
+  HasReceipt cx (Readers w held) = IsReceipt raw.access.source cx w.whose
+
+  -- how a poll of an upgrade went
+  abbrev pub OnUpgraded : Context → Upgraded → Type 0
+  OnUpgraded cx (upgraded.Got w) = IsWriterOf w
+  OnUpgraded cx (upgraded.Waits w held) = IsOf raw.access w.seat × IsHeldOf raw.turn held × IsReceipt raw.access.source cx w.whose
+  OnUpgraded cx (upgraded.NoMemory u) = IsUpgradingOf u
+
+-- The seat is the same one.
+abbrev pub IsSeatOf : Seated → Seated → Type 0
+IsSeatOf s t = (t.table ≡ s.table) × (t.id ≡ s.id)
+
+abbrev pub IsSameSeat : Seated → Begun → Type 0
+IsSameSeat s (Writes w) = IsSeatOf s w.seat
+IsSameSeat s (Awaits u) = IsSeatOf s u.seat
