@@ -1,0 +1,9 @@
+pub mod Fills
+pub mod Lending
+pub mod Opens
+pub mod Glances
+pub mod Fields
+pub mod Grips
+pub mod Deals
+pub mod Relends
+pub mod Sent

@@ -1,0 +1,3 @@
+pub mod Vault
+pub mod Kept
+pub mod Lent
