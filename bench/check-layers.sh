@@ -30,7 +30,7 @@ if [ -n "$named" ]; then
 fi
 echo 'what is inside a mutex is named by no crate above it'
 
-shells='async_driver lock_place lock_words lock_driver async_mutex words_base words_rwlock words_cell cell_core words_barrier barrier_core words_permits words_access access_core rwlock_core rwlock_vault rwlock_driver async_rwlock semaphore_core async_semaphore async_once_cell async_barrier'
+shells='async_driver lock_place lock_words lock_driver async_mutex words_base words_cell cell_core words_barrier barrier_core words_permits words_access access_core rwlock_core access_vault async_rwlock semaphore_core async_semaphore async_once_cell async_barrier'
 worlds='world_[a-z_]+|lock_core|lock_audit'
 for shell in $shells; do
     line=$(grep -E "^$shell( [a-z_=0-9]*)?:" crates.txt) || {
@@ -48,7 +48,7 @@ echo 'the locks for threads stand on no crate of a World'
 # A seat in pledge, and the table against which a value is lent, are open to crates above the words. Only the module that lends names
 # them, and the constructor that deals the vault: so nobody steps on a read-write lock's words past their own calls.
 lending='crates/async_rwlock/src/lending\.rt:|Vault::deal'
-named=$(grep -rnE '\.badge\b|\bshared\(\)|\bBadge\b|\bload_new_seat\b|\batomic_table\b' crates/rwlock_driver/src crates/async_rwlock/src \
+named=$(grep -rnE '\.badge\b|\bshared\(\)|\bBadge\b|\bload_new_seat\b|\batomic_table\b' crates/rwlock_core/src crates/async_rwlock/src \
     --include='*.rt' | grep -vE "(ghost |requires |ensures |$lending)" || true)
 if [ -n "$named" ]; then
     echo "$named" >&2

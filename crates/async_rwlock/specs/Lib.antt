@@ -1,3 +1,4 @@
 pub mod Guards
 pub mod Lent
 pub mod Stages
+pub mod Upgrades

@@ -2,9 +2,8 @@
 
 ghost use Rattle.std.specs.Prelude.{◌≡◌, IfErr, IfOk, IfSome, None};
 ghost use Rattle.async_rwlock.specs.Stages.{IsFor, IsOf};
-ghost use Rattle.rwlock_driver.specs.Polls.{Refuses};
-ghost use Rattle.rwlock_driver.specs.Rights.{Has, reader, upgradable, writer};
-ghost use Rattle.rwlock_driver.specs.declared.aim.Aim.TheVariants as aims;
+ghost use Rattle.rwlock_core.specs.Outcomes.{IsReadRefusal, IsUpgradableRefusal, IsWriteRefusal};
+ghost use Rattle.rwlock_core.specs.Parties.{IsReaderOf, IsUpgradableOf, IsWriterOf};
 ghost use Rattle.std.specs.Arc.{arc_value};
 
 use crate::lock_futures::{Read, ReadArc, UpgradableRead, UpgradableReadArc, Write, WriteArc};
@@ -22,13 +21,12 @@ use crate::{
 };
 use async_driver::wait_for;
 use lock_program::Refusal;
-use rwlock_driver::{Aim, Tried};
+use rwlock_core::{Reader, Upgradable, Writer};
 use std::alloc::AllocGlobal;
 use std::fmt;
 use std::random::RandomSource;
 use std::sync::{Arc, Wait};
 use std::time::Clock;
-use words_rwlock::Seat;
 
 impl<T, R: Wait> RwLock<T, R> {
     /// Attempts to acquire a right to read: it does if nobody writes or waits for readers to leave, and fewer read than may.
@@ -41,15 +39,11 @@ impl<T, R: Wait> RwLock<T, R> {
     pub fn try_read(&self) -> Option<RwLockReadGuard<'_, T, R>>
         ensures { IfSome result (λ guard. guard.lock ≡ self.now) }
     {
-        match self.raw.try_read() {
-            Tried::Got(seat) => Some(ReadGuard::new(self, seat)),
-            Tried::Vain(seat) => {
-                self.raw.end_try(Aim::Read, seat);
+        match self.raw.try_read(&self.rt) {
+            Ok(reader) => Some(ReadGuard::new(self, reader)),
+            Err(seat) => {
+                seat.rise();
                 None
-            }
-            Tried::GoesOn(rest) => {
-                let seat = self.raw.try_on(&self.rt, Aim::Read, rest)?;
-                Some(ReadGuard::new(self, seat))
             }
         }
     }
@@ -63,15 +57,11 @@ impl<T, R: Wait> RwLock<T, R> {
     pub fn try_upgradable_read(&self) -> Option<RwLockUpgradableReadGuard<'_, T, R>>
         ensures { IfSome result (λ guard. guard.lock ≡ self.now) }
     {
-        match self.raw.try_upgradable_read() {
-            Tried::Got(seat) => Some(UpgradableGuard::new(self, seat)),
-            Tried::Vain(seat) => {
-                self.raw.end_try(Aim::UpgradableRead, seat);
+        match self.raw.try_upgradable_read(&self.rt) {
+            Ok(upgradable) => Some(UpgradableGuard::new(self, upgradable)),
+            Err(vain) => {
+                vain.end();
                 None
-            }
-            Tried::GoesOn(rest) => {
-                let seat = self.raw.try_on(&self.rt, Aim::UpgradableRead, rest)?;
-                Some(UpgradableGuard::new(self, seat))
             }
         }
     }
@@ -84,15 +74,11 @@ impl<T, R: Wait> RwLock<T, R> {
     pub fn try_write(&self) -> Option<RwLockWriteGuard<'_, T, R>>
         ensures { IfSome result (λ guard. guard.lock ≡ self.now) }
     {
-        match self.raw.try_write() {
-            Tried::Got(seat) => Some(WriteGuard::new(self, seat)),
-            Tried::Vain(seat) => {
-                self.raw.end_try(Aim::Write, seat);
+        match self.raw.try_write(&self.rt) {
+            Ok(writer) => Some(WriteGuard::new(self, writer)),
+            Err(vain) => {
+                vain.end();
                 None
-            }
-            Tried::GoesOn(rest) => {
-                let seat = self.raw.try_on(&self.rt, Aim::Write, rest)?;
-                Some(WriteGuard::new(self, seat))
             }
         }
     }
@@ -146,7 +132,7 @@ impl<T: Drop, R: Wait + Clock + RandomSource + AllocGlobal> RwLock<T, R> {
     /// ```
     pub fn read_blocking(&self) -> Result<RwLockReadGuard<'_, T, R>, Refusal>
         ensures lock { IfOk result (λ guard. guard.lock ≡ self.now) }
-        ensures refused { IfErr result (Refuses aims.Read) }
+        ensures refused { IfErr result IsReadRefusal }
     {
         if let Some(guard) = self.try_read() {
             return Ok(guard);
@@ -166,7 +152,7 @@ impl<T: Drop, R: Wait + Clock + RandomSource + AllocGlobal> RwLock<T, R> {
     /// ```
     pub fn upgradable_read_blocking(&self) -> Result<RwLockUpgradableReadGuard<'_, T, R>, Refusal>
         ensures lock { IfOk result (λ guard. guard.lock ≡ self.now) }
-        ensures refused { IfErr result (Refuses aims.UpgradableRead) }
+        ensures refused { IfErr result IsUpgradableRefusal }
     {
         if let Some(guard) = self.try_upgradable_read() {
             return Ok(guard);
@@ -184,7 +170,7 @@ impl<T: Drop, R: Wait + Clock + RandomSource + AllocGlobal> RwLock<T, R> {
     /// ```
     pub fn write_blocking(&self) -> Result<RwLockWriteGuard<'_, T, R>, Refusal>
         ensures lock { IfOk result (λ guard. guard.lock ≡ self.now) }
-        ensures refused { IfErr result (Refuses aims.Write) }
+        ensures refused { IfErr result IsWriteRefusal }
     {
         if let Some(guard) = self.try_write() {
             return Ok(guard);
@@ -202,13 +188,12 @@ impl<T: Drop, R: Wait + Drop> RwLock<T, R> {
     pub fn try_read_arc(this: &Arc<RwLock<T, R>>) -> Option<RwLockReadGuardArc<T, R>>
         ensures { IfSome result (λ guard. guard.lock ≡ arc_value this.now) }
     {
-        match this.raw.try_read() {
-            Tried::Got(seat) => reader_of(this, seat),
-            Tried::Vain(seat) => {
-                this.raw.end_try(Aim::Read, seat);
+        match this.raw.try_read(&this.rt) {
+            Ok(reader) => reader_of(this, reader),
+            Err(seat) => {
+                seat.rise();
                 None
             }
-            Tried::GoesOn(rest) => reader_of(this, this.raw.try_on(&this.rt, Aim::Read, rest)?),
         }
     }
 
@@ -222,16 +207,12 @@ impl<T: Drop, R: Wait + Drop> RwLock<T, R> {
     ) -> Option<RwLockUpgradableReadGuardArc<T, R>>
         ensures { IfSome result (λ guard. guard.lock ≡ arc_value this.now) }
     {
-        match this.raw.try_upgradable_read() {
-            Tried::Got(seat) => upgradable_reader_of(this, seat),
-            Tried::Vain(seat) => {
-                this.raw.end_try(Aim::UpgradableRead, seat);
+        match this.raw.try_upgradable_read(&this.rt) {
+            Ok(upgradable) => upgradable_reader_of(this, upgradable),
+            Err(vain) => {
+                vain.end();
                 None
             }
-            Tried::GoesOn(rest) => upgradable_reader_of(
-                this,
-                this.raw.try_on(&this.rt, Aim::UpgradableRead, rest)?,
-            ),
         }
     }
 
@@ -243,13 +224,12 @@ impl<T: Drop, R: Wait + Drop> RwLock<T, R> {
     pub fn try_write_arc(this: &Arc<RwLock<T, R>>) -> Option<RwLockWriteGuardArc<T, R>>
         ensures { IfSome result (λ guard. guard.lock ≡ arc_value this.now) }
     {
-        match this.raw.try_write() {
-            Tried::Got(seat) => writer_of(this, seat),
-            Tried::Vain(seat) => {
-                this.raw.end_try(Aim::Write, seat);
+        match this.raw.try_write(&this.rt) {
+            Ok(writer) => writer_of(this, writer),
+            Err(vain) => {
+                vain.end();
                 None
             }
-            Tried::GoesOn(rest) => writer_of(this, this.raw.try_on(&this.rt, Aim::Write, rest)?),
         }
     }
 
@@ -302,7 +282,7 @@ impl<T: Drop, R: Wait + Clock + RandomSource + AllocGlobal + Drop> RwLock<T, R> 
     /// ```
     pub fn read_arc_blocking(this: &Arc<RwLock<T, R>>) -> Result<RwLockReadGuardArc<T, R>, Refusal>
         ensures lock { IfOk result (λ guard. guard.lock ≡ arc_value this.now) }
-        ensures refused { IfErr result (Refuses aims.Read) }
+        ensures refused { IfErr result IsReadRefusal }
     {
         if let Some(guard) = RwLock::try_read_arc(this) {
             return Ok(guard);
@@ -319,7 +299,7 @@ impl<T: Drop, R: Wait + Clock + RandomSource + AllocGlobal + Drop> RwLock<T, R> 
         this: &Arc<RwLock<T, R>>,
     ) -> Result<RwLockUpgradableReadGuardArc<T, R>, Refusal>
         ensures lock { IfOk result (λ guard. guard.lock ≡ arc_value this.now) }
-        ensures refused { IfErr result (Refuses aims.UpgradableRead) }
+        ensures refused { IfErr result IsUpgradableRefusal }
     {
         if let Some(guard) = RwLock::try_upgradable_read_arc(this) {
             return Ok(guard);
@@ -337,7 +317,7 @@ impl<T: Drop, R: Wait + Clock + RandomSource + AllocGlobal + Drop> RwLock<T, R> 
         this: &Arc<RwLock<T, R>>,
     ) -> Result<RwLockWriteGuardArc<T, R>, Refusal>
         ensures lock { IfOk result (λ guard. guard.lock ≡ arc_value this.now) }
-        ensures refused { IfErr result (Refuses aims.Write) }
+        ensures refused { IfErr result IsWriteRefusal }
     {
         if let Some(guard) = RwLock::try_write_arc(this) {
             return Ok(guard);
@@ -353,17 +333,16 @@ impl<T: Drop, R: Wait + Clock + RandomSource + AllocGlobal + Drop> RwLock<T, R> 
 #[inline]
 fn reader_of<T: Drop, R: Wait + Drop>(
     this: &Arc<RwLock<T, R>>,
-    seat: Seat,
+    reader: Reader,
 ) -> Option<RwLockReadGuardArc<T, R>>
-    requires { Has (arc_value this.now).raw reader seat }
+    requires { IsReaderOf (arc_value this.now).raw reader }
     ensures { IfSome result (λ guard. guard.lock ≡ arc_value this.now) }
 {
     match Arc::try_clone(this) {
-        Ok(owner) => Some(ReadGuard::new(owner, seat)),
+        Ok(owner) => Some(ReadGuard::new(owner, reader)),
         Err(_) => {
-            if let Some(notifies) = this.raw.drop_read(seat) {
-                this.raw.notify(&this.rt, notifies);
-            }
+            let Reader { seat } = reader;
+            this.raw.release_read(&this.rt, seat);
             None
         }
     }
@@ -372,17 +351,15 @@ fn reader_of<T: Drop, R: Wait + Drop>(
 #[inline]
 fn upgradable_reader_of<T: Drop, R: Wait + Drop>(
     this: &Arc<RwLock<T, R>>,
-    seat: Seat,
+    upgradable: Upgradable,
 ) -> Option<RwLockUpgradableReadGuardArc<T, R>>
-    requires { Has (arc_value this.now).raw upgradable seat }
+    requires { IsUpgradableOf (arc_value this.now).raw upgradable }
     ensures { IfSome result (λ guard. guard.lock ≡ arc_value this.now) }
 {
     match Arc::try_clone(this) {
-        Ok(owner) => Some(UpgradableGuard::new(owner, seat)),
+        Ok(owner) => Some(UpgradableGuard::new(owner, upgradable)),
         Err(_) => {
-            if let Some(notifies) = this.raw.drop_upgradable(seat) {
-                this.raw.notify(&this.rt, notifies);
-            }
+            this.raw.release_upgradable(&this.rt, upgradable);
             None
         }
     }
@@ -391,17 +368,15 @@ fn upgradable_reader_of<T: Drop, R: Wait + Drop>(
 #[inline]
 fn writer_of<T: Drop, R: Wait + Drop>(
     this: &Arc<RwLock<T, R>>,
-    seat: Seat,
+    writer: Writer,
 ) -> Option<RwLockWriteGuardArc<T, R>>
-    requires { Has (arc_value this.now).raw writer seat }
+    requires { IsWriterOf (arc_value this.now).raw writer }
     ensures { IfSome result (λ guard. guard.lock ≡ arc_value this.now) }
 {
     match Arc::try_clone(this) {
-        Ok(owner) => Some(WriteGuard::new(owner, seat)),
+        Ok(owner) => Some(WriteGuard::new(owner, writer)),
         Err(_) => {
-            if let Some(notifies) = this.raw.drop_write(seat) {
-                this.raw.notify(&this.rt, notifies);
-            }
+            this.raw.release_write(&this.rt, writer);
             None
         }
     }

@@ -1,20 +1,22 @@
 //! A reader.
 
 ghost use Rattle.std.specs.Prelude.{◌≡◌};
-ghost use Rattle.rwlock_driver.specs.Rights.{Has, reader};
+ghost use Rattle.async_rwlock.specs.Stages.{At, IsOf};
+ghost use Rattle.rwlock_core.specs.Parties.{IsReaderOf};
 
 use crate::owns::Owns;
-use rwlock_vault::Glance;
+use crate::stage::Stage;
+use access_vault::Glance;
+use rwlock_core::{Pledge, Reader};
 use std::fmt;
 use std::marker::{Model, PhantomData};
 use std::ops::Deref;
 use std::sync::Wait;
-use words_rwlock::{Pledge, Seat};
 
 /// A right to read, and the value to read. Dropping it ends the right; the last reader notifies the writer that waits for this.
 ///
-/// Its type keeps that its seat reads, and that the value is lent against that. Contracts see the lock, the value, and the seat
-/// (`seat`, and what it knows of itself, `view`).
+/// Its type keeps that its seat reads, and that the value is lent against that. Contracts see the lock, the value, and the seat with what it
+/// knows of itself.
 pub struct ReadGuard<T, R: Wait, O: Owns<Value = T, Runtime = R>> {
     owner: O,
     glance: Glance<T>,
@@ -24,30 +26,43 @@ pub struct ReadGuard<T, R: Wait, O: Owns<Value = T, Runtime = R>> {
 }
 
 impl<T, R: Wait, O: Owns<Value = T, Runtime = R>> Model for ReadGuard<T, R, O> {
-    ghost use Rattle.std.specs.Prelude.{◌≡◌, []};
+    ghost use Rattle.std.specs.Prelude.{◌≡◌, false, []};
     ghost use Rattle.async_rwlock.specs.Guards.{Held};
-    ghost use Rattle.rwlock_driver.specs.Rights.{Shows, reader};
+    ghost use Rattle.access_core.specs.Accesses.{IsReading, seated};
 
     ghost Value = { Held T R };
 
-    ghost view = { λ g. record { lock = O.lock_of g.owner; value = g.glance.value; seat = g.glance.id; view = g.glance.view } };
+    ghost view = { λ g. record { lock = O.lock_of g.owner; value = g.glance.value; seat = seated (O.lock_of g.owner).raw.access.table g.glance.id g.glance.view } };
 
-    ghost invariant = { λ g. (g.glance.vault_id ≡ (O.lock_of g.owner).vault.vault_id) × Shows g.glance.view reader × (g.pledge.badge.views ≡ []) };
+    ghost invariant = { λ g. (g.glance.vault_id ≡ (O.lock_of g.owner).vault.vault_id) × (g.glance.view.has_lists ≡ false) × IsReading (seated (O.lock_of g.owner).raw.access.table g.glance.id g.glance.view) × (g.pledge.badge.views ≡ []) };
 }
 
 impl<T, R: Wait, O: Owns<Value = T, Runtime = R>> ReadGuard<T, R, O> {
     #[inline]
-    pub(crate) fn new(owner: O, seat: Seat) -> ReadGuard<T, R, O>
-        requires { Has (O.lock_of owner).raw reader seat }
+    pub(crate) fn new(owner: O, reader: Reader) -> ReadGuard<T, R, O>
+        requires { IsReaderOf (O.lock_of owner).raw reader }
         ensures lock { result.lock ≡ O.lock_of owner }
-        ensures seat { (result.seat ≡ seat.inner.id) × (result.view ≡ seat.inner.me.0) }
+        ensures seat { result.seat ≡ reader.seat }
     {
+        let Reader { seat } = reader;
         let (glance, pledge) = owner.lock().lend_read(seat);
         ReadGuard {
             owner,
             glance,
             pledge,
             runtime: PhantomData,
+        }
+    }
+
+    /// The guard of a future that got the right, with who has the lock.
+    #[inline]
+    pub(crate) fn of_stage(stage: Stage<O>, reader: Reader) -> ReadGuard<T, R, O>
+        requires { At O.lock_of stage (λ raw. IsReaderOf raw reader) }
+        ensures { IsOf O.lock_of stage result.lock }
+    {
+        match stage {
+            Stage::Waits(owner) => ReadGuard::new(owner, reader),
+            Stage::Unowned | Stage::Finished => unreachable!(),
         }
     }
 }
@@ -72,9 +87,7 @@ impl<T, R: Wait, O: Owns<Value = T, Runtime = R>> Drop for ReadGuard<T, R, O> {
         } = self;
         let lock = owner.lock();
         let seat = lock.end_read(glance, pledge);
-        if let Some(notifies) = lock.raw.drop_read(seat) {
-            lock.raw.notify(&lock.rt, notifies);
-        }
+        lock.raw.release_read(&lock.rt, seat);
         drop(owner);
     }
 }

@@ -4,13 +4,12 @@ ghost use Rattle.std.specs.Prelude.{◌≡◌, IfErr, IfOk, min};
 ghost use Rattle.core.specs.Mem.Slots.{lease_ptr, lease_len, lease_heap};
 ghost use Rattle.lock_program.specs.declared.refusal.Refusal.{Refusal};
 
+use access_vault::Vault;
 use core::slots::release;
 use lock_place::{SendLease, Strip, room_for};
 use lock_program::Refusal;
-use rwlock_driver::RawRwLock;
-use rwlock_vault::Vault;
+use rwlock_core::{READERS_LIMIT, RawRwLock, STARVED_LIMIT};
 use std::alloc::{AllocGlobal, Global};
-use words_rwlock::{READERS_LIMIT, STARVED_LIMIT};
 
 /// A value that many tasks read at a time, or one writes.
 ///
@@ -21,7 +20,7 @@ pub struct RwLock<T, R> {
     lease: SendLease<T, Global>,
     heap: Global,
     pub(crate) rt: R,
-    ghost tied: { vault.vault_id.table ≡ raw.words.table },
+    ghost tied: { vault.vault_id.table ≡ raw.access.table },
     ghost leased: { (lease_ptr lease.lease ≡ vault.at) × (lease_len lease.lease ≡ 1) × (lease_heap lease.lease ≡ heap) },
 }
 
@@ -35,7 +34,7 @@ impl<T: Drop, R: AllocGlobal + Drop> RwLock<T, R> {
     /// ```
     pub fn new(rt: R, value: T) -> Result<RwLock<T, R>, Refusal>
         ensures memory { IfErr result (λ refusal. refusal ≡ Refusal.Memory) }
-        ensures limits { IfOk result (λ lock. (lock.raw.words.starved ≡ 1073741823) × (lock.raw.words.readers ≡ 1073741823)) }
+        ensures limits { IfOk result (λ lock. (lock.raw.turn.limit ≡ 1073741823) × (lock.raw.access.limit ≡ 1073741823)) }
     {
         RwLock::with_limits(rt, value, STARVED_LIMIT, READERS_LIMIT)
     }
@@ -44,7 +43,7 @@ impl<T: Drop, R: AllocGlobal + Drop> RwLock<T, R> {
     /// `readers` may read at once. A larger number stands for the greatest limit. It is for tests.
     pub fn with_limits(rt: R, value: T, starved: u64, readers: u64) -> Result<RwLock<T, R>, Refusal>
         ensures memory { IfErr result (λ refusal. refusal ≡ Refusal.Memory) }
-        ensures limits { IfOk result (λ lock. (lock.raw.words.starved ≡ min starved 1073741823) × (lock.raw.words.readers ≡ min readers 1073741823)) }
+        ensures limits { IfOk result (λ lock. (lock.raw.turn.limit ≡ min starved 1073741823) × (lock.raw.access.limit ≡ min readers 1073741823)) }
     {
         let heap = rt.alloc();
         let Ok(raw) = RawRwLock::with_limits(heap, starved, readers) else {
@@ -55,7 +54,7 @@ impl<T: Drop, R: AllocGlobal + Drop> RwLock<T, R> {
         };
         let (mut row, lease) = reserved;
         row.put(0, value);
-        let vault = Vault::deal(Strip::of(row), raw.words.shared());
+        let vault = Vault::deal(Strip::of(row), raw.access.shared());
         Ok(RwLock {
             raw,
             vault,

@@ -2,17 +2,19 @@
 
 ghost use Rattle.std.specs.Prelude.{◌≡◌, ◌≢◌, IfOk, IfErr};
 ghost use Rattle.lock_program.specs.declared.refusal.Refusal.{Refusal};
-ghost use Rattle.rwlock_driver.specs.Rights.{Has, upgradable};
-ghost use Rattle.words_rwlock.specs.Steps.{having_found, with_write, without_turn};
-ghost use Rattle.async_rwlock.specs.Stages.{IsOf};
+ghost use Rattle.access_core.specs.Accesses.{with_found, with_writing};
+ghost use Rattle.rwlock_core.specs.Parties.{IsUpgradableOf};
+ghost use Rattle.async_rwlock.specs.Stages.{At, IsOf};
 
 use crate::owns::Owns;
 use crate::read_guard::ReadGuard;
+use crate::stage::Stage;
 use crate::upgrade::UpgradeFuture;
 use crate::write_guard::WriteGuard;
+use access_vault::Glance;
 use async_driver::wait_for;
 use lock_program::Refusal;
-use rwlock_vault::Glance;
+use rwlock_core::{Pledge, Turn, Upgradable};
 use std::alloc::AllocGlobal;
 use std::fmt;
 use std::marker::{Model, PhantomData};
@@ -20,80 +22,97 @@ use std::ops::Deref;
 use std::random::RandomSource;
 use std::sync::Wait;
 use std::time::Clock;
-use words_rwlock::{Pledge, Seat};
 
 /// A right to read that one task at a time has, and that can become a right to write; and the value to read. Dropping it ends the
 /// right: who waits to write or to read upgradably is notified.
 ///
 /// Its type keeps that its seat reads and has the lock's turn, and that the value is lent against that. Contracts see the lock,
-/// the value, and the seat (`seat`, and what it knows of itself, `view`).
+/// the value, and the seat with what it knows of itself.
 pub struct UpgradableGuard<T, R: Wait, O: Owns<Value = T, Runtime = R>> {
     owner: O,
     glance: Glance<T>,
     // The seat, while what it says is lent.
     pledge: Pledge,
+    // The turn.
+    turn: Turn,
     runtime: PhantomData<R>,
 }
 
 impl<T, R: Wait, O: Owns<Value = T, Runtime = R>> Model for UpgradableGuard<T, R, O> {
-    ghost use Rattle.std.specs.Prelude.{◌≡◌, []};
+    ghost use Rattle.std.specs.Prelude.{◌≡◌, false, []};
     ghost use Rattle.async_rwlock.specs.Guards.{Held};
-    ghost use Rattle.rwlock_driver.specs.Rights.{Shows, upgradable};
+    ghost use Rattle.mutex_core.specs.Outcomes.{IsHeldOf};
+    ghost use Rattle.access_core.specs.Accesses.{IsReading, seated};
 
     ghost Value = { Held T R };
 
-    ghost view = { λ g. record { lock = O.lock_of g.owner; value = g.glance.value; seat = g.glance.id; view = g.glance.view } };
+    ghost view = { λ g. record { lock = O.lock_of g.owner; value = g.glance.value; seat = seated (O.lock_of g.owner).raw.access.table g.glance.id g.glance.view } };
 
-    ghost invariant = { λ g. (g.glance.vault_id ≡ (O.lock_of g.owner).vault.vault_id) × Shows g.glance.view upgradable × (g.pledge.badge.views ≡ []) };
+    ghost invariant = { λ g. (g.glance.vault_id ≡ (O.lock_of g.owner).vault.vault_id) × (g.glance.view.has_lists ≡ false) × IsReading (seated (O.lock_of g.owner).raw.access.table g.glance.id g.glance.view) × IsHeldOf (O.lock_of g.owner).raw.turn g.turn × (g.pledge.badge.views ≡ []) };
 }
 
 impl<T, R: Wait, O: Owns<Value = T, Runtime = R>> UpgradableGuard<T, R, O> {
     #[inline]
-    pub(crate) fn new(owner: O, seat: Seat) -> UpgradableGuard<T, R, O>
-        requires { Has (O.lock_of owner).raw upgradable seat }
+    pub(crate) fn new(owner: O, upgradable: Upgradable) -> UpgradableGuard<T, R, O>
+        requires { IsUpgradableOf (O.lock_of owner).raw upgradable }
         ensures lock { result.lock ≡ O.lock_of owner }
-        ensures seat { (result.seat ≡ seat.inner.id) × (result.view ≡ seat.inner.me.0) }
+        ensures seat { result.seat ≡ upgradable.seat }
     {
+        let Upgradable { seat, turn } = upgradable;
         let (glance, pledge) = owner.lock().lend_read(seat);
         UpgradableGuard {
             owner,
             glance,
             pledge,
+            turn,
             runtime: PhantomData,
         }
     }
 
-    // Who has the lock, and the seat with its right. Nothing is lent any more.
+    /// The guard of a future that got the right, with who has the lock.
     #[inline]
-    fn into_seat(self) -> (O, Seat)
+    pub(crate) fn of_stage(stage: Stage<O>, upgradable: Upgradable) -> UpgradableGuard<T, R, O>
+        requires { At O.lock_of stage (λ raw. IsUpgradableOf raw upgradable) }
+        ensures { IsOf O.lock_of stage result.lock }
+    {
+        match stage {
+            Stage::Waits(owner) => UpgradableGuard::new(owner, upgradable),
+            Stage::Unowned | Stage::Finished => unreachable!(),
+        }
+    }
+
+    // Who has the lock, and the party with its right. Nothing is lent any more.
+    #[inline]
+    fn into_party(self) -> (O, Upgradable)
         ensures owner { O.lock_of result.0 ≡ self.lock }
-        ensures seat { Has self.lock.raw upgradable result.1 }
-        ensures same { (result.1.inner.id ≡ self.seat) × (result.1.inner.me.0 ≡ self.view) }
+        ensures party { IsUpgradableOf self.lock.raw result.1 }
+        ensures same { result.1.seat ≡ self.seat }
     {
         let Self {
             owner,
             glance,
             pledge,
+            turn,
             runtime: _,
         } = self;
         let seat = owner.lock().end_read(glance, pledge);
-        (owner, seat)
+        (owner, Upgradable { seat, turn })
     }
 
-    /// Reads on without the right to upgrade: upgradable readers and writers that wait may go on. It is the same seat, by one step
-    /// (`same`).
+    /// Reads on without the right to upgrade: upgradable readers and writers that wait may go on. It is the same seat, and what it knows of
+    /// itself stays (`same`).
     ///
     /// ```
     /// let reader = RwLockUpgradableReadGuard::downgrade(upgradable);
     /// ```
     pub fn downgrade(guard: Self) -> ReadGuard<T, R, O>
         ensures lock { result.lock ≡ guard.lock }
-        ensures same { (result.seat ≡ guard.seat) × (result.view ≡ without_turn guard.view) }
+        ensures same { result.seat ≡ guard.seat }
     {
-        let (owner, seat) = guard.into_seat();
+        let (owner, upgradable) = guard.into_party();
         let lock = owner.lock();
-        let seat = lock.raw.downgrade_upgradable(&lock.rt, seat);
-        ReadGuard::new(owner, seat)
+        let reader = lock.raw.downgrade_upgradable(&lock.rt, upgradable);
+        ReadGuard::new(owner, reader)
     }
 
     /// Writes, if nobody else reads. Otherwise the guard comes back: by the contract its seat has found another reader (`beside`).
@@ -107,16 +126,14 @@ impl<T, R: Wait, O: Owns<Value = T, Runtime = R>> UpgradableGuard<T, R, O> {
     /// *writer = writer.saturating_add(1);
     /// ```
     pub fn try_upgrade(guard: Self) -> Result<WriteGuard<T, R, O>, Self>
-        ensures writes { IfOk result (λ writer. (writer.lock ≡ guard.lock) × (writer.seat ≡ guard.seat) × (writer.view ≡ with_write guard.view)) }
-        ensures reads { IfErr result (λ reader. (reader.lock ≡ guard.lock) × (reader.seat ≡ guard.seat)
-            × (reader.view ≡ having_found reader.view.found guard.view)) }
-        ensures beside { IfErr result (λ reader. reader.view.found ≢ 2) }
+        ensures writes { IfOk result (λ writer. (writer.lock ≡ guard.lock) × (writer.seat ≡ with_writing guard.seat)) }
+        ensures reads { IfErr result (λ reader. (reader.lock ≡ guard.lock) × (reader.seat ≡ with_found reader.seat.found guard.seat)) }
+        ensures beside { IfErr result (λ reader. reader.seat.found ≢ 2) }
     {
-        let (owner, mut seat) = guard.into_seat();
-        if owner.lock().raw.try_upgrade(&mut seat) {
-            Ok(WriteGuard::new(owner, seat))
-        } else {
-            Err(UpgradableGuard::new(owner, seat))
+        let (owner, upgradable) = guard.into_party();
+        match owner.lock().raw.try_upgrade(upgradable) {
+            Ok(writer) => Ok(WriteGuard::new(owner, writer)),
+            Err(upgradable) => Err(UpgradableGuard::new(owner, upgradable)),
         }
     }
 
@@ -132,8 +149,9 @@ impl<T, R: Wait, O: Owns<Value = T, Runtime = R>> UpgradableGuard<T, R, O> {
     pub fn upgrade(guard: Self) -> UpgradeFuture<T, R, O>
         ensures { IsOf O.lock_of result.stage guard.lock }
     {
-        let (owner, seat) = guard.into_seat();
-        let begun = owner.lock().raw.begin_upgrade(seat);
+        let (owner, upgradable) = guard.into_party();
+        let lock = owner.lock();
+        let begun = lock.raw.begin_upgrade(&lock.rt, upgradable);
         UpgradeFuture::new(owner, begun)
     }
 }
@@ -150,17 +168,9 @@ impl<T, R: Wait, O: Owns<Value = T, Runtime = R>> Deref for UpgradableGuard<T, R
 
 impl<T, R: Wait, O: Owns<Value = T, Runtime = R>> Drop for UpgradableGuard<T, R, O> {
     fn drop(self) {
-        let Self {
-            owner,
-            glance,
-            pledge,
-            runtime: _,
-        } = self;
+        let (owner, upgradable) = self.into_party();
         let lock = owner.lock();
-        let seat = lock.end_read(glance, pledge);
-        if let Some(notifies) = lock.raw.drop_upgradable(seat) {
-            lock.raw.notify(&lock.rt, notifies);
-        }
+        lock.raw.release_upgradable(&lock.rt, upgradable);
         drop(owner);
     }
 }

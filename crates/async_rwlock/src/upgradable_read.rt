@@ -1,21 +1,25 @@
 //! The future of an upgradable read.
 
-ghost use Rattle.std.specs.Prelude.{◌≡◌, false, None};
+ghost use Rattle.std.specs.Prelude.{◌≡◌, false, IfSome, None, Some};
 ghost use Rattle.futures.specs.Task.{Covers, Keeps};
 ghost use Rattle.async_driver.specs.Turns.{OnPending};
-ghost use Rattle.async_rwlock.specs.Stages.{HasReceiptAt, IsAsMade, IsOf, IsTurn, OnRefused, WaitsAt, future, is_finished};
-ghost use Rattle.rwlock_driver.specs.declared.aim.Aim.TheVariants as aims;
+ghost use Rattle.async_rwlock.specs.Stages.{At, HasReceiptAt, IsOf, IsTurn, Looks, OnPolled, OnRefused, OnWaits, WaitsAt, future, is_finished, turn_entry};
+ghost use Rattle.mutex_core.specs.Locks.{IsOf as IsTurnOf};
+ghost use Rattle.mutex_core.specs.Outcomes.{IsHeldOf};
+ghost use Rattle.rwlock_core.specs.Outcomes.{IsUpgradableRefusal};
+ghost use Rattle.rwlock_core.specs.Parties.{IsUpgradableOf};
 
 use crate::owns::Owns;
-use crate::stage::{Stage, Start, Went, begin_poll, drop_as, poll_as};
+use crate::stage::{Look, Stage, no_share};
 use crate::upgradable_guard::UpgradableGuard;
-use async_driver::{Polled, Turn};
+use async_driver::{Polled, Turn, nothing, put};
 use futures::task::Context;
-use rwlock_driver::{Aim, Resting};
-use std::fmt;
+use mutex_core::{Held, Vain, Waiting};
+use rwlock_core::{Outcome, Upgradable};
 use std::marker::{Model, PhantomData};
 use std::sync::Wait;
 use std::time::Clock;
+use std::{fmt, mem};
 
 /// A future of a right to read that can become a right to write. Dropping it while it waits gives back what it has: its entry, a
 /// notification that the entry had, and its count as starved.
@@ -23,21 +27,21 @@ use std::time::Clock;
 /// Contracts see how far it is (`stage`), and what it has at the lock meanwhile (`waiting`).
 pub struct UpgradableFuture<T, R: Wait, O: Owns<Value = T, Runtime = R>> {
     stage: Stage<O>,
-    // `None` before the first poll, and once it was ready.
-    waiting: Option<Resting>,
+    // `None` before the first poll that didn't get the right, and once it was ready.
+    waiting: Option<Waiting<()>>,
     lock: PhantomData<(T, R)>,
 }
 
 impl<T, R: Wait, O: Owns<Value = T, Runtime = R>> Model for UpgradableFuture<T, R, O> {
     ghost use Rattle.std.specs.Prelude.{IfSome};
-    ghost use Rattle.async_rwlock.specs.Stages.{Future, WaitsAs, future};
-    ghost use Rattle.rwlock_driver.specs.declared.aim.Aim.TheVariants as aims;
+    ghost use Rattle.async_rwlock.specs.Stages.{At, Future, future, turn_entry};
+    ghost use Rattle.mutex_core.specs.Locks.{IsOf as IsTurnOf};
 
     ghost Value = { Future O };
 
-    ghost view = { λ l. future l.stage l.waiting };
+    ghost view = { λ l. future l.stage (turn_entry l.waiting) };
 
-    ghost invariant = { λ l. IfSome l.waiting (WaitsAs O.lock_of aims.UpgradableRead l.stage) };
+    ghost invariant = { λ l. IfSome l.waiting (λ w. At O.lock_of l.stage (λ raw. IsTurnOf raw.turn w.seat)) };
 }
 
 impl<T, R: Wait, O: Owns<Value = T, Runtime = R>> UpgradableFuture<T, R, O> {
@@ -63,30 +67,34 @@ impl<T, R: Wait + Clock, O: Owns<Value = T, Runtime = R>> UpgradableFuture<T, R,
     /// again (`refused`). Once it was ready it is refused as [`Refusal::Finished`](crate::Refusal::Finished), and nothing changes (`turn`).
     ///
     /// Pending, it has an entry in the list of what it wants next, which keeps a waker of the task that polls (`receipt`). The task
-    /// has registered with the lock's source (`registered`), and keeps what it had registered before (`kept`).
+    /// has registered with the source of that (`registered`), and keeps what it had registered before (`kept`).
     #[inline]
     pub fn poll(&mut self, cx: &mut Context<'_>) -> Turn<UpgradableGuard<T, R, O>>
-        ensures turn { IsTurn aims.UpgradableRead (λ guard. IsOf O.lock_of self.old.stage guard.lock) (is_finished self.old.stage) result (is_finished self.new.stage) }
+        ensures turn { IsTurn IsUpgradableRefusal (λ guard. IsOf O.lock_of self.old.stage guard.lock) (is_finished self.old.stage) result (is_finished self.new.stage) }
         ensures share { is_finished self.new.stage ≡ false → self.new.stage ≡ self.old.stage }
-        ensures refused { OnRefused result (IsAsMade aims.UpgradableRead self.new.waiting) }
+        ensures refused { OnRefused result (self.new.waiting ≡ None) }
         ensures receipt { OnPending result (HasReceiptAt O.lock_of self.old.stage cx.new self.new.waiting) }
-        ensures registered { OnPending result (Covers cx.new (WaitsAt O.lock_of self.old.stage)) }
+        ensures registered { OnPending result (Covers cx.new (WaitsAt O.lock_of self.old.stage self.new.waiting)) }
         ensures kept { Keeps cx.old cx.new }
     {
-        let way = match begin_poll::<T, R, O>(Aim::UpgradableRead, &mut self.stage, &self.waiting) {
-            Start::Got(owner, seat) => return Turn::Ready(UpgradableGuard::new(owner, seat)),
-            Start::GoesOn(way) => way,
+        let outcome = match self.waiting.take() {
+            Some(waiting) => later_poll::<T, R, O>(&self.stage, cx, waiting),
+            None => match first_look::<T, R, O>(&self.stage) {
+                Look::Got(turn) => with_turn::<T, R, O>(&self.stage, cx, turn),
+                Look::Vain(vain) => first_poll::<T, R, O>(&self.stage, cx, vain),
+                Look::NoShare => return Turn::Refused(no_share(&self.stage)),
+            },
         };
-        match poll_as::<T, R, O>(
-            Aim::UpgradableRead,
-            way,
-            &mut self.stage,
-            &mut self.waiting,
-            cx,
-        ) {
-            Went::Got(owner, seat) => Turn::Ready(UpgradableGuard::new(owner, seat)),
-            Went::Waits => Turn::Pending,
-            Went::Refused(refusal) => Turn::Refused(refusal),
+        match outcome {
+            Outcome::Got(right) => {
+                let stage = mem::replace(&mut self.stage, Stage::Finished);
+                Turn::Ready(UpgradableGuard::of_stage(stage, right))
+            }
+            Outcome::Waits(waits) => {
+                put(&mut self.waiting, waits);
+                Turn::Pending
+            }
+            Outcome::Refused(refusal) => Turn::Refused(refusal),
         }
     }
 }
@@ -95,18 +103,102 @@ impl<T, R: Wait + Clock, O: Owns<Value = T, Runtime = R>> Polled for UpgradableF
     type Got = UpgradableGuard<T, R, O>;
 
     ghost use Rattle.async_rwlock.specs.Stages.{CanRefuse, IsOf, is_finished};
-    ghost use Rattle.rwlock_driver.specs.declared.aim.Aim.TheVariants as aims;
+    ghost use Rattle.rwlock_core.specs.Outcomes.{IsUpgradableRefusal};
 
     ghost gives = { λ future guard. IsOf O.lock_of future.stage guard.lock };
 
-    ghost refuses = { λ future. CanRefuse aims.UpgradableRead (is_finished future.stage) };
+    ghost refuses = { λ future. CanRefuse IsUpgradableRefusal (is_finished future.stage) };
 
     fn poll_turn(&mut self, cx: &mut Context<'_>) -> Turn<UpgradableGuard<T, R, O>> {
         self.poll(cx)
     }
 }
 
+// The first look by who has the lock.
+#[inline]
+fn first_look<T, R: Wait, O: Owns<Value = T, Runtime = R>>(
+    stage: &Stage<O>,
+) -> Look<Held<()>, Vain<()>>
+    ensures { Looks stage.now (λ turn. At O.lock_of stage.now (λ raw. IsHeldOf raw.turn turn)) (λ vain. At O.lock_of stage.now (λ raw. IsTurnOf raw.turn vain.seat)) result }
+{
+    match stage {
+        Stage::Waits(owner) => {
+            let lock = owner.lock();
+            match lock.raw.turn.first_look() {
+                Ok(turn) => Look::Got(turn),
+                Err(vain) => Look::Vain(vain),
+            }
+        }
+        Stage::Unowned | Stage::Finished => Look::NoShare,
+    }
+}
+
+// What comes once a first look got the turn.
+#[inline(always)]
+fn with_turn<T, R: Wait + Clock, O: Owns<Value = T, Runtime = R>>(
+    stage: &Stage<O>,
+    cx: &mut Context<'_>,
+    turn: Held<()>,
+) -> Outcome<Upgradable, Waiting<()>>
+    requires { At O.lock_of stage.now (λ raw. IsHeldOf raw.turn turn) }
+    ensures outcome { OnPolled (λ right. At O.lock_of stage.now (λ raw. IsUpgradableOf raw right)) (λ w. At O.lock_of stage.now (λ raw. IsTurnOf raw.turn w.seat)) IsUpgradableRefusal result }
+    ensures receipt { OnWaits result (λ w. HasReceiptAt O.lock_of stage.now cx.new (turn_entry (Some w)) × Covers cx.new (WaitsAt O.lock_of stage.now (turn_entry (Some w)))) }
+    ensures kept { Keeps cx.old cx.new }
+{
+    match stage {
+        Stage::Waits(owner) => {
+            let lock = owner.lock();
+            let _ = cx;
+            lock.raw.upgradable_with(&lock.rt, turn)
+        }
+        Stage::Unowned | Stage::Finished => unreachable!(),
+    }
+}
+
+// The rest of a first poll whose look was in vain. It stands apart, since what it takes room for would be cleared at each poll.
+#[inline(never)]
+fn first_poll<T, R: Wait + Clock, O: Owns<Value = T, Runtime = R>>(
+    stage: &Stage<O>,
+    cx: &mut Context<'_>,
+    vain: Vain<()>,
+) -> Outcome<Upgradable, Waiting<()>>
+    requires { At O.lock_of stage.now (λ raw. IsTurnOf raw.turn vain.seat) }
+    ensures outcome { OnPolled (λ right. At O.lock_of stage.now (λ raw. IsUpgradableOf raw right)) (λ w. At O.lock_of stage.now (λ raw. IsTurnOf raw.turn w.seat)) IsUpgradableRefusal result }
+    ensures receipt { OnWaits result (λ w. HasReceiptAt O.lock_of stage.now cx.new (turn_entry (Some w)) × Covers cx.new (WaitsAt O.lock_of stage.now (turn_entry (Some w)))) }
+    ensures kept { Keeps cx.old cx.new }
+{
+    match stage {
+        Stage::Waits(owner) => {
+            let lock = owner.lock();
+            lock.raw.poll_upgradable(&lock.rt, cx, vain)
+        }
+        Stage::Unowned | Stage::Finished => unreachable!(),
+    }
+}
+
+// A poll of what waits. It stands apart, so that a poll is short where it is called that gets its right at once.
+#[inline(never)]
+fn later_poll<T, R: Wait + Clock, O: Owns<Value = T, Runtime = R>>(
+    stage: &Stage<O>,
+    cx: &mut Context<'_>,
+    waiting: Waiting<()>,
+) -> Outcome<Upgradable, Waiting<()>>
+    requires { At O.lock_of stage.now (λ raw. IsTurnOf raw.turn waiting.seat) }
+    ensures outcome { OnPolled (λ right. At O.lock_of stage.now (λ raw. IsUpgradableOf raw right)) (λ w. At O.lock_of stage.now (λ raw. IsTurnOf raw.turn w.seat)) IsUpgradableRefusal result }
+    ensures receipt { OnWaits result (λ w. HasReceiptAt O.lock_of stage.now cx.new (turn_entry (Some w)) × Covers cx.new (WaitsAt O.lock_of stage.now (turn_entry (Some w)))) }
+    ensures kept { Keeps cx.old cx.new }
+{
+    match stage {
+        Stage::Waits(owner) => {
+            let lock = owner.lock();
+            lock.raw.poll_upgradable_later(&lock.rt, cx, waiting)
+        }
+        Stage::Unowned | Stage::Finished => unreachable!(),
+    }
+}
+
 impl<T, R: Wait, O: Owns<Value = T, Runtime = R>> Drop for UpgradableFuture<T, R, O> {
+    // What a dropped future gives back, its share of the lock last.
     #[inline]
     fn drop(self) {
         let Self {
@@ -114,7 +206,16 @@ impl<T, R: Wait, O: Owns<Value = T, Runtime = R>> Drop for UpgradableFuture<T, R
             waiting,
             lock: _,
         } = self;
-        drop_as::<T, R, O>(Aim::UpgradableRead, stage, waiting);
+        match stage {
+            Stage::Waits(owner) => {
+                if let Some(waiting) = waiting {
+                    let lock = owner.lock();
+                    lock.raw.turn.cancel(&lock.rt, waiting);
+                }
+                drop(owner);
+            }
+            Stage::Unowned | Stage::Finished => nothing(waiting),
+        }
     }
 }
 

@@ -1,22 +1,27 @@
 //! The future of an upgrade.
 
-ghost use Rattle.std.specs.Prelude.{◌≡◌, false, None};
+ghost use Rattle.std.specs.Prelude.{◌≡◌, false, IfSome, None};
 ghost use Rattle.futures.specs.Task.{Covers, Keeps};
 ghost use Rattle.async_driver.specs.Turns.{OnPending};
-ghost use Rattle.async_rwlock.specs.Stages.{HasReceiptAt, IsAsMade, IsOf, IsTurn, IsUpgrading, OnRefused, WaitsAt, future, is_finished};
-ghost use Rattle.rwlock_driver.specs.declared.aim.Aim.TheVariants as aims;
-ghost use Rattle.rwlock_driver.specs.Rights.{HasBegun};
+ghost use Rattle.async_rwlock.specs.Stages.{At, HasReceiptAt, IsOf, IsTurn, OnRefused, WaitsAt, is_finished};
+ghost use Rattle.async_rwlock.specs.Upgrades.{OnUpgraded};
+ghost use Rattle.mutex_core.specs.Outcomes.{IsHeldOf};
+ghost use Rattle.access_core.specs.Accesses.{IsOf as IsSeatAt};
+ghost use Rattle.rwlock_core.specs.Outcomes.{IsUpgradeRefusal};
+ghost use Rattle.rwlock_core.specs.Parties.{IsBegunOf, IsUpgradingOf};
 
 use crate::owns::Owns;
-use crate::stage::{Stage, Went, drop_as, drop_begun, into_writer, poll_as, poll_begun};
+use crate::stage::{Stage, no_share};
 use crate::write_guard::WriteGuard;
-use async_driver::{Polled, Turn};
+use async_driver::{Polled, Turn, nothing, put};
 use futures::task::Context;
-use rwlock_driver::{Aim, Begun, Resting};
-use std::fmt;
+use lock_program::Refusal;
+use mutex_core::Held;
+use rwlock_core::{Begun, Upgraded, Upgrading, WaitsToWrite};
 use std::marker::{Model, PhantomData};
 use std::sync::Wait;
 use std::time::Clock;
+use std::{fmt, mem};
 
 /// A future of the right to write in place of an upgradable read. From the call on that makes it nobody begins to read, and it is ready
 /// once no reader is left. Until then it lends nothing. Dropping it gives up the right: readers and writers that wait are
@@ -25,29 +30,31 @@ use std::time::Clock;
 /// Contracts see how far it is (`stage`), and what it has at the lock meanwhile (`waiting`).
 pub struct UpgradeFuture<T, R: Wait, O: Owns<Value = T, Runtime = R>> {
     stage: Stage<O>,
-    // There before the first poll.
+    // There before the first poll, and where a poll was refused.
     begun: Option<Begun>,
-    // There from the first poll on that wasn't ready.
-    waiting: Option<Resting>,
+    // There while it waits, with the turn.
+    waiting: Option<(WaitsToWrite, Held<()>)>,
     lock: PhantomData<(T, R)>,
 }
 
 impl<T, R: Wait, O: Owns<Value = T, Runtime = R>> Model for UpgradeFuture<T, R, O> {
-    ghost use Rattle.std.specs.Prelude.{IfSome};
-    ghost use Rattle.async_rwlock.specs.Stages.{Future, IsUpgrading, WaitsAs, future};
-    ghost use Rattle.rwlock_driver.specs.declared.aim.Aim.TheVariants as aims;
+    ghost use Rattle.std.specs.Prelude.{◌≡◌, IfSome, None};
+    ghost use Rattle.async_rwlock.specs.Stages.{At, Future, future, upgrades_entry};
+    ghost use Rattle.mutex_core.specs.Outcomes.{IsHeldOf};
+    ghost use Rattle.access_core.specs.Accesses.{IsOf as IsSeatAt};
+    ghost use Rattle.rwlock_core.specs.Parties.{IsBegunOf};
 
     ghost Value = { Future O };
 
-    ghost view = { λ l. future l.stage l.waiting };
+    ghost view = { λ l. future l.stage (upgrades_entry l.waiting) };
 
-    ghost invariant = { λ l. IfSome l.waiting (WaitsAs O.lock_of aims.Upgrade l.stage) × IsUpgrading O.lock_of l.stage l.begun l.waiting };
+    ghost invariant = { λ l. IfSome l.begun (λ b. (l.waiting ≡ None) × At O.lock_of l.stage (λ raw. IsBegunOf raw b)) × IfSome l.waiting (λ w. At O.lock_of l.stage (λ raw. IsSeatAt raw.access w.0.seat × IsHeldOf raw.turn w.1)) };
 }
 
 impl<T, R: Wait, O: Owns<Value = T, Runtime = R>> UpgradeFuture<T, R, O> {
     #[inline]
     pub(crate) fn new(owner: O, begun: Begun) -> UpgradeFuture<T, R, O>
-        requires { HasBegun (O.lock_of owner).raw begun }
+        requires { IsBegunOf (O.lock_of owner).raw begun }
         ensures { IsOf O.lock_of result.stage (O.lock_of owner) }
     {
         UpgradeFuture {
@@ -67,30 +74,37 @@ impl<T, R: Wait + Clock, O: Owns<Value = T, Runtime = R>> UpgradeFuture<T, R, O>
     /// [`Refusal::Finished`](crate::Refusal::Finished), and nothing changes (`turn`).
     ///
     /// Pending, it has an entry in the list of what it wants next, which keeps a waker of the task that polls (`receipt`). The task
-    /// has registered with the lock's source (`registered`), and keeps what it had registered before (`kept`).
+    /// has registered with the source of that (`registered`), and keeps what it had registered before (`kept`).
     #[inline]
     pub fn poll(&mut self, cx: &mut Context<'_>) -> Turn<WriteGuard<T, R, O>>
-        ensures turn { IsTurn aims.Upgrade (λ guard. IsOf O.lock_of self.old.stage guard.lock) (is_finished self.old.stage) result (is_finished self.new.stage) }
+        ensures turn { IsTurn IsUpgradeRefusal (λ guard. IsOf O.lock_of self.old.stage guard.lock) (is_finished self.old.stage) result (is_finished self.new.stage) }
         ensures share { is_finished self.new.stage ≡ false → self.new.stage ≡ self.old.stage }
-        ensures refused { OnRefused result (IsAsMade aims.Upgrade self.new.waiting) }
+        ensures refused { OnRefused result (self.new.waiting ≡ None) }
         ensures receipt { OnPending result (HasReceiptAt O.lock_of self.old.stage cx.new self.new.waiting) }
-        ensures registered { OnPending result (Covers cx.new (WaitsAt O.lock_of self.old.stage)) }
+        ensures registered { OnPending result (Covers cx.new (WaitsAt O.lock_of self.old.stage self.new.waiting)) }
         ensures kept { Keeps cx.old cx.new }
     {
-        let went = match self.begun.take() {
-            Some(Begun::Writes(seat)) => {
-                let (owner, seat) = into_writer::<T, R, O>(seat, &mut self.stage, &self.waiting);
-                return Turn::Ready(WriteGuard::new(owner, seat));
-            }
-            Some(Begun::Awaits(seat)) => {
-                poll_begun::<T, R, O>(seat, &mut self.stage, &mut self.waiting, cx)
-            }
-            None => poll_as::<T, R, O>(Aim::Upgrade, None, &mut self.stage, &mut self.waiting, cx),
+        let upgraded = match self.begun.take() {
+            Some(Begun::Writes(writer)) => Upgraded::Got(writer),
+            Some(Begun::Awaits(upgrading)) => { first_poll::<T, R, O>(&self.stage, cx, upgrading) }
+            None => match self.waiting.take() {
+                Some((waiting, turn)) => later_poll::<T, R, O>(&self.stage, cx, waiting, turn),
+                None => return Turn::Refused(no_share(&self.stage)),
+            },
         };
-        match went {
-            Went::Got(owner, seat) => Turn::Ready(WriteGuard::new(owner, seat)),
-            Went::Waits => Turn::Pending,
-            Went::Refused(refusal) => Turn::Refused(refusal),
+        match upgraded {
+            Upgraded::Got(writer) => {
+                let stage = mem::replace(&mut self.stage, Stage::Finished);
+                Turn::Ready(WriteGuard::of_stage(stage, writer))
+            }
+            Upgraded::Waits(waiting, turn) => {
+                put(&mut self.waiting, (waiting, turn));
+                Turn::Pending
+            }
+            Upgraded::NoMemory(upgrading) => {
+                put(&mut self.begun, Begun::Awaits(upgrading));
+                Turn::Refused(Refusal::Memory)
+            }
         }
     }
 }
@@ -99,14 +113,55 @@ impl<T, R: Wait + Clock, O: Owns<Value = T, Runtime = R>> Polled for UpgradeFutu
     type Got = WriteGuard<T, R, O>;
 
     ghost use Rattle.async_rwlock.specs.Stages.{CanRefuse, IsOf, is_finished};
-    ghost use Rattle.rwlock_driver.specs.declared.aim.Aim.TheVariants as aims;
+    ghost use Rattle.rwlock_core.specs.Outcomes.{IsUpgradeRefusal};
 
     ghost gives = { λ future guard. IsOf O.lock_of future.stage guard.lock };
 
-    ghost refuses = { λ future. CanRefuse aims.Upgrade (is_finished future.stage) };
+    ghost refuses = { λ future. CanRefuse IsUpgradeRefusal (is_finished future.stage) };
 
     fn poll_turn(&mut self, cx: &mut Context<'_>) -> Turn<WriteGuard<T, R, O>> {
         self.poll(cx)
+    }
+}
+
+// The first poll of an upgrade that waits until nobody else reads, whose seat has set the writer's bit.
+#[inline]
+fn first_poll<T, R: Wait, O: Owns<Value = T, Runtime = R>>(
+    stage: &Stage<O>,
+    cx: &mut Context<'_>,
+    upgrading: Upgrading,
+) -> Upgraded
+    requires { At O.lock_of stage.now (λ raw. IsUpgradingOf raw upgrading) }
+    ensures outcome { OnUpgraded O.lock_of stage.now cx.new result }
+    ensures kept { Keeps cx.old cx.new }
+{
+    match stage {
+        Stage::Waits(owner) => {
+            let lock = owner.lock();
+            lock.raw.poll_upgrade(&lock.rt, cx, upgrading)
+        }
+        Stage::Unowned | Stage::Finished => unreachable!(),
+    }
+}
+
+// A poll of what waits.
+#[inline(never)]
+fn later_poll<T, R: Wait, O: Owns<Value = T, Runtime = R>>(
+    stage: &Stage<O>,
+    cx: &mut Context<'_>,
+    waiting: WaitsToWrite,
+    turn: Held<()>,
+) -> Upgraded
+    requires { At O.lock_of stage.now (λ raw. IsSeatAt raw.access waiting.seat × IsHeldOf raw.turn turn) }
+    ensures outcome { OnUpgraded O.lock_of stage.now cx.new result }
+    ensures kept { Keeps cx.old cx.new }
+{
+    match stage {
+        Stage::Waits(owner) => {
+            let lock = owner.lock();
+            lock.raw.poll_upgrade_later(&lock.rt, cx, waiting, turn)
+        }
+        Stage::Unowned | Stage::Finished => unreachable!(),
     }
 }
 
@@ -119,11 +174,37 @@ impl<T, R: Wait, O: Owns<Value = T, Runtime = R>> Drop for UpgradeFuture<T, R, O
             waiting,
             lock: _,
         } = self;
-        match begun {
-            Some(begun) => drop_begun::<T, R, O>(begun, stage, waiting),
-            None => drop_as::<T, R, O>(Aim::Upgrade, stage, waiting),
+        match stage {
+            Stage::Waits(owner) => give_back::<T, R, O>(owner, begun, waiting),
+            Stage::Unowned | Stage::Finished => {
+                nothing(begun);
+                nothing(waiting);
+            }
         }
     }
+}
+
+// What a dropped upgrade gives back that hasn't been ready: its entry, the writer's bit and the turn, and its share of the lock last. It stands
+// apart, so that the drop of one that was ready is short.
+#[inline(never)]
+fn give_back<T, R: Wait, O: Owns<Value = T, Runtime = R>>(
+    owner: O,
+    begun: Option<Begun>,
+    waiting: Option<(WaitsToWrite, Held<()>)>,
+)
+    requires begun { IfSome begun (IsBegunOf (O.lock_of owner).raw) }
+    requires waiting { IfSome waiting (λ w. IsSeatAt (O.lock_of owner).raw.access w.0.seat × IsHeldOf (O.lock_of owner).raw.turn w.1) }
+{
+    let lock = owner.lock();
+    match begun {
+        Some(Begun::Writes(writer)) => lock.raw.release_write(&lock.rt, writer),
+        Some(Begun::Awaits(upgrading)) => lock.raw.cancel_upgrading(&lock.rt, upgrading),
+        None => {}
+    }
+    if let Some((waiting, turn)) = waiting {
+        lock.raw.cancel_awaiting(&lock.rt, waiting, turn);
+    }
+    drop(owner);
 }
 
 impl<T, R: Wait, O: Owns<Value = T, Runtime = R>> fmt::Debug for UpgradeFuture<T, R, O> {

@@ -1,91 +1,111 @@
 //! The writer.
 
 ghost use Rattle.std.specs.Prelude.{◌≡◌};
-ghost use Rattle.rwlock_driver.specs.Rights.{Has, writer};
-ghost use Rattle.words_rwlock.specs.Steps.{downgraded, without_turn};
+ghost use Rattle.async_rwlock.specs.Stages.{At, IsOf};
+ghost use Rattle.access_core.specs.Accesses.{with_downgrade};
+ghost use Rattle.rwlock_core.specs.Parties.{IsWriterOf};
 
 use crate::owns::Owns;
 use crate::read_guard::ReadGuard;
+use crate::stage::Stage;
 use crate::upgradable_guard::UpgradableGuard;
-use rwlock_vault::Grip;
+use access_vault::Grip;
+use rwlock_core::{Pledge, Turn, Writer};
 use std::fmt;
 use std::marker::{Model, PhantomData};
 use std::ops::Deref;
 use std::sync::Wait;
-use words_rwlock::{Pledge, Seat};
 
 /// The right to write, and the value to read and write. Dropping it ends the right. It notifies the readers that wait, and one of
 /// those who wait to write or to read upgradably.
 ///
-/// Its type keeps that its seat writes, and that the value is lent against that. Contracts see the lock, the value, and the seat
-/// (`seat`, and what it knows of itself, `view`).
+/// Its type keeps that its seat writes, and that the value is lent against that. Contracts see the lock, the value, and the seat with
+/// what it knows of itself.
 pub struct WriteGuard<T, R: Wait, O: Owns<Value = T, Runtime = R>> {
     pub(crate) owner: O,
     pub(crate) grip: Grip<T>,
     // The seat, while what it says is lent.
     pledge: Pledge,
+    // The turn.
+    turn: Turn,
     runtime: PhantomData<R>,
 }
 
 impl<T, R: Wait, O: Owns<Value = T, Runtime = R>> Model for WriteGuard<T, R, O> {
-    ghost use Rattle.std.specs.Prelude.{◌≡◌, []};
+    ghost use Rattle.std.specs.Prelude.{◌≡◌, false, []};
     ghost use Rattle.async_rwlock.specs.Guards.{Held};
-    ghost use Rattle.rwlock_driver.specs.Rights.{Shows, writer};
+    ghost use Rattle.mutex_core.specs.Outcomes.{IsHeldOf};
+    ghost use Rattle.access_core.specs.Accesses.{IsWriting, seated};
 
     ghost Value = { Held T R };
 
-    ghost view = { λ g. record { lock = O.lock_of g.owner; value = g.grip.value; seat = g.grip.id; view = g.grip.view } };
+    ghost view = { λ g. record { lock = O.lock_of g.owner; value = g.grip.value; seat = seated (O.lock_of g.owner).raw.access.table g.grip.id g.grip.view } };
 
-    ghost invariant = { λ g. (g.grip.vault_id ≡ (O.lock_of g.owner).vault.vault_id) × Shows g.grip.view writer × (g.pledge.badge.views ≡ []) };
+    ghost invariant = { λ g. (g.grip.vault_id ≡ (O.lock_of g.owner).vault.vault_id) × (g.grip.view.has_lists ≡ false) × IsWriting (seated (O.lock_of g.owner).raw.access.table g.grip.id g.grip.view) × IsHeldOf (O.lock_of g.owner).raw.turn g.turn × (g.pledge.badge.views ≡ []) };
 }
 
 impl<T, R: Wait, O: Owns<Value = T, Runtime = R>> WriteGuard<T, R, O> {
     #[inline]
-    pub(crate) fn new(owner: O, seat: Seat) -> WriteGuard<T, R, O>
-        requires { Has (O.lock_of owner).raw writer seat }
+    pub(crate) fn new(owner: O, writer: Writer) -> WriteGuard<T, R, O>
+        requires { IsWriterOf (O.lock_of owner).raw writer }
         ensures lock { result.lock ≡ O.lock_of owner }
-        ensures seat { (result.seat ≡ seat.inner.id) × (result.view ≡ seat.inner.me.0) }
+        ensures seat { result.seat ≡ writer.seat }
     {
+        let Writer { seat, turn } = writer;
         let (grip, pledge) = owner.lock().lend_write(seat);
         WriteGuard {
             owner,
             grip,
             pledge,
+            turn,
             runtime: PhantomData,
         }
     }
 
-    // Who has the lock, and the seat with its right. Nothing is lent any more.
-    fn into_seat(self) -> (O, Seat)
+    /// The guard of a future that got the right, with who has the lock.
+    #[inline]
+    pub(crate) fn of_stage(stage: Stage<O>, writer: Writer) -> WriteGuard<T, R, O>
+        requires { At O.lock_of stage (λ raw. IsWriterOf raw writer) }
+        ensures { IsOf O.lock_of stage result.lock }
+    {
+        match stage {
+            Stage::Waits(owner) => WriteGuard::new(owner, writer),
+            Stage::Unowned | Stage::Finished => unreachable!(),
+        }
+    }
+
+    // Who has the lock, and the party with its right. Nothing is lent any more.
+    fn into_party(self) -> (O, Writer)
         ensures owner { O.lock_of result.0 ≡ self.lock }
-        ensures seat { Has self.lock.raw writer result.1 }
-        ensures same { (result.1.inner.id ≡ self.seat) × (result.1.inner.me.0 ≡ self.view) }
+        ensures party { IsWriterOf self.lock.raw result.1 }
+        ensures same { result.1.seat ≡ self.seat }
     {
         let Self {
             owner,
             grip,
             pledge,
+            turn,
             runtime: _,
         } = self;
         let seat = owner.lock().end_write(grip, pledge);
-        (owner, seat)
+        (owner, Writer { seat, turn })
     }
 
     /// Reads in place of writing, and notifies the readers that wait. Upgradable readers and writers that wait may go on.
     ///
-    /// It is the same seat throughout, and by two steps alone (`same`): at no time has it neither right, so nobody writes in between.
+    /// It is the same seat throughout, by one step (`same`): at no time has it neither right, so nobody writes in between.
     ///
     /// ```
     /// let reader = RwLockWriteGuard::downgrade(writer);
     /// ```
     pub fn downgrade(guard: Self) -> ReadGuard<T, R, O>
         ensures lock { result.lock ≡ guard.lock }
-        ensures same { (result.seat ≡ guard.seat) × (result.view ≡ without_turn (downgraded guard.view)) }
+        ensures same { result.seat ≡ with_downgrade guard.seat }
     {
-        let (owner, seat) = guard.into_seat();
+        let (owner, writer) = guard.into_party();
         let lock = owner.lock();
-        let seat = lock.raw.downgrade_write(&lock.rt, seat);
-        ReadGuard::new(owner, seat)
+        let reader = lock.raw.downgrade_write(&lock.rt, writer);
+        ReadGuard::new(owner, reader)
     }
 
     /// Reads in place of writing, with the right to upgrade, and notifies the readers that wait. It is the same seat, by one step
@@ -96,12 +116,12 @@ impl<T, R: Wait, O: Owns<Value = T, Runtime = R>> WriteGuard<T, R, O> {
     /// ```
     pub fn downgrade_to_upgradable(guard: Self) -> UpgradableGuard<T, R, O>
         ensures lock { result.lock ≡ guard.lock }
-        ensures same { (result.seat ≡ guard.seat) × (result.view ≡ downgraded guard.view) }
+        ensures same { result.seat ≡ with_downgrade guard.seat }
     {
-        let (owner, seat) = guard.into_seat();
+        let (owner, writer) = guard.into_party();
         let lock = owner.lock();
-        let seat = lock.raw.downgrade_to_upgradable(&lock.rt, seat);
-        UpgradableGuard::new(owner, seat)
+        let upgradable = lock.raw.downgrade_to_upgradable(&lock.rt, writer);
+        UpgradableGuard::new(owner, upgradable)
     }
 }
 
@@ -117,17 +137,9 @@ impl<T, R: Wait, O: Owns<Value = T, Runtime = R>> Deref for WriteGuard<T, R, O> 
 
 impl<T, R: Wait, O: Owns<Value = T, Runtime = R>> Drop for WriteGuard<T, R, O> {
     fn drop(self) {
-        let Self {
-            owner,
-            grip,
-            pledge,
-            runtime: _,
-        } = self;
+        let (owner, writer) = self.into_party();
         let lock = owner.lock();
-        let seat = lock.end_write(grip, pledge);
-        if let Some(notifies) = lock.raw.drop_write(seat) {
-            lock.raw.notify(&lock.rt, notifies);
-        }
+        lock.raw.release_write(&lock.rt, writer);
         drop(owner);
     }
 }

@@ -1,18 +1,15 @@
 -- Each step on the table keeps its rule: as the table asks it of a call.
-use Rattle.std.proofs.Common.{◌≡◌, ◌≢◌, ℕ, ◌+◌, ◌-◌, ◌/◌, ◌%◌, ◌^◌, ◌<◌, ◌≤◌, eqb, bit_or, lt_of_not-le, Bool, true, false, List, [], ◌∷◌, ◌++◌, length, get_or, sym, refl, ap, ◌∙◌, subst, arith, ⊎_elim, inl, inr}
-use mathlib.Core.Option.{some}
+use Rattle.std.proofs.Common.{◌≡◌, ℕ, ◌+◌, ◌-◌, ◌/◌, ◌%◌, ◌^◌, ◌<◌, eqb, bit_or, lt_of_not-le, true, false, List, [], ◌∷◌, ◌++◌, get_or, sym, refl, ap, ◌∙◌, subst, arith, ⊎_elim, inl, inr}
 use mathlib.Core.Logic.{dite}
 use native.Mathlib.Decide.{dec_le, ℕ_discrete}
 use prog.Atomic.{either}
-use lib.ListN.{get_elem?}
 use Rattle.atomic_table.specs.Table.{State, Me, keeps, takes, gives, stepped, rest, Enters, Allows}
 use Rattle.atomic_table.proofs.Lists.{at_snoc}
-use Rattle.words_base.specs.Sums.{weight, number}
 use Rattle.words_base.specs.Waiting.{last_of}
 use Rattle.words_base.proofs.Sums.{number-none}
 use Rattle.words_base.proofs.Exchanges.{exchanged}
 use Rattle.words_access.specs.Lists.{Listed}
-use Rattle.words_access.specs.Rule.{first_view, marks_of, reads_of, writes_of, has_lists_out, Nested, AllNested, SaysEmpty, Ruled, LosesNone}
+use Rattle.words_access.specs.Rule.{first_view, marks_of, reads_of, writes_of, has_lists_out, Nested, Ruled, LosesNone}
 use Rattle.words_access.specs.Seats.{having_found, saw_writer_of, saw_readers_of, reading_of, left_of, last_left_of, writing_of, marking_of, upgraded_of, down_of, unmarked_of, eased_of, listing_of, back, joined_readers_of, joined_writer_of, told_reader_of, told_writer_of, gone_reader_of, gone_writer_of, paid_readers_of, paid_writer_of}
 use Rattle.words_access.specs.Steps.{Kept, Looked, LookedLeft, Entered, Upgraded, Won, Marked, Left, Peeked, Grabbed, CanJoinReaders, CanJoinWriter, CanHearReader, CanHearWriter, CanLeaveReaders, CanLeaveWriter, CanPayReaders, CanPayWriter, CanStay}
 use Rattle.words_access.specs.declared.view.View.{View}

@@ -1,19 +1,19 @@
 -- Each step on the table keeps its rule: of one state.
-use Rattle.std.proofs.Common.{◌≡◌, ◌≢◌, ℕ, zero, suc, ◌+◌, ◌*◌, ◌-◌, ◌/◌, ◌%◌, ◌^◌, ◌<◌, ◌≤◌, bit_or, Bool, true, false, List, [], ◌∷◌, ◌++◌, length, get_or, set, sym, refl, ap, ◌∙◌, subst, arith, ◌⊎◌, ⊎_elim, inl, inr, length-set, get_or-set_same, get_or-set_other}
-use mathlib.Core.Option.{Option, none, some, some-injective, some-ne-none}
+use Rattle.std.proofs.Common.{◌≡◌, ◌≢◌, ℕ, zero, suc, ◌+◌, ◌*◌, ◌-◌, ◌/◌, ◌%◌, ◌^◌, ◌<◌, ◌≤◌, Bool, true, false, List, [], ◌∷◌, length, get_or, set, sym, refl, ap, ◌∙◌, subst, arith, ◌⊎◌, ⊎_elim, inl, inr, length-set, get_or-set_same, get_or-set_other}
+use mathlib.Core.Option.{some, some-injective, some-ne-none}
 use lib.ListN.{get_elem?}
 use Rattle.atomic_table.specs.Table.{State, Me, keeps, takes, gives, stepped, put_back, rest, opening}
 use Rattle.atomic_table.proofs.Lists.{set_here, set_else, at_set}
 use Rattle.words_base.specs.Sums.{weight, number}
 use Rattle.words_base.specs.Waiting.{Has, NoneWaits, SomeSeat, Fewer, JoinedBy, LeftBy}
 use Rattle.words_base.proofs.Sums.{number-set, number-at}
-use Rattle.words_access.specs.Lists.{Listed, nobody}
-use Rattle.words_access.specs.Rule.{first_view, marks_of, reads_of, writes_of, has_lists_out, OwesReaders, TellsWriter, IsFreshReader, IsFreshWriter, LosesNone, Nested, AllNested, IsState, IsListWord, SaysEmpty, Ruled}
+use Rattle.words_access.specs.Lists.{Listed}
+use Rattle.words_access.specs.Rule.{first_view, marks_of, reads_of, writes_of, has_lists_out, OwesReaders, TellsWriter, IsFreshReader, IsFreshWriter, LosesNone, Nested, AllNested, IsState, SaysEmpty, Ruled}
 use Rattle.words_access.specs.Laws.{IsSettled}
 use Rattle.words_access.specs.Seats.{having_found, saw_writer_of, saw_readers_of, reading_of, left_of, last_left_of, writing_of, marking_of, upgraded_of, down_of, unmarked_of, eased_of, listing_of, back, joined_readers_of, joined_writer_of, told_reader_of, told_writer_of, gone_reader_of, gone_writer_of, paid_readers_of, paid_writer_of}
 use Rattle.words_access.specs.Steps.{Stays}
 use Rattle.words_access.specs.declared.view.View.{View}
-use Rattle.words_access.proofs.Flags.{never, count_le, weight_le, or_odd, or_even}
+use Rattle.words_access.proofs.Flags.{never, count_le, weight_le}
 use Rattle.words_access.proofs.Views.{own, apart, stays, fresh_stays}
 
 nested_set : (vs : List View) (id : ℕ) (w : View) → AllNested vs → Nested w → AllNested (set vs id w)

@@ -1,7 +1,5 @@
 -- What the rule says of the lists, and of who is inside.
-use Rattle.std.proofs.Common.{◌≡◌, ℕ, ◌<◌, ◌+◌, Bool, List, sym, refl, ap, ◌∙◌, subst, arith, ◌⊎◌, inl, inr, ⊎_elim}
-use mathlib.Core.Option.{some}
-use lib.ListN.{get_elem?}
+use Rattle.std.proofs.Common.{◌≡◌, sym, refl, ◌∙◌, subst, arith, inl, inr, ⊎_elim}
 use Rattle.atomic_table.specs.Table.{State}
 use Rattle.words_base.specs.Sums.{weight, number}
 use Rattle.words_base.proofs.Sums.{number-at}

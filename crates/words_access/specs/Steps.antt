@@ -1,6 +1,6 @@
 -- What steps tell, and what a seat has that has the lists out.
-use Rattle.std.specs.Prelude.{◌≡◌, ◌≢◌, ℕ, ◌%◌, ◌<◌, ◌≤◌, true, List, [], ◌∷◌}
-use Rattle.atomic_table.specs.Table.{Me, Step, rest}
+use Rattle.std.specs.Prelude.{◌≡◌, ◌≢◌, ℕ, ◌%◌, ◌<◌, ◌≤◌, true, [], ◌∷◌}
+use Rattle.atomic_table.specs.Table.{Me, rest}
 use Rattle.words_access.specs.Lists.{Listed}
 use Rattle.words_base.specs.Waiting.{Fewer, JoinedBy, LeftBy, StaysTold, last_of}
 use Rattle.words_access.specs.Rule.{SaysEmpty}

@@ -1,4 +1,0 @@
-pub mod Polls
-pub mod Rests
-pub mod Stays
-pub mod Turns

@@ -1,6 +1,0 @@
-use Rattle.std.proofs.Common.{rules, sym, ap, ◌∙◌}
-use Rattle.words_rwlock.proofs.Keeps.{tries_write}
-use Rattle.words_rwlock.proofs.words.Words.try_write.Goals as goal
-
-pub compare_exchange-requires : goal.compare_exchange-requires
-compare_exchange-requires c = (c.requires.table ∙ sym (ap (λ w. w.table) c.self.view_is), search rules, tries_write _ _ _ c.requires.turn)

@@ -1,4 +1,0 @@
-pub mod Rule
-pub mod Steps
-pub mod Tries
-pub mod Words
