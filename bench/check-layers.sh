@@ -30,7 +30,7 @@ if [ -n "$named" ]; then
 fi
 echo 'what is inside a mutex is named by no crate above it'
 
-shells='async_driver lock_place lock_words lock_driver async_mutex words_base words_cell cell_core words_barrier barrier_core words_permits words_access access_core rwlock_core access_vault async_rwlock semaphore_core async_semaphore async_once_cell async_barrier'
+shells='async_driver lock_place async_mutex words_base words_cell cell_core words_barrier barrier_core words_permits words_access access_core rwlock_core access_vault async_rwlock semaphore_core async_semaphore async_once_cell async_barrier'
 worlds='world_[a-z_]+|lock_core|lock_audit'
 for shell in $shells; do
     line=$(grep -E "^$shell( [a-z_=0-9]*)?:" crates.txt) || {

@@ -1,19 +1,15 @@
 -- What an entry keeps that has asked with a waker, and whose waker it is.
-use Rattle.std.proofs.Common.{◌≡◌, ℕ, ◌⊎◌, inl, inr, Bool, true, false, not, ◌||◌, List, [], ◌∷◌, Option, Some, None, ◌==◌, if◌then◌else◌, IsSomeAnd, refl, ap, ◌∙◌, eq-eqb}
+use Rattle.std.proofs.Common.{◌≡◌, ℕ, Bool, true, false, not, ◌||◌, List, [], ◌∷◌, Option, ◌==◌, if◌then◌else◌, refl, ap, eq-eqb}
 use Rattle.std.specs.Arc.{arc_value}
-use Rattle.futures.specs.Task.{Keeps, Wakes, Holds, Lasting}
+use Rattle.futures.specs.Task.{Keeps, Holds, Lasting}
 use Rattle.futures.specs.declared.task.context.Context.{Context}
 use Rattle.futures.specs.declared.task.waker.Origin.{Origin}
 use Rattle.futures.specs.declared.task.waker.Route.{Route}
-use Rattle.futures.specs.declared.task.waker.Waker.{Waker}
 use Rattle.lock_event.specs.Lists.{entry, is_listed, joined, is_marked, is_marked_at, is_waiting_at, with_key}
 use Rattle.lock_event.specs.Slots.{has_id, slot_of, waker_at}
 use Rattle.lock_event.specs.declared.event.Entry.{Entry}
 use Rattle.lock_event.specs.declared.event.EntryId.{EntryId}
 use Rattle.lock_event.specs.declared.event.Slot.{Slot}
-use Rattle.async_driver.specs.Tasks.{woken_by}
-use Rattle.async_driver.specs.Heard.{IsKept}
-use Rattle.async_driver.specs.declared.kept.Kept.{Kept}
 
 pub listed_after : (a b : Bool) → a ≡ false → (a || b) ≡ true → b ≡ true
 listed_after true b other h = absurd (cc)
@@ -120,12 +116,3 @@ origin_of cx = (arc_value {X = Route} cx.route.now).origin
 pub same_task : (old new : Context) → Keeps old new → (old.turn.task ≡ new.turn.task) × (origin_of old ≡ origin_of new)
 unfolding Holds
 same_task old new kept = let same = kept (Lasting.same_task old) refl in (ap (λ (cx : Context). cx.turn.task) same, ap origin_of same)
-
-pub is_kept : (old new : Context) (waker : Option Waker) (keeps : Kept) → Keeps old new → keeps.by ≡ woken_by waker
-    → (new.lacks_waker ≡ true) ⊎ IsSomeAnd waker (λ w. Wakes w old) → IsKept new keeps
-is_kept old new waker keeps kept of (inl lacks) = inl lacks
-is_kept old new None keeps kept of (inr wakes) = absurd wakes
-is_kept old new (Some w) keeps kept of (inr wakes) =
-    let same = same_task old new kept in
-    let origin = wakes.1 ∙ same.1 in
-    inr (rw of (wakes.0 ∙ same.0, ap (λ (o : Origin). o.executor) origin, ap (λ (o : Origin). o.queue) origin))

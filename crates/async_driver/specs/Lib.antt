@@ -1,4 +1,3 @@
 pub mod Tasks
-pub mod Heard
 pub mod Turns
 pub mod Waited

@@ -1,8 +1,9 @@
--- Which task a waker wakes.
-use Rattle.std.specs.Prelude.{ℕ, Option, Some, None}
+-- Which task a waker wakes, and which one a context polls.
+use Rattle.std.specs.Prelude.{◌≡◌, ℕ, Option, Some, None}
 use Rattle.std.specs.Coded.{Coded, coded_option, coded×, coded_ℕ}
 use base.Stored.{coded_via}
 use Rattle.std.specs.Arc.{arc_value}
+use Rattle.futures.specs.declared.task.context.Context.{Context}
 use Rattle.futures.specs.declared.task.waker.Waker.{Waker}
 
 -- a task: its number in its queue, and which queue that is
@@ -20,3 +21,7 @@ woken_coded = coded_option (coded_via (coded× coded_ℕ (coded× coded_ℕ code
 abbrev pub woken_by : Option Waker → Option Woken
 woken_by None = None
 woken_by (Some waker) = Some (record { task = waker.owed.first.task; executor = (arc_value waker.route).origin.executor; queue = (arc_value waker.route).origin.queue })
+
+-- it is the task that the context polls
+abbrev pub IsPolledBy : Context → Woken → Type 0
+IsPolledBy cx t = (t.task ≡ cx.turn.task) × (t.executor ≡ (arc_value cx.route.now).origin.executor) × (t.queue ≡ (arc_value cx.route.now).origin.queue)

@@ -6,12 +6,12 @@
 //! answers and all that can be seen of both.
 #![tactic(auto)]
 
+mod acted;
 mod bench;
 mod shell;
-mod walker;
 mod walks;
 
+pub use acted::Acted;
 pub use bench::Bench;
 pub use shell::{Beside, Did, Dids, Shell, moved};
-pub use walker::{Acted, Walker};
 pub use walks::{Line, Order, Walk, walk_by_chance, walk_schedules, walk_states};

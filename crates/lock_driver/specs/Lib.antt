@@ -1,4 +1,0 @@
-pub mod Parties
-pub mod Words
-pub mod Waits
-pub mod Mutexes

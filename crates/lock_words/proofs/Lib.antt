@@ -1,3 +1,0 @@
-pub mod Keeps
-pub mod Seats
-pub mod WordSteps

@@ -1,6 +1,0 @@
-use Rattle.std.proofs.Common.{rules}
-use Rattle.lock_words.proofs.Keeps.{sits}
-use Rattle.lock_words.proofs.words.Words.sit.Goals as goal
-
-pub load_new_seat-requires : goal.load_new_seat-requires
-load_new_seat-requires g c = (search rules, sits _ _ _ _ _)
