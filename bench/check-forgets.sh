@@ -29,8 +29,11 @@ GIVE_BACK = {
 
 # The memory of a lock's values goes to a pointer that its owner alone has, and comes back by `from_raw_parts`.
 ALLOWED = {("crates/lock_place/src/strip.rt", "let parts = unsafe { row.into_raw_parts() };")}
-# A read-write lock and a value's place are dropped by `into_inner`, which takes them apart.
-BY_INTO_INNER = {(path, "drop(self.into_inner());") for path in ("crates/async_rwlock/src/rwlock.rt", "crates/lock_place/src/owned.rt")}
+# A read-write lock and a value's place are dropped by `into_inner`, which takes them apart, and two of its guards by `into_party`.
+BY_ANOTHER = {(path, "drop(self.into_inner());") for path in ("crates/async_rwlock/src/rwlock.rt", "crates/lock_place/src/owned.rt")} | {
+    ("crates/async_rwlock/src/upgradable_guard.rt", "let (owner, upgradable) = self.into_party();"),
+    ("crates/async_rwlock/src/write_guard.rt", "let (owner, writer) = self.into_party();"),
+}
 
 FORGETS = re.compile(
     r"\bmem\s*::\s*(forget|\*|\{[^}]*\bforget\b)|(?<![.\w:])(?<!fn )forget\s*(\(|::<)|\buse\b[^;]*[:{,\s]forget\s*[,;}]"
@@ -77,7 +80,7 @@ def drops(path, text):
         first = " ".join(first.split())
         apart = APART.match(first)
         by_variants = first == "match self {"
-        if not by_variants and (path, first) not in BY_INTO_INNER and not (apart and apart[1] in ("Self", name) and ".." not in apart[2]):
+        if not by_variants and (path, first) not in BY_ANOTHER and not (apart and apart[1] in ("Self", name) and ".." not in apart[2]):
             wrong.append(f"{path}: the drop of {name} doesn't take it apart: {first}")
     if len(types) != len(ANY_DROP.findall(text)):
         wrong.append(f"{path}: a drop that isn't read by this check")

@@ -33,7 +33,7 @@ REFUSED = 400
 
 # The first allocation of what is tried, and the number after that of the last one: that run is refused nothing. (Of the workers' last
 # two allocations either may come first.)
-CALLS = (22, 172)
+CALLS = (22, 188)
 SCRIPT = (3, 47)
 THREADS = (4, 21)
 
@@ -45,14 +45,14 @@ BOOK, GROWS = 20, 4
 HELD = {
     "mutex_lock_blocking": 6,
     "mutex_lock_arc_blocking": 6,
-    "rwlock_read_blocking": 6,
-    "rwlock_read_arc_blocking": 6,
-    "rwlock_upgradable_read_blocking": 6,
-    "rwlock_upgradable_read_arc_blocking": 6,
-    "rwlock_write_blocking": 6,
-    "rwlock_write_arc_blocking": 6,
-    "rwlock_upgrade_blocking": 6,
-    "rwlock_upgrade_arc_blocking": 6,
+    "rwlock_read_blocking": 10,
+    "rwlock_read_arc_blocking": 10,
+    "rwlock_upgradable_read_blocking": 10,
+    "rwlock_upgradable_read_arc_blocking": 10,
+    "rwlock_write_blocking": 10,
+    "rwlock_write_arc_blocking": 10,
+    "rwlock_upgrade_blocking": 10,
+    "rwlock_upgrade_arc_blocking": 10,
     "semaphore_acquire_blocking": 5,
     "semaphore_acquire_arc_blocking": 5,
     "semaphore_acquire_many_blocking": 5,
