@@ -6,13 +6,13 @@ use Rattle.async_once_cell.specs.declared.task.Stage.{Stage}
 use Rattle.cell_core.specs.Cells.{Cell, IsOf, Seated}
 use Rattle.cell_core.specs.Outcomes.{RestsAt, RestsSo}
 use Rattle.cell_core.specs.Purposes.{IsSetting, OnSets}
-use Rattle.cell_core.specs.Receipts as receipts
+use Rattle.lock_queue.specs.Receipts as receipts
 use Rattle.cell_core.specs.declared.maker.Purpose.{Purpose}
 use Rattle.cell_core.specs.declared.maker.Purpose.TheVariants.{Makes, Sets}
 use Rattle.cell_core.specs.declared.turn.Resting.{Resting}
 use Rattle.cell_core.specs.declared.turn.Resting.TheVariants as rests
 use Rattle.cell_core.specs.declared.turn.Waiting.{Waiting}
-use Rattle.cell_core.specs.declared.whose.Whose.{Whose}
+use Rattle.lock_queue.specs.declared.whose.Whose.{Whose}
 use Rattle.futures.specs.Task.{Covers}
 use Rattle.futures.specs.declared.task.context.Context.{Context}
 use Rattle.lock_program.specs.declared.refusal.Refusal.TheVariants.{Finished, Memory}
