@@ -12,9 +12,11 @@ use Rattle.lock_event.specs.declared.event.Asked.{Asked}
 use Rattle.lock_event.specs.declared.event.Asked.TheVariants as asked
 use Rattle.lock_event.specs.Lists.{is_marked, marked_count, entry, joined, mark_waiting, notified, notified_additionally, left, passed_on, without, with_key, mark_at, is_listed}
 use Rattle.lock_event.specs.Slots.{without_waker, has_id, slot_of, is_due, emptied, HasAsked}
-use Rattle.lock_event.proofs.Counts.{marked_count-notified, marked_count-left, length-passed_on}
+use Rattle.lock_event.proofs.Counts.{marked_count-notified}
 use Rattle.lock_event.proofs.Marks.{length-mark_waiting, marked_count-joined, marked_count-with_key}
 use Rattle.lock_queue.specs.Entries.{unless_marked, waiting_in, HasFewer, IsKept, HasJoined, IsTold, AreTold, IsGone, HasLeft}
+use Rattle.lock_queue.specs.Sizes.{IsOneLess, IsOneGone}
+use Rattle.lock_queue.proofs.Sizing.{notified_size, left_size, all_size, all_less, keyed_size, joined_size, waker_size, notified_without_waker, gone_without_waker, asked_size}
 
 -- ---- numbers
 pub fewer_same : (l : List ℕ) → Fewer l l
@@ -109,7 +111,7 @@ module _ {W : Type 0} where
   told-from es new same some = dite (ℕ_discrete (length new) 0) (λ z. inr (empty_waits new z)) (λ ne. inl (some (omega arith)))
 
   pub one_told : (es : List (Entry (Slot W))) → IsTold es (notified es 1)
-  one_told es = record { fewer = fewer-mark Notified (1 - marked_count es) es refl; told = told-from es (notified es 1) (length-mark_waiting Notified (1 - marked_count es) es) (marked_count-notified es) }
+  one_told es = record { fewer = fewer-mark Notified (1 - marked_count es) es refl; told = told-from es (notified es 1) (length-mark_waiting Notified (1 - marked_count es) es) (marked_count-notified es); size = notified_size es }
 
   -- ---- taking a waker
   waker_head : (b : Bool) (e : Entry (Slot W)) (es fs : List (Entry (Slot W))) → waiting_in fs ≡ waiting_in es → waiting_in (if b then emptied e ∷ es else e ∷ fs) ≡ unless_marked (is_marked e.mark) (number e) (waiting_in es)
@@ -120,35 +122,33 @@ module _ {W : Type 0} where
   waits-without_waker [] = refl
   waits-without_waker (e ∷ es) = waker_head (is_due e) e es (without_waker es) (waits-without_waker es)
 
-  marked-without_waker : (es : List (Entry (Slot W))) → marked_count (without_waker es) ≡ marked_count es
-  marked-without_waker [] = refl
-  marked-without_waker (e ∷ es) = grind (arith, marked-without_waker es)
-
   stays_told : (old new : List (Entry (Slot W))) → marked_count old ≤ marked_count new → StaysTold (marked_count old) (waiting_in new) (marked_count new)
   stays_told old new more some = inl (omega arith)
 
   pub kept_without_waker : (es : List (Entry (Slot W))) → IsKept es (without_waker es)
-  kept_without_waker es = let m = marked-without_waker es in record { fewer = fewer_of (waiting_in es) (waiting_in (without_waker es)) (waits-without_waker es); told = stays_told es (without_waker es) (omega arith) }
+  kept_without_waker es = let m = (waker_size es).1 in
+      record { fewer = fewer_of (waiting_in es) (waiting_in (without_waker es)) (waits-without_waker es); told = stays_told es (without_waker es) (omega arith); size = waker_size es }
 
   pub kept_same : (es : List (Entry (Slot W))) → IsKept es es
-  kept_same es = record { fewer = λ n h. h; told = λ some. inl some }
+  kept_same es = record { fewer = λ n h. h; told = λ some. inl some; size = (refl, refl) }
 
   pub kept_on : (a b c : List (Entry (Slot W))) → IsKept a b → IsKept b c → IsKept a c
-  kept_on a b c f g = record { fewer = λ n h. f.fewer n (g.fewer n h); told = λ some. ⊎_elim (λ m. g.told m) (λ none. inr (λ n h. none n (g.fewer n h))) (f.told some) }
+  kept_on a b c f g = record { fewer = λ n h. f.fewer n (g.fewer n h); told = λ some. ⊎_elim (λ m. g.told m) (λ none. inr (λ n h. none n (g.fewer n h))) (f.told some); size = (g.size.0 ∙ f.size.0, g.size.1 ∙ f.size.1) }
 
   pub told_on : (b c : List (Entry (Slot W))) → AreTold b → IsKept b c → AreTold c
   told_on b c t g = record { none_waits = λ n h. t.none_waits n (g.fewer n h) }
 
   -- what was so of the list before a waker was taken out
   pub told_without_waker : (old es : List (Entry (Slot W))) → IsTold old es → IsTold old (without_waker es)
-  told_without_waker old es t = let w = waits-without_waker es in let m = marked-without_waker es in
-      record { fewer = λ n h. t.fewer n (subst (Has n) w h); told = ⊎_elim (λ some. inl (omega arith)) (λ none. inr (λ n h. none n (subst (Has n) w h))) t.told }
+  told_without_waker old es t = let w = waits-without_waker es in let m = (waker_size es).1 in
+      record { fewer = λ n h. t.fewer n (subst (Has n) w h); told = ⊎_elim (λ some. inl (omega arith)) (λ none. inr (λ n h. none n (subst (Has n) w h))) t.told; size = notified_without_waker old es t.size }
 
   pub left_without_waker : (old es : List (Entry (Slot W))) (k : ℕ) → HasLeft old es k → HasLeft old (without_waker es) k
-  left_without_waker old es k t = let w = waits-without_waker es in let m = marked-without_waker es in record {
+  left_without_waker old es k t = let w = waits-without_waker es in let m = (waker_size es).1 in record {
     fewer = λ n h. t.fewer n (subst (Has n) w h);
     told = λ some. ⊎_elim (λ more. inl (omega arith)) (λ none. inr (λ n h. none n (subst (Has n) w h))) (t.told some);
     left = λ n h. t.left n (subst (Has n) w h);
+    size = gone_without_waker old es t.size;
   }
 
   -- ---- leaving
@@ -166,11 +166,11 @@ module _ {W : Type 0} where
   fewer-passed_on (Some Notified) es = fewer-mark Notified (1 - marked_count es) es refl
   fewer-passed_on (Some Additional) es = fewer-mark Additional 1 es refl
 
-  kept-left : (test : Slot W → Bool) (es : List (Entry (Slot W))) → IsKept es (left test es)
-  kept-left test es = let l = length-passed_on (mark_at test es) (without test es) in record {
-    fewer = λ n h. fewer-without test es n (fewer-passed_on (mark_at test es) (without test es) n h);
-    told = λ some. dite (ℕ_discrete (length (left test es)) 0) (λ z. inr (empty_waits (left test es) z)) (λ ne. inl (marked_count-left test es (omega arith) some));
-  }
+  fewer-left : (test : Slot W → Bool) (es : List (Entry (Slot W))) → Less es (left test es)
+  fewer-left test es n h = fewer-without test es n (fewer-passed_on (mark_at test es) (without test es) n h)
+
+  told-left : (test : Slot W → Bool) (es : List (Entry (Slot W))) → StaysTold (marked_count es) (waiting_in (left test es)) (marked_count (left test es))
+  told-left test es some = dite (ℕ_discrete (length (left test es)) 0) (λ z. inr (empty_waits (left test es) z)) (λ ne. inl ((left_size test es).2 (omega arith) some))
 
   gone_head : (id : EntryId) (e : Entry (Slot W)) (es : List (Entry (Slot W))) (b c : Bool) → has_id id e.key ≡ b → (b || is_listed (has_id id) es) ≡ false → (is_listed (has_id id) es ≡ false → (n : ℕ) → Has n (waiting_in es) → n ≢ id.number)
       → (n : ℕ) → Has n (unless_marked c (number e) (waiting_in es)) → n ≢ id.number
@@ -184,19 +184,30 @@ module _ {W : Type 0} where
 
   -- it has left, and no entry has the number
   pub left_once : (id : EntryId) (es new : List (Entry (Slot W))) → new ≡ left (has_id id) es → is_listed (has_id id) new ≡ false → HasLeft es new id.number
-  left_once id es new is away = let k : IsKept es new = subst (λ l. IsKept es l) (sym is) (kept-left (has_id id) es) in record { fewer = k.fewer; told = k.told; left = λ n h. (k.fewer n h, not_there id new away n h) }
+  left_once id es new is away =
+      let fewer : Less es new = subst (Less es) (sym is) (fewer-left (has_id id) es) in
+      record { fewer = fewer; told = subst (λ l. StaysTold (marked_count es) (waiting_in l) (marked_count l)) (sym is) (told-left (has_id id) es); left = λ n h. (fewer n h, not_there id new away n h); size = subst (IsOneGone es) (sym is) (left_size (has_id id) es) }
+
+  none-of : (mid new : List (Entry (Slot W))) → new ≡ notified_additionally mid (length mid) → NoneWaits (waiting_in new)
+  none-of mid new is = subst (λ l. NoneWaits (waiting_in l)) (sym is) ((all_told mid).none_waits)
 
   -- it has left, and nobody waits
-  pub left_all : (old mid new : List (Entry (Slot W))) (k : ℕ) → new ≡ notified_additionally mid (length mid) → HasLeft old new k
-  left_all old mid new k is = let none : NoneWaits (waiting_in new) = subst (λ l. NoneWaits (waiting_in l)) (sym is) ((all_told mid).none_waits) in record { fewer = λ n h. absurd (none n h); told = λ _. inr none; left = λ n h. absurd (none n h) }
+  pub left_all : (id : EntryId) (old mid new : List (Entry (Slot W))) (k : ℕ) → mid ≡ left (has_id id) old → new ≡ notified_additionally mid (length mid) → HasLeft old new k
+  left_all id old mid new k out is = let none = none-of mid new is in record {
+    fewer = λ n h. absurd (none n h);
+    told = λ _. inr none;
+    left = λ n h. absurd (none n h);
+    size = subst (IsOneGone old) (sym is) (all_size old mid (subst (IsOneGone old) (sym out) (left_size (has_id id) old)));
+  }
 
   -- nobody waits who didn't before, and no entry has the number
   pub gone_once : (id : EntryId) (old new : List (Entry (Slot W))) → HasFewer old new → is_listed (has_id id) new ≡ false → IsGone old new id.number
   gone_once id old new kept away = record { left = λ n h. (kept.fewer n h, not_there id new away n h) }
 
   -- nobody waits
-  pub gone_all : (old mid new : List (Entry (Slot W))) (k : ℕ) → new ≡ notified_additionally mid (length mid) → HasFewer old new × IsGone old new k
-  gone_all old mid new k is = let l = left_all old mid new k is in (record { fewer = l.fewer }, record { left = l.left })
+  pub gone_all : (old mid new : List (Entry (Slot W))) (k : ℕ) → HasFewer old mid → new ≡ notified_additionally mid (length mid) → HasFewer old new × IsGone old new k
+  gone_all old mid new k less is = let none = none-of mid new is in
+      (record { fewer = λ n h. absurd (none n h); size = subst (IsOneLess old) (sym is) (all_less old mid less.size) }, record { left = λ n h. absurd (none n h) })
 
   -- ---- asking
   key_head : (id : EntryId) (w : Option W) (b : Bool) (e : Entry (Slot W)) (es fs : List (Entry (Slot W))) → has_id id e.key ≡ b → Less es fs
@@ -209,12 +220,12 @@ module _ {W : Type 0} where
   fewer-with_key id w (e ∷ es) = key_head id w (has_id id e.key) e es (with_key (has_id id) (slot_of id w) es) refl (fewer-with_key id w es)
 
   pub kept_keyed : (id : EntryId) (w : Option W) (es : List (Entry (Slot W))) → IsKept es (with_key (has_id id) (slot_of id w) es)
-  kept_keyed id w es = let m = marked_count-with_key (has_id id) (slot_of id w) es in record { fewer = fewer-with_key id w es; told = stays_told es (with_key (has_id id) (slot_of id w) es) (omega arith) }
+  kept_keyed id w es = let m = marked_count-with_key (has_id id) (slot_of id w) es in record { fewer = fewer-with_key id w es; told = stays_told es (with_key (has_id id) (slot_of id w) es) (omega arith); size = keyed_size (has_id id) (slot_of id w) es }
 
   pub fewer_asked : (id : EntryId) (w : Option W) (old new : List (Entry (Slot W))) (a : Asked W) → HasAsked id w old a new → HasFewer old new
-  fewer_asked id w old new (asked.Notified kept unused) h = record { fewer = subst (λ (l : List (Entry (Slot W))). Less old l) (sym h.1) (fewer-without (has_id id) old) }
-  fewer_asked id w old new (asked.Waiting kept) h = record { fewer = subst (λ (l : List (Entry (Slot W))). Less old l) (sym h.2) (fewer-with_key id w old) }
-  fewer_asked id w old new (asked.Unlisted unused) h = record { fewer = subst (λ (l : List (Entry (Slot W))). Less old l) (sym h.1) (fewer_same (waiting_in old)) }
+  fewer_asked id w old new (asked.Notified kept unused) h = record { fewer = subst (λ (l : List (Entry (Slot W))). Less old l) (sym h.1) (fewer-without (has_id id) old); size = asked_size id w old new (asked.Notified kept unused) h }
+  fewer_asked id w old new (asked.Waiting kept) h = record { fewer = subst (λ (l : List (Entry (Slot W))). Less old l) (sym h.2) (fewer-with_key id w old); size = asked_size id w old new (asked.Waiting kept) h }
+  fewer_asked id w old new (asked.Unlisted unused) h = record { fewer = subst (λ (l : List (Entry (Slot W))). Less old l) (sym h.1) (fewer_same (waiting_in old)); size = asked_size id w old new (asked.Unlisted unused) h }
 
   -- ---- joining
   waits-joined : (k : Slot W) (es : List (Entry (Slot W))) → waiting_in (joined es k) ≡ waiting_in es ++ k.id.number ∷ []
@@ -223,7 +234,7 @@ module _ {W : Type 0} where
 
   has-joined : (k : Slot W) (es : List (Entry (Slot W))) → HasJoined es (joined es k) k.id.number
   has-joined k es = let w = waits-joined k es in let m = marked_count-joined es k in
-      record { joined = λ n h. joined_by k.id.number (waiting_in es) n (subst (Has n) w h); last = ap last_of w ∙ last-pushed k.id.number (waiting_in es); marked = omega arith }
+      record { joined = λ n h. joined_by k.id.number (waiting_in es) n (subst (Has n) w h); last = ap last_of w ∙ last-pushed k.id.number (waiting_in es); marked = omega arith; size = joined_size k es }
 
   pub joined_ok : {B : Type 0} (old new : List (Entry (Slot W))) (r : Result EntryId B) → IfOk r (λ id. new ≡ joined old (slot_of id None)) → IfOk r (λ id. HasJoined old new id.number)
   joined_ok old new (Ok id) is = subst (λ (l : List (Entry (Slot W))). HasJoined old l id.number) (sym is) (has-joined (slot_of id None) old)
@@ -241,7 +252,7 @@ module _ {W : Type 0} where
 
   rekeyed : (id : EntryId) (w : Option W) (old mid : List (Entry (Slot W))) (k : ℕ) → HasJoined old mid k → HasJoined old (with_key (has_id id) (slot_of id w) mid) k
   rekeyed id w old mid k j = let same = waits-with_key id w mid in let m = marked_count-with_key (has_id id) (slot_of id w) mid in
-      record { joined = λ n h. j.joined n (subst (Has n) same h); last = ap last_of same ∙ j.last; marked = omega (arith, j.marked, m) }
+      record { joined = λ n h. j.joined n (subst (Has n) same h); last = ap last_of same ∙ j.last; marked = omega (arith, j.marked, m); size = let k = keyed_size (has_id id) (slot_of id w) mid in (k.0 ∙ j.size.0, k.1 ∙ j.size.1) }
 
   pub joined_keyed : (id : EntryId) (w : Option W) (old mid : List (Entry (Slot W))) → mid ≡ joined old (slot_of id None) → HasJoined old (with_key (has_id id) (slot_of id w) mid) id.number
   joined_keyed id w old mid is = rekeyed id w old mid id.number (subst (λ (l : List (Entry (Slot W))). HasJoined old l id.number) (sym is) (has-joined (slot_of id None) old))

@@ -4,6 +4,7 @@ use Rattle.std.specs.Prelude.{◌≡◌, ℕ, ◌<◌, ◌≤◌, ◌⊎◌, Boo
 use Rattle.lock_event.specs.declared.event.Entry.{Entry}
 use Rattle.lock_event.specs.declared.event.Slot.{Slot}
 use Rattle.lock_event.specs.Lists.{is_marked, marked_count}
+use Rattle.lock_queue.specs.Sizes.{IsOneMore, IsOneNotified, IsOneLess, IsOneGone, IsSameSize}
 
 -- The list with the number, unless its entry is marked.
 abbrev pub unless_marked : Bool → ℕ → List ℕ → List ℕ
@@ -16,25 +17,29 @@ module _ {W : Type 0} where
   waiting_in [] = []
   waiting_in (e ∷ es) = unless_marked (is_marked e.mark) e.key.id.number (waiting_in es)
 
-  -- Nobody waits that didn't before.
+  -- Nobody waits that didn't before, and one entry has left at most.
   pub record HasFewer (old new : List (Entry (Slot W))) : Type 0 where
     pub fewer : Fewer (waiting_in old) (waiting_in new)
+    pub size : IsOneLess old new
 
-  -- The same, and if one was notified, one is, or nobody waits.
+  -- Nobody waits that didn't before, and if one was notified, one is, or nobody waits; and there are as many.
   pub record IsKept (old new : List (Entry (Slot W))) : Type 0 where
     pub fewer : Fewer (waiting_in old) (waiting_in new)
     pub told : StaysTold (marked_count old) (waiting_in new) (marked_count new)
+    pub size : IsSameSize old new
 
   -- The entry of this number has joined at the back, and no fewer are notified.
   pub record HasJoined (old new : List (Entry (Slot W))) (n : ℕ) : Type 0 where
     pub joined : JoinedBy n (waiting_in old) (waiting_in new)
     pub last : last_of (waiting_in new) ≡ n
     pub marked : marked_count old ≤ marked_count new
+    pub size : IsOneMore old new
 
   -- One is notified, unless nobody waits.
   pub record IsTold (old new : List (Entry (Slot W))) : Type 0 where
     pub fewer : Fewer (waiting_in old) (waiting_in new)
     pub told : (0 < marked_count new) ⊎ NoneWaits (waiting_in new)
+    pub size : IsOneNotified old new
 
   -- All are notified.
   pub record AreTold (new : List (Entry (Slot W))) : Type 0 where
@@ -49,3 +54,4 @@ module _ {W : Type 0} where
     pub fewer : Fewer (waiting_in old) (waiting_in new)
     pub told : StaysTold (marked_count old) (waiting_in new) (marked_count new)
     pub left : LeftBy n (waiting_in old) (waiting_in new)
+    pub size : IsOneGone old new

@@ -1,21 +1,17 @@
 -- What lies in a slot: the entries of a list, or a right.
-use Rattle.std.specs.Prelude.{ℕ, List, [], length, Option, Some, None}
+use Rattle.std.specs.Prelude.{ℕ, List, length}
 use Rattle.futures.specs.declared.task.waker.Waker.{Waker}
 use Rattle.lock_event.specs.Lists.{marked_count}
 use Rattle.lock_place.specs.Held.{RoomId}
 use Rattle.lock_place.specs.Rested.{IsRight}
 use Rattle.lock_event.specs.declared.event.Entry.{Entry}
 use Rattle.lock_event.specs.declared.event.Slot.{Slot}
+use Rattle.lock_queue.specs.Queues.{entries_of as queue_entries}
 use Rattle.mutex_core.specs.declared.cell.Cell.{Cell}
 
--- what is in the box, or nothing
-abbrev pub items_of : {B E : Type 0} → Option B → (B → List E) → List E
-items_of None items = []
-items_of (Some b) items = items b
-
--- nobody has joined a list that was not made yet
+-- the entries of its list
 abbrev pub entries_of : {T : Type 0} → Cell T → List (Entry (Slot Waker))
-entries_of cell = items_of cell.entries (λ b. b.value.entries)
+entries_of cell = queue_entries cell.queue
 
 abbrev pub cell_len : {T : Type 0} → Cell T → ℕ
 cell_len cell = length (entries_of cell)

@@ -1,4 +1,3 @@
 pub mod Locks
-pub mod Entries
 pub mod Cells
 pub mod Outcomes

@@ -8,7 +8,6 @@
 mod calls;
 mod cell;
 mod left;
-mod list;
 mod list_steps;
 mod mutex;
 mod seat;

@@ -41,7 +41,7 @@ pub(crate) fn join_in<T>(
     ensures ready { MatchResult result.0 (λ _. CanJoin cell_len cell_marked inner.new.me result.1) (λ _. CanStay cell_len cell_marked inner.new.me result.1) }
 {
     let list = inner.slot_mut(shared, LIST_SLOT);
-    let joined = list.join(alloc);
+    let joined = list.queue.join(alloc);
     let says = list.says(found, false);
     (joined, says)
 }
@@ -64,7 +64,7 @@ pub(crate) fn join_waking_in<T>(
     ensures kept { Keeps cx.old cx.new }
 {
     let list = inner.slot_mut(shared, LIST_SLOT);
-    let joined = list.join_waking(alloc, source, cx);
+    let joined = list.queue.join_waking(alloc, source, cx);
     let says = list.says(found, false);
     (joined, says)
 }
@@ -78,7 +78,7 @@ pub(crate) fn notify_in<T>(shared: &Listing<T>, inner: &mut Lister<T>, found: u6
     ensures ready { CanPay cell_len cell_marked inner.new.me result.1 }
 {
     let list = inner.slot_mut(shared, LIST_SLOT);
-    let due = list.notify();
+    let due = list.queue.notify();
     let says = list.says(found, true);
     (due, says)
 }
@@ -97,8 +97,8 @@ pub(crate) fn leave_in<T>(
     ensures ready { CanLeave cell_len cell_marked inner.new.me result.2 }
 {
     let list = inner.slot_mut(shared, LIST_SLOT);
-    let (kept, due) = list.leave(id);
-    let tells = list.is_notified();
+    let (kept, due) = list.queue.leave(id);
+    let tells = list.queue.is_notified();
     let says = list.says(found, tells);
     (kept, due, says)
 }
@@ -121,7 +121,7 @@ pub(crate) fn ask_in<T>(
     ensures kept { Keeps cx.old cx.new }
 {
     let list = inner.slot_mut(shared, LIST_SLOT);
-    let heard = list.ask(id, source, cx);
+    let heard = list.queue.ask(id, source, cx);
     let says = list.says(found, false);
     (heard, says)
 }
@@ -140,7 +140,7 @@ pub(crate) fn ask_again_in<T>(
     ensures ready { ByHeard result.0 (CanHear cell_len cell_marked inner.new.me result.1) (λ _. CanStay cell_len cell_marked inner.new.me result.1) }
 {
     let list = inner.slot_mut(shared, LIST_SLOT);
-    let heard = list.ask_again(id);
+    let heard = list.queue.ask_again(id);
     let says = list.says(found, false);
     (heard, says)
 }
@@ -159,7 +159,7 @@ pub(crate) fn entry_in<T>(
     ensures ready { CanStay cell_len cell_marked inner.new.me result.1 }
 {
     let list = inner.slot_mut(shared, LIST_SLOT);
-    let entry = list.entry(index);
+    let entry = list.queue.entry(index);
     let says = list.says(found, false);
     (entry, says)
 }
