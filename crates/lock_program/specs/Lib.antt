@@ -1,4 +1,3 @@
 pub mod Refusals
 pub mod Mutex
 pub mod MutexRoles
-pub mod ReadWrite

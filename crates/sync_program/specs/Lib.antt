@@ -1,3 +1,4 @@
+pub mod ReadWrite
 pub mod OnceCell
 pub mod Barrier
 pub mod Permits

@@ -2,7 +2,7 @@
 
 ghost use Rattle.test_definitions.specs.Tables.{AreRowsOf, AreRowsOfTwo};
 ghost use Rattle.test_definitions.specs.ReadWriteTable.{beginnings, actions, followings};
-ghost use Rattle.lock_program.specs.ReadWrite.{action_of, next_of};
+ghost use Rattle.sync_program.specs.ReadWrite.{action_of, next_of};
 ghost use Rattle.world_rwlock.specs.program.Program.{start_of};
 ghost use Rattle.test_definitions.specs.Never.{Never};
 ghost use Rattle.test_definitions.specs.ReadWrite.{TriesInVain, ReadsUnready, WaitsUnlisted, PendsTooEarly, RefusedAtFirst, RefusedHavingMoved, ReadsWithTheBit, LetsGoUndecided, UnmarksUndecided, StopsReadingUndecided, DowngradesUndecided, DropsUndecided, DowngradesThroughNothing, OtherIsUpgrade, IdleHasTurn, TriesOn, WriteMeetsReaders, ReadMeetsStarved, LacksMemoryWithTurn, ReadMeetsReadersBesideWriter, MeetsReadersWithoutTurn, MeetsStarvedWithTurn, PassesTurnInVain, PassesReadingInVain, PassesWritingInVain, UpgradeWaitsForNobody, UpgradableUnready, WriteUnready, StarvesUnasked, KeepsItsTold, TriesTurnInVain, StarvedHavingTaken, StarvedTwice, StarvedAtFirst, DecidesInVain};

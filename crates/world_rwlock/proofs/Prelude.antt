@@ -15,14 +15,14 @@ pub use Rattle.lock_program.specs.declared.end.End.TheVariants.{Got, Pending, Re
 pub use Rattle.lock_program.specs.declared.mutex.LockCall.{LockCall}
 pub use Rattle.lock_program.specs.declared.mutex.Step.{Step as TurnStep}
 pub use Rattle.lock_program.specs.declared.refusal.Refusal.{Refusal}
-pub use Rattle.lock_program.specs.declared.rwlock.Action.{Action}
-pub use Rattle.lock_program.specs.declared.rwlock.Ending.{Ending}
-pub use Rattle.lock_program.specs.declared.rwlock.Found.{Found}
-pub use Rattle.lock_program.specs.declared.rwlock.Found.TheVariants.{Done, Writer, NoneLeft, Yes, Turn, Full, SomeLeft, NoMemory, No}
-pub use Rattle.lock_program.specs.declared.rwlock.Place.{Place}
-pub use Rattle.lock_program.specs.declared.rwlock.Place.TheVariants.{Out, Made, Reading, Upgradable, Writing, JoinNoWriter, AskNoWriter, WaitTurn, JoinNoReaders, AwaitNoReaders, LookUnlisted, EnterRead, LookNoWriter, PassOn, LeaveNoWriter, RefuseLeave, RefuseNotify, CancelRead, TryRead, EnterTurn, TakeTurn, TryTurn, CancelTurn, CancellingTurn, ReleaseTurn, ReleasingTurn, Add, TryUpgrade, Upgrade, Mark, TryWrite, LookNoReaders, AskNoReaders, LeaveNoReaders, DropRead, DropReadNotify, DropUpgradable, DropUpgradableNotify, DropWrite, CancelAwait, Unmark, UnmarkNotify, Down, DownNotify, DowngradeNotify}
-pub use Rattle.lock_program.specs.declared.rwlock.Purpose.{Purpose}
-pub use Rattle.lock_program.specs.declared.rwlock.Wanted.{Wanted}
+pub use Rattle.sync_program.specs.declared.rwlock.Action.{Action}
+pub use Rattle.sync_program.specs.declared.rwlock.Ending.{Ending}
+pub use Rattle.sync_program.specs.declared.rwlock.Found.{Found}
+pub use Rattle.sync_program.specs.declared.rwlock.Found.TheVariants.{Done, Writer, NoneLeft, Yes, Turn, Full, SomeLeft, NoMemory, No}
+pub use Rattle.sync_program.specs.declared.rwlock.Place.{Place}
+pub use Rattle.sync_program.specs.declared.rwlock.Place.TheVariants.{Out, Made, Reading, Upgradable, Writing, JoinNoWriter, AskNoWriter, WaitTurn, JoinNoReaders, AwaitNoReaders, LookUnlisted, EnterRead, LookNoWriter, PassOn, LeaveNoWriter, RefuseLeave, RefuseNotify, CancelRead, TryRead, EnterTurn, TakeTurn, TryTurn, CancelTurn, CancellingTurn, ReleaseTurn, ReleasingTurn, Add, TryUpgrade, Upgrade, Mark, TryWrite, LookNoReaders, AskNoReaders, LeaveNoReaders, DropRead, DropReadNotify, DropUpgradable, DropUpgradableNotify, DropWrite, CancelAwait, Unmark, UnmarkNotify, Down, DownNotify, DowngradeNotify}
+pub use Rattle.sync_program.specs.declared.rwlock.Purpose.{Purpose}
+pub use Rattle.sync_program.specs.declared.rwlock.Wanted.{Wanted}
 pub use Rattle.world_base.specs.Accounts.{Account, accounts_after, HasByAnswers, sought_after, takes_away, has_after, account_after, aim}
 pub use Rattle.world_base.specs.Frame.{put_in, is_poll_after_ready, is_refusal, is_drop, is_giving_back}
 pub use Rattle.world_base.specs.Rights.{Right, read, upgradable, write, wait_to_write, excludes}

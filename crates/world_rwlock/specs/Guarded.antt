@@ -13,7 +13,7 @@ use Rattle.world_base.specs.Standings.{inputs_of}
 use Rattle.world_base.specs.table.Ends.{answer_of}
 use Rattle.world_rwlock.specs.declared.program.led.Next.{Next}
 use Rattle.world_rwlock.specs.declared.program.led.Next.TheVariants as next
-use Rattle.lock_program.specs.declared.rwlock.Place.{Place}
+use Rattle.sync_program.specs.declared.rwlock.Place.{Place}
 use Rattle.world_rwlock.specs.program.Calls.{knows_at}
 use Rattle.world_rwlock.specs.program.Program.{start_of}
 use Rattle.world_rwlock.specs.machine.Machine.{RwLock, place_at, new_rwlock}

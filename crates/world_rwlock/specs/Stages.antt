@@ -9,13 +9,13 @@ use Rattle.world_base.specs.declared.standing.Rest.TheVariants.{Idle, Pending, H
 use Rattle.world_base.specs.declared.standing.Stage.{Stage}
 use Rattle.world_base.specs.declared.standing.Stage.TheVariants.{Outside, Inside, Forgotten}
 use Rattle.world_base.specs.Rights.{Right, read, upgradable, write}
-use Rattle.lock_program.specs.declared.rwlock.Wanted.TheVariants as wanted
-use Rattle.lock_program.specs.declared.rwlock.Purpose.{Purpose}
-use Rattle.lock_program.specs.declared.rwlock.Purpose.TheVariants as purpose
-use Rattle.lock_program.specs.declared.rwlock.Ending.{Ending}
-use Rattle.lock_program.specs.declared.rwlock.Ending.TheVariants as ending
-use Rattle.lock_program.specs.declared.rwlock.Place.{Place}
-use Rattle.lock_program.specs.declared.rwlock.Place.TheVariants as place
+use Rattle.sync_program.specs.declared.rwlock.Wanted.TheVariants as wanted
+use Rattle.sync_program.specs.declared.rwlock.Purpose.{Purpose}
+use Rattle.sync_program.specs.declared.rwlock.Purpose.TheVariants as purpose
+use Rattle.sync_program.specs.declared.rwlock.Ending.{Ending}
+use Rattle.sync_program.specs.declared.rwlock.Ending.TheVariants as ending
+use Rattle.sync_program.specs.declared.rwlock.Place.{Place}
+use Rattle.sync_program.specs.declared.rwlock.Place.TheVariants as place
 use Rattle.world_rwlock.specs.machine.Roles.{is_resting}
 
 -- ---- What is sought

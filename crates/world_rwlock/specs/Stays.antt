@@ -6,8 +6,8 @@ use Rattle.world_base.specs.declared.standing.Rest.TheVariants.{Idle, Pending, H
 use Rattle.world_base.specs.declared.standing.Stage.{Stage}
 use Rattle.world_base.specs.declared.standing.Stage.TheVariants.{Outside, Inside, Forgotten}
 use Rattle.world_base.specs.Standings.{forgets, is_outside_stage}
-use Rattle.lock_program.specs.declared.rwlock.Place.{Place}
-use Rattle.lock_program.specs.declared.rwlock.Place.TheVariants as place
+use Rattle.sync_program.specs.declared.rwlock.Place.{Place}
+use Rattle.sync_program.specs.declared.rwlock.Place.TheVariants as place
 use Rattle.world_rwlock.specs.machine.Roles.{is_resting}
 use Rattle.world_rwlock.specs.Guarded.{Guarded, parties, place_of, with_value, Stands}
 use Rattle.world_rwlock.specs.Stages.{is_future, is_guard}

@@ -13,10 +13,10 @@ use Rattle.world_mutex.specs.machine.Course.{Course as TurnCourse, decision}
 use Rattle.lock_program.specs.declared.end.End.{End as TurnEnd}
 use Rattle.lock_program.specs.declared.end.End.TheVariants as turn_end
 use Rattle.world_mutex.specs.machine.Mutex.{course_at as turn_at, holder_of, starved_of}
-use Rattle.lock_program.specs.declared.rwlock.Ending.{Ending}
-use Rattle.lock_program.specs.declared.rwlock.Ending.TheVariants as ending
-use Rattle.lock_program.specs.declared.rwlock.Place.{Place}
-use Rattle.lock_program.specs.declared.rwlock.Place.TheVariants as place
+use Rattle.sync_program.specs.declared.rwlock.Ending.{Ending}
+use Rattle.sync_program.specs.declared.rwlock.Ending.TheVariants as ending
+use Rattle.sync_program.specs.declared.rwlock.Place.{Place}
+use Rattle.sync_program.specs.declared.rwlock.Place.TheVariants as place
 use Rattle.world_rwlock.specs.machine.Roles as roles
 use Rattle.world_rwlock.specs.machine.Machine.{RwLock, place_at}
 use Rattle.world_rwlock.specs.Guarded.{Guarded}

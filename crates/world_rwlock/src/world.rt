@@ -20,9 +20,9 @@ use crate::guarded::Guarded;
 use lock_event::Entry;
 use lock_program::Refusal;
 use lock_program::mutex::Place as TurnPlace;
-use lock_program::rwlock::Place;
 use std::alloc::Global;
 use std::marker::Model;
+use sync_program::rwlock::Place;
 use world_base::table::Table;
 use world_base::{Answer, AnyWorld, Move};
 

@@ -5,11 +5,11 @@ use Rattle.lock_event.specs.Lists.{marked_count, IsMarkedFirst}
 use Rattle.world_base.specs.queue.Parties.{entries_of}
 use Rattle.world_mutex.specs.machine.Mutex.{course_at as turn_at, IsMutex, holders}
 use Rattle.world_mutex.specs.machine.Course.{holds}
-use Rattle.lock_program.specs.declared.rwlock.Place.{Place}
-use Rattle.lock_program.specs.declared.rwlock.Action.{Action}
-use Rattle.lock_program.specs.declared.rwlock.Action.TheVariants as act
-use Rattle.lock_program.specs.declared.rwlock.Found.{Found}
-use Rattle.lock_program.specs.declared.rwlock.Found.TheVariants.{Done, Writer, Full, NoneLeft, SomeLeft, NotFree, NoMemory, Yes, No, Turn}
+use Rattle.sync_program.specs.declared.rwlock.Place.{Place}
+use Rattle.sync_program.specs.declared.rwlock.Action.{Action}
+use Rattle.sync_program.specs.declared.rwlock.Action.TheVariants as act
+use Rattle.sync_program.specs.declared.rwlock.Found.{Found}
+use Rattle.sync_program.specs.declared.rwlock.Found.TheVariants.{Done, Writer, Full, NoneLeft, SomeLeft, NotFree, NoMemory, Yes, No, Turn}
 use Rattle.world_rwlock.specs.declared.program.led.Next.{Next}
 use Rattle.world_rwlock.specs.program.Program.{action_of, next_of, place_after}
 use Rattle.world_rwlock.specs.machine.Roles.{reads, marks, only_turns, has_turn, writes, in_no_writer, in_no_readers, fits_turn, is_resting}

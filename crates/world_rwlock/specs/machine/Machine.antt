@@ -5,8 +5,8 @@ use Rattle.lock_event.specs.Lists.{marked_count}
 use Rattle.world_base.specs.queue.Parties.{entries_of}
 use Rattle.world_base.specs.queue.Queues.{Queue}
 use Rattle.world_mutex.specs.machine.Mutex.{Mutex, new_mutex, course_at as turn_at}
-use Rattle.lock_program.specs.declared.rwlock.Place.{Place}
-use Rattle.lock_program.specs.declared.rwlock.Place.TheVariants.{Out}
+use Rattle.sync_program.specs.declared.rwlock.Place.{Place}
+use Rattle.sync_program.specs.declared.rwlock.Place.TheVariants.{Out}
 use Rattle.world_rwlock.specs.declared.program.word.Word.{Word}
 use Rattle.world_rwlock.specs.machine.Roles.{reads, marks, only_turns, writes, in_no_writer, waits_no_writer, owes_no_writer, in_no_readers, waits_no_readers, owes_no_readers, fits_turn}
 use Rattle.world_rwlock.specs.machine.Tally.{IsSound, tally_of, counts_of}

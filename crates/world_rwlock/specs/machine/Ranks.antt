@@ -7,12 +7,12 @@ use Rattle.world_base.specs.declared.moves.Call.TheVariants as call
 use Rattle.lock_program.specs.declared.mutex.LockCall.TheVariants as turn_call
 use Rattle.world_mutex.specs.machine.Mutex.{steps_left as turn_steps_left}
 use Rattle.world_mutex.specs.machine.Deeds.{most_steps as most_turn_steps}
-use Rattle.lock_program.specs.declared.rwlock.Purpose.{Purpose}
-use Rattle.lock_program.specs.declared.rwlock.Purpose.TheVariants as purpose
-use Rattle.lock_program.specs.declared.rwlock.Ending.{Ending}
-use Rattle.lock_program.specs.declared.rwlock.Ending.TheVariants as ending
-use Rattle.lock_program.specs.declared.rwlock.Place.{Place}
-use Rattle.lock_program.specs.declared.rwlock.Place.TheVariants.{EnterRead, JoinNoWriter, LookNoWriter, AskNoWriter, PassOn, RefuseLeave, EnterTurn, WaitTurn, TakeTurn, TryTurn, CancelTurn, CancellingTurn, ReleaseTurn, ReleasingTurn, Add, Mark, TryWrite, JoinNoReaders, LookNoReaders, AskNoReaders, AwaitNoReaders, LookUnlisted, DropRead, DropUpgradable, DropUpgradableNotify, DropWrite, CancelAwait, Unmark, UnmarkNotify, Down}
+use Rattle.sync_program.specs.declared.rwlock.Purpose.{Purpose}
+use Rattle.sync_program.specs.declared.rwlock.Purpose.TheVariants as purpose
+use Rattle.sync_program.specs.declared.rwlock.Ending.{Ending}
+use Rattle.sync_program.specs.declared.rwlock.Ending.TheVariants as ending
+use Rattle.sync_program.specs.declared.rwlock.Place.{Place}
+use Rattle.sync_program.specs.declared.rwlock.Place.TheVariants.{EnterRead, JoinNoWriter, LookNoWriter, AskNoWriter, PassOn, RefuseLeave, EnterTurn, WaitTurn, TakeTurn, TryTurn, CancelTurn, CancellingTurn, ReleaseTurn, ReleasingTurn, Add, Mark, TryWrite, JoinNoReaders, LookNoReaders, AskNoReaders, AwaitNoReaders, LookUnlisted, DropRead, DropUpgradable, DropUpgradableNotify, DropWrite, CancelAwait, Unmark, UnmarkNotify, Down}
 use Rattle.world_rwlock.specs.declared.program.led.Next.{Next}
 use Rattle.world_rwlock.specs.declared.program.led.Next.TheVariants as next
 use Rattle.world_rwlock.specs.machine.Roles.{bit}

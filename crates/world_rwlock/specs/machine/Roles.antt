@@ -3,9 +3,9 @@ use Rattle.std.specs.Prelude.{ℕ, ◌+◌, Bool, true, false}
 use Rattle.world_base.specs.queue.Debts.{Roles}
 pub use Rattle.world_mutex.specs.machine.Course.{bit}
 use Rattle.world_mutex.specs.machine.Course.{Course as TurnCourse, is_out, is_holding, is_taking, is_waiting, is_releasing, is_cancelling}
-use Rattle.lock_program.specs.declared.rwlock.Ending.TheVariants as ending
-use Rattle.lock_program.specs.declared.rwlock.Place.{Place}
-use Rattle.lock_program.specs.declared.rwlock.Place.TheVariants.{Out, Made, Reading, Upgradable, Writing, LookNoWriter, AskNoWriter, PassOn, LeaveNoWriter, RefuseLeave, RefuseNotify, CancelRead, WaitTurn, TakeTurn, CancelTurn, CancellingTurn, ReleaseTurn, ReleasingTurn, Add, TryUpgrade, Upgrade, Mark, TryWrite, JoinNoReaders, LookNoReaders, AskNoReaders, AwaitNoReaders, LookUnlisted, LeaveNoReaders, DropRead, DropReadNotify, DropUpgradable, DropUpgradableNotify, DropWrite, CancelAwait, Unmark, UnmarkNotify, Down, DownNotify, DowngradeNotify}
+use Rattle.sync_program.specs.declared.rwlock.Ending.TheVariants as ending
+use Rattle.sync_program.specs.declared.rwlock.Place.{Place}
+use Rattle.sync_program.specs.declared.rwlock.Place.TheVariants.{Out, Made, Reading, Upgradable, Writing, LookNoWriter, AskNoWriter, PassOn, LeaveNoWriter, RefuseLeave, RefuseNotify, CancelRead, WaitTurn, TakeTurn, CancelTurn, CancellingTurn, ReleaseTurn, ReleasingTurn, Add, TryUpgrade, Upgrade, Mark, TryWrite, JoinNoReaders, LookNoReaders, AskNoReaders, AwaitNoReaders, LookUnlisted, LeaveNoReaders, DropRead, DropReadNotify, DropUpgradable, DropUpgradableNotify, DropWrite, CancelAwait, Unmark, UnmarkNotify, Down, DownNotify, DowngradeNotify}
 
 -- it is counted among the readers
 abbrev pub reads : Place → ℕ

@@ -8,10 +8,10 @@ use Rattle.lock_program.specs.declared.end.End.TheVariants as turn_end
 use Rattle.world_mutex.specs.machine.Course.{counted}
 use Rattle.world_mutex.specs.machine.Mutex.{IsStarved, course_at, holders, starved}
 use Rattle.world_mutex.specs.machine.Alone.{GaveWay}
-use Rattle.lock_program.specs.declared.rwlock.Purpose.TheVariants.{Write, UpgradableRead}
-use Rattle.lock_program.specs.declared.rwlock.Place.{Place}
-use Rattle.lock_program.specs.declared.rwlock.Place.TheVariants.{Made, Reading, Upgradable, Writing, AskNoWriter, WaitTurn, AwaitNoReaders, LookUnlisted}
-use Rattle.lock_program.specs.declared.rwlock.Action.{Action}
+use Rattle.sync_program.specs.declared.rwlock.Purpose.TheVariants.{Write, UpgradableRead}
+use Rattle.sync_program.specs.declared.rwlock.Place.{Place}
+use Rattle.sync_program.specs.declared.rwlock.Place.TheVariants.{Made, Reading, Upgradable, Writing, AskNoWriter, WaitTurn, AwaitNoReaders, LookUnlisted}
+use Rattle.sync_program.specs.declared.rwlock.Action.{Action}
 use Rattle.lock_program.specs.declared.end.End.{End}
 use Rattle.lock_program.specs.declared.end.End.TheVariants.{Got, Pending, Refused}
 use Rattle.world_rwlock.specs.declared.program.led.Next.{Next}

@@ -4,7 +4,7 @@ use Rattle.std.specs.List.{sum_by}
 use Rattle.lock_event.specs.declared.event.Entry.{Entry}
 use Rattle.lock_event.specs.Lists.{marked_count}
 use Rattle.world_base.specs.queue.Debts.{IsOwed}
-use Rattle.lock_program.specs.declared.rwlock.Place.{Place}
+use Rattle.sync_program.specs.declared.rwlock.Place.{Place}
 use Rattle.world_rwlock.specs.declared.program.word.Word.{Word}
 use Rattle.world_rwlock.specs.machine.Roles.{bit, reads, marks, only_turns, writes, in_no_writer, waits_no_writer, owes_no_writer, in_no_readers, waits_no_readers, owes_no_readers}
 

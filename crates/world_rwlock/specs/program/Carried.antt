@@ -3,8 +3,8 @@ use Rattle.std.specs.Prelude.{◌≡◌, ℕ, Bool}
 use Rattle.world_base.specs.queue.Queues.{Queue}
 use Rattle.world_mutex.specs.machine.Mutex.{Mutex}
 use Rattle.world_rwlock.specs.declared.program.word.Word.{Word}
-use Rattle.lock_program.specs.declared.rwlock.Action.{Action}
-use Rattle.lock_program.specs.declared.rwlock.Found.{Found}
+use Rattle.sync_program.specs.declared.rwlock.Action.{Action}
+use Rattle.sync_program.specs.declared.rwlock.Found.{Found}
 use Rattle.world_rwlock.specs.program.Words.{OnWord}
 use Rattle.world_rwlock.specs.program.Parties.{FindsMemory, OnNoWriter, OnNoReaders}
 use Rattle.world_rwlock.specs.program.Turns.{OnTurn}

@@ -5,8 +5,8 @@ use Rattle.world_base.specs.queue.Queues.{Queue}
 use Rattle.world_mutex.specs.machine.Mutex.{Mutex, course_at}
 use Rattle.world_mutex.specs.machine.Course.{may_begin}
 use Rattle.world_rwlock.specs.declared.program.word.Word.{Word}
-use Rattle.lock_program.specs.declared.rwlock.Action.{Action}
-use Rattle.lock_program.specs.declared.rwlock.Action.TheVariants as act
+use Rattle.sync_program.specs.declared.rwlock.Action.{Action}
+use Rattle.sync_program.specs.declared.rwlock.Action.TheVariants as act
 
 -- what an action needs of the word, of the two lists and of the turn
 abbrev pub CanDo : ℕ → Action → Word → Queue → Queue → Mutex → Type 0

@@ -3,10 +3,10 @@ use Rattle.std.specs.Prelude.{◌≡◌, ℕ, Bool, true, false, List}
 use Rattle.lock_event.specs.declared.event.Entry.{Entry}
 use Rattle.lock_event.specs.Lists.{joined, notified, left, without, is_marked_at}
 use Rattle.world_base.specs.queue.Parties.{is_party}
-use Rattle.lock_program.specs.declared.rwlock.Action.{Action}
-use Rattle.lock_program.specs.declared.rwlock.Action.TheVariants as act
-use Rattle.lock_program.specs.declared.rwlock.Found.{Found}
-use Rattle.lock_program.specs.declared.rwlock.Found.TheVariants.{Done, NoMemory, Yes, No}
+use Rattle.sync_program.specs.declared.rwlock.Action.{Action}
+use Rattle.sync_program.specs.declared.rwlock.Action.TheVariants as act
+use Rattle.sync_program.specs.declared.rwlock.Found.{Found}
+use Rattle.sync_program.specs.declared.rwlock.Found.TheVariants.{Done, NoMemory, Yes, No}
 
 -- what joining, asking, leaving and notifying do to a list that find this
 abbrev pub Joins : ℕ → Found → List (Entry ℕ) → List (Entry ℕ) → Type 0

@@ -5,14 +5,14 @@ use Rattle.lock_program.specs.declared.end.End.TheVariants as «end»
 use Rattle.lock_program.specs.declared.end.Next.{Next as TableNext}
 use Rattle.lock_program.specs.declared.end.Next.TheVariants as row
 use Rattle.lock_program.specs.declared.refusal.Refusal.{Refusal}
-use Rattle.lock_program.specs.declared.rwlock.Ending.{Ending}
-use Rattle.lock_program.specs.declared.rwlock.Found.{Found}
-use Rattle.lock_program.specs.declared.rwlock.Place.{Place}
-use Rattle.lock_program.specs.declared.rwlock.Purpose.{Purpose}
-use Rattle.lock_program.specs.declared.rwlock.RwLockCall.{RwLockCall}
-use Rattle.lock_program.specs.declared.rwlock.RwLockCall.TheVariants as asks
-use Rattle.lock_program.specs.ReadWrite as table
-pub use Rattle.lock_program.specs.ReadWrite.{first_poll, poll_from, drop_from, action_of, with_turn, wanted_of}
+use Rattle.sync_program.specs.declared.rwlock.Ending.{Ending}
+use Rattle.sync_program.specs.declared.rwlock.Found.{Found}
+use Rattle.sync_program.specs.declared.rwlock.Place.{Place}
+use Rattle.sync_program.specs.declared.rwlock.Purpose.{Purpose}
+use Rattle.sync_program.specs.declared.rwlock.RwLockCall.{RwLockCall}
+use Rattle.sync_program.specs.declared.rwlock.RwLockCall.TheVariants as asks
+use Rattle.sync_program.specs.ReadWrite as table
+pub use Rattle.sync_program.specs.ReadWrite.{first_poll, poll_from, drop_from, action_of, with_turn, wanted_of}
 use Rattle.world_base.specs.declared.moves.Call.{Call}
 use Rattle.world_base.specs.declared.moves.Call.TheVariants as call
 use Rattle.world_rwlock.specs.declared.program.led.Next.{Next}

@@ -1,10 +1,10 @@
 -- The word of a read-write lock, and what an action does to it.
 use Rattle.std.specs.Prelude.{◌≡◌, ◌≢◌, ℕ, ◌+◌, ◌<◌, ◌≤◌, Bool, true, false}
 use Rattle.world_rwlock.specs.declared.program.word.Word.{Word}
-use Rattle.lock_program.specs.declared.rwlock.Action.{Action}
-use Rattle.lock_program.specs.declared.rwlock.Action.TheVariants as act
-use Rattle.lock_program.specs.declared.rwlock.Found.{Found}
-use Rattle.lock_program.specs.declared.rwlock.Found.TheVariants.{Done, Writer, Full, NoneLeft, SomeLeft, NotFree}
+use Rattle.sync_program.specs.declared.rwlock.Action.{Action}
+use Rattle.sync_program.specs.declared.rwlock.Action.TheVariants as act
+use Rattle.sync_program.specs.declared.rwlock.Found.{Found}
+use Rattle.sync_program.specs.declared.rwlock.Found.TheVariants.{Done, Writer, Full, NoneLeft, SomeLeft, NotFree}
 
 abbrev pub word : Bool → ℕ → ℕ → Word
 word writer readers limit = record { writer = writer; readers = readers; limit = limit }

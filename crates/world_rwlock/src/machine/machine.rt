@@ -8,7 +8,7 @@
 
 ghost use Rattle.std.specs.Prelude.{◌≡◌, ◌<◌, length, slice_get, replicate, IfOk, IsSome, IsSomeAnd};
 ghost use Rattle.world_mutex.specs.machine.Mutex.{TakenFairly};
-ghost use Rattle.lock_program.specs.declared.rwlock.Place.TheVariants as place;
+ghost use Rattle.sync_program.specs.declared.rwlock.Place.TheVariants as place;
 ghost use Rattle.world_rwlock.specs.program.Program.{start_of, place_after};
 ghost use Rattle.world_rwlock.specs.machine.Roles.{bit};
 ghost use Rattle.world_rwlock.specs.machine.Machine.{SameRoles, place_at, new_rwlock};
@@ -21,9 +21,9 @@ use crate::program::deeds::carry_out;
 use crate::program::led::{Next, led};
 use crate::program::word::Word;
 use lock_event::Entry;
-use lock_program::rwlock::{Place, action_at, decide};
 use std::alloc::{AllocError, Global};
 use std::marker::Model;
+use sync_program::rwlock::{Place, action_at, decide};
 use world_base::Call;
 use world_base::queue::WaitQueue;
 use world_mutex::machine::Mutex;

@@ -4,7 +4,7 @@ ghost use Rattle.std.specs.Prelude.{◌≡◌};
 ghost use Rattle.world_rwlock.specs.program.Calls.{knows_at};
 ghost use Rattle.world_rwlock.specs.program.Program.{asked_of, start_of};
 
-use lock_program::rwlock::{self, Place, RwLockCall};
+use sync_program::rwlock::{self, Place, RwLockCall};
 use world_base::Call;
 
 /// Whether a party that stands here may make this call, if it is outside every call: a guard's own calls are

@@ -7,7 +7,7 @@ ghost use Rattle.world_rwlock.specs.program.Parties.{Joins, Asks, HasMemory};
 ghost use Rattle.world_rwlock.specs.program.Carried.{Carried};
 
 use crate::program::word::Word;
-use lock_program::rwlock::{Action, Found};
+use sync_program::rwlock::{Action, Found};
 use world_base::queue::WaitQueue;
 use world_mutex::machine::Mutex;
 

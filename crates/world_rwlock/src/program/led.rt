@@ -3,8 +3,8 @@
 ghost use Rattle.std.specs.Prelude.{◌≡◌};
 ghost use Rattle.world_rwlock.specs.program.Program.{led_by};
 
-use lock_program::rwlock::{Action, Place, action_at};
 use lock_program::{End, Next as TableNext};
+use sync_program::rwlock::{Action, Place, action_at};
 
 /// What a step leads to, as the machine tells it.
 #[derive(Clone, Copy)]

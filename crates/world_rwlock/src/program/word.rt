@@ -1,10 +1,10 @@
 //! The word of a read-write lock: whether the writer's bit is set, and how many readers there are.
 
 ghost use Rattle.std.specs.Prelude.{◌≡◌, ◌<◌};
-ghost use Rattle.lock_program.specs.declared.rwlock.Action.TheVariants as act;
+ghost use Rattle.sync_program.specs.declared.rwlock.Action.TheVariants as act;
 ghost use Rattle.world_rwlock.specs.program.Words.{OnWord, new_word};
 
-use lock_program::rwlock::Found;
+use sync_program::rwlock::Found;
 
 /// The word of a read-write lock: the bit of the writer that writes or waits to, how many readers there
 /// are, and how many there may be.

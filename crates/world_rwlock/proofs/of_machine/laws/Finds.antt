@@ -1,6 +1,6 @@
 -- What an action found, said of the parties.
 use Rattle.world_rwlock.proofs.Prelude.{◌≡◌, ℕ, ◌<◌, Bool, true, false, List, refl, ap, sym, arith, ◌∙◌, Queue, Mutex, Word, Place, Action, Found, Done, Writer, Full, NoneLeft, SomeLeft, NoMemory, Yes, No, Turn, bit, OnWord, FindsMemory, OnNoWriter, OnNoReaders, OnTurn, RwLock, IsMachine, Finds}
-use Rattle.lock_program.specs.declared.rwlock.Found.TheVariants.{NotFree}
+use Rattle.sync_program.specs.declared.rwlock.Found.TheVariants.{NotFree}
 
 clear : (b : Bool) → bit b ≡ 0 → b ≡ false
 clear false h = refl

@@ -2,7 +2,7 @@
 use Rattle.world_rwlock.proofs.Prelude.{◌≡◌, ℕ, ◌+◌, ◌-◌, ◌<◌, ◌≤◌, zero, suc, true, nat_eq, List, length, refl, ap, arith, nat_tests, Entry, marked_count, Word, Place, Action, Found, Done, Writer, Full, NoneLeft, SomeLeft, Yes, No, bit, reads, marks, only_turns, writes, in_no_writer, waits_no_writer, owes_no_writer, in_no_readers, waits_no_readers, owes_no_readers, OnWord, OnNoWriter, OnNoReaders, Counts, tally_of}
 use Rattle.world_base.specs.queue.Debts.{IsOwed}
 use Rattle.world_base.proofs.of_queue.Debts.{debt_kept}
-use Rattle.lock_program.specs.declared.rwlock.Found.TheVariants.{NotFree}
+use Rattle.sync_program.specs.declared.rwlock.Found.TheVariants.{NotFree}
 use Rattle.world_rwlock.specs.machine.Tally.{IsSound}
 use Rattle.world_rwlock.proofs.of_machine.laws.Places.{IsCounted}
 use Rattle.world_rwlock.proofs.of_machine.laws.Steps.{on, off, sets, clears, in_w, out_w, in_r, out_r, taken_w, taken_r, keeps, Fits}

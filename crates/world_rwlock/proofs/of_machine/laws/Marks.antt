@@ -1,6 +1,6 @@
 -- One entry at most is marked in either list.
 use Rattle.world_rwlock.proofs.Prelude.{ℕ, ◌≤◌, List, arith, ap, Entry, marked_count, Action, Found, Done, Yes, No, OnNoWriter, OnNoReaders}
-use Rattle.lock_program.specs.declared.rwlock.Found.TheVariants.{NoMemory}
+use Rattle.sync_program.specs.declared.rwlock.Found.TheVariants.{NoMemory}
 use Rattle.world_base.specs.Steps.{joins, leaves}
 use Rattle.world_base.proofs.OneMarked.{fewer_without, one_notified, one_after}
 

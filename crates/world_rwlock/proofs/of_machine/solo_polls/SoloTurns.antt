@@ -5,7 +5,7 @@ use Rattle.lock_program.specs.declared.refusal.Refusal.TheVariants.{Readers, Sta
 use Rattle.world_base.proofs.of_table.Resting.{all_at_rest}
 use Rattle.world_mutex.specs.machine.Alone as turn
 use Rattle.world_mutex.proofs.of_machine.callers.AloneSeen.{solo_polls as turn_law}
-use Rattle.lock_program.specs.declared.rwlock.Wanted.{Wanted}
+use Rattle.sync_program.specs.declared.rwlock.Wanted.{Wanted}
 use Rattle.world_rwlock.specs.machine.Solo.{waits_to_write, MeetsReaders}
 
 -- ---- once the turn is got

@@ -9,11 +9,10 @@
 //! those who may have it next.
 
 ghost use Rattle.std.specs.Prelude.{◌≡◌};
-ghost use Rattle.lock_program.specs.ReadWrite.{start_of, first_poll as first_poll_lem, poll_from, drop_from, action_of, next_of, after_read as after_read_lem, refuse_read as refuse_read_lem, after_turn as after_turn_lem, after_lock as after_lock_lem, with_turn as with_turn_lem, released as released_lem, after_write as after_write_lem, after_giving_back as after_giving_back_lem};
+ghost use Rattle.sync_program.specs.ReadWrite.{start_of, first_poll as first_poll_lem, poll_from, drop_from, action_of, next_of, after_read as after_read_lem, refuse_read as refuse_read_lem, after_turn as after_turn_lem, after_lock as after_lock_lem, with_turn as with_turn_lem, released as released_lem, after_write as after_write_lem, after_giving_back as after_giving_back_lem};
 
-use crate::end::{End, Next};
-use crate::mutex::{LockCall, Step};
-use crate::refusal::Refusal;
+use lock_program::mutex::{LockCall, Step};
+use lock_program::{End, Next, Refusal};
 
 /// What is asked of a read-write lock.
 #[derive(Clone, Copy)]

@@ -1,24 +1,24 @@
 -- The places of a read-write lock's calls: the action at each, and what comes after what it finds.
 use Rattle.std.specs.Prelude.{Bool, true, false, Option, Some, None}
-use Rattle.lock_program.specs.declared.rwlock.RwLockCall.{RwLockCall}
-use Rattle.lock_program.specs.declared.rwlock.RwLockCall.TheVariants as call
+use Rattle.sync_program.specs.declared.rwlock.RwLockCall.{RwLockCall}
+use Rattle.sync_program.specs.declared.rwlock.RwLockCall.TheVariants as call
 use Rattle.lock_program.specs.declared.refusal.Refusal.{Refusal}
 use Rattle.lock_program.specs.declared.refusal.Refusal.TheVariants.{Memory, Readers}
 use Rattle.lock_program.specs.declared.mutex.LockCall.TheVariants as turn_call
 use Rattle.lock_program.specs.declared.mutex.Step.TheVariants as turn_step
 use Rattle.lock_program.specs.declared.end.End.TheVariants as turn_end
-use Rattle.lock_program.specs.declared.rwlock.Wanted.{Wanted}
-use Rattle.lock_program.specs.declared.rwlock.Wanted.TheVariants as wanted
-use Rattle.lock_program.specs.declared.rwlock.Purpose.{Purpose}
-use Rattle.lock_program.specs.declared.rwlock.Purpose.TheVariants as purpose
-use Rattle.lock_program.specs.declared.rwlock.Ending.{Ending}
-use Rattle.lock_program.specs.declared.rwlock.Ending.TheVariants as ending
-use Rattle.lock_program.specs.declared.rwlock.Place.{Place}
-use Rattle.lock_program.specs.declared.rwlock.Place.TheVariants.{Out, Made, Reading, Upgradable, Writing, EnterRead, JoinNoWriter, LookNoWriter, AskNoWriter, PassOn, LeaveNoWriter, RefuseLeave, RefuseNotify, CancelRead, TryRead, EnterTurn, WaitTurn, TakeTurn, TryTurn, CancelTurn, CancellingTurn, ReleaseTurn, ReleasingTurn, Add, TryUpgrade, Upgrade, Mark, TryWrite, JoinNoReaders, LookNoReaders, AskNoReaders, AwaitNoReaders, LookUnlisted, LeaveNoReaders, DropRead, DropReadNotify, DropUpgradable, DropUpgradableNotify, DropWrite, CancelAwait, Unmark, UnmarkNotify, Down, DownNotify, DowngradeNotify}
-use Rattle.lock_program.specs.declared.rwlock.Action.{Action}
-use Rattle.lock_program.specs.declared.rwlock.Action.TheVariants as act
-use Rattle.lock_program.specs.declared.rwlock.Found.{Found}
-use Rattle.lock_program.specs.declared.rwlock.Found.TheVariants.{Done, Writer, NoneLeft, Yes, Turn}
+use Rattle.sync_program.specs.declared.rwlock.Wanted.{Wanted}
+use Rattle.sync_program.specs.declared.rwlock.Wanted.TheVariants as wanted
+use Rattle.sync_program.specs.declared.rwlock.Purpose.{Purpose}
+use Rattle.sync_program.specs.declared.rwlock.Purpose.TheVariants as purpose
+use Rattle.sync_program.specs.declared.rwlock.Ending.{Ending}
+use Rattle.sync_program.specs.declared.rwlock.Ending.TheVariants as ending
+use Rattle.sync_program.specs.declared.rwlock.Place.{Place}
+use Rattle.sync_program.specs.declared.rwlock.Place.TheVariants.{Out, Made, Reading, Upgradable, Writing, EnterRead, JoinNoWriter, LookNoWriter, AskNoWriter, PassOn, LeaveNoWriter, RefuseLeave, RefuseNotify, CancelRead, TryRead, EnterTurn, WaitTurn, TakeTurn, TryTurn, CancelTurn, CancellingTurn, ReleaseTurn, ReleasingTurn, Add, TryUpgrade, Upgrade, Mark, TryWrite, JoinNoReaders, LookNoReaders, AskNoReaders, AwaitNoReaders, LookUnlisted, LeaveNoReaders, DropRead, DropReadNotify, DropUpgradable, DropUpgradableNotify, DropWrite, CancelAwait, Unmark, UnmarkNotify, Down, DownNotify, DowngradeNotify}
+use Rattle.sync_program.specs.declared.rwlock.Action.{Action}
+use Rattle.sync_program.specs.declared.rwlock.Action.TheVariants as act
+use Rattle.sync_program.specs.declared.rwlock.Found.{Found}
+use Rattle.sync_program.specs.declared.rwlock.Found.TheVariants.{Done, Writer, NoneLeft, Yes, Turn}
 use Rattle.lock_program.specs.declared.end.End.TheVariants.{Got, Granted, Pending, Waiting, NotFree, GivenBack, Refused}
 use Rattle.lock_program.specs.declared.end.Next.{Next}
 use Rattle.lock_program.specs.declared.end.Next.TheVariants as next

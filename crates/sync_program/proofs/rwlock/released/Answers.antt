@@ -1,6 +1,6 @@
 -- A downgrade leaves a party that reads.
 use Rattle.std.proofs.Common.{refl}
-use Rattle.lock_program.proofs.rwlock.released.Goals as goal
+use Rattle.sync_program.proofs.rwlock.released.Goals as goal
 
 pub returns-in-Reading : goal.returns-in-Reading
 returns-in-Reading c = rw c.in-Reading.is refl
