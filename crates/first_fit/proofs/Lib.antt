@@ -1,0 +1,3 @@
+pub mod Heaps
+pub mod Gathers
+pub mod Kept
