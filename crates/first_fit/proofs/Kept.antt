@@ -1,12 +1,12 @@
 -- Rows stay rows: an item joins, moves or leaves.
 use Rattle.std.proofs.Common.{◌≡◌, ◌≢◌, ℕ, zero, suc, ◌+◌, ◌-◌, ◌*◌, ◌^◌, ◌<◌, ◌≤◌, List, [], ◌∷◌, ◌++◌, length, map, get_or, set, take, replicate, is_some, Option, Some, None, true, false, refl, sym, ap, ◌∙◌, subst, inl, inr, arith}
 use Rattle.std.proofs.lemmas.Bool.{cases_eq, cases_lt, true≢false}
-use Rattle.std.proofs.lemmas.Option.{none-some}
+use Rattle.std.proofs.lemmas.Option.{none-some, same_Some}
 use Rattle.std.proofs.lemmas.List.{get_or-set_same, get_or-set_other, length-set, length-map, length-replicate, map-set, set_comm, get_or-map, get_or_read}
 use Rattle.std.proofs.lemmas.Nat.{pow-add}
 use Rattle.first_fit.specs.Trees.{IsFirstPlace}
 use Rattle.first_fit.specs.declared.row.Item.{Item}
-use Rattle.first_fit.specs.Rows.{is_in, without, gathered, weight_in, IsPlaced, IsRow, IsFirstFit}
+use Rattle.first_fit.specs.Rows.{is_in, without, gathered, weight_in, IsPlaced, AreNoted, AreApart, IsRow, IsFirstFit}
 use Rattle.first_fit.proofs.Gathers.{is_in-gathered, stands_first, none_fits, gathered-shift, gathered-out, filled, in_place}
 
 -- where an item stands there is a place
@@ -15,22 +15,11 @@ within [] at x here = absurd (none-some x here)
 within (o ∷ ps) zero x here = omega arith
 within (o ∷ ps) (suc at) x here = omega (arith, within ps at x here)
 
-placed : (places : List ℕ) (at : ℕ) (o : Option Item) (x : Item) → IsPlaced places at o → o ≡ Some x → (x.key < length places) × (get_or places x.key 0 ≡ at)
-placed places at o x is here = subst (IsPlaced places at) here is
-
-pub its_place : (weights : List ℕ) (items : List (Option Item)) (places : List ℕ) (end at : ℕ) (x : Item) → IsRow weights items places end → get_or items at None ≡ Some x → (x.key < length places) × (get_or places x.key 0 ≡ at)
-its_place weights items places end at x row here = placed places at (get_or items at None) x (row.placed at) here
-
--- two items of one key stand in one place
-pub one_place : (weights : List ℕ) (items : List (Option Item)) (places : List ℕ) (end at other : ℕ) (x y : Item) → IsRow weights items places end → get_or items at None ≡ Some x → get_or items other None ≡ Some y → x.key ≡ y.key → at ≡ other
-one_place weights items places end at other x y row here there same =
-    sym (its_place weights items places end at x row here).1 ∙ (ap (λ (k : ℕ). get_or places k 0) same ∙ (its_place weights items places end other y row there).1)
-
 -- another item's key leads where it led
 elsewhere : (places : List ℕ) (at key to : ℕ) (o : Option Item) → IsPlaced places at o → ((y : Item) → o ≡ Some y → y.key ≢ key) → IsPlaced (set places key to) at o
 elsewhere places at key to None is other = tt
 elsewhere places at key to (Some y) is other =
-    (omega (arith, is.0, length-set places key to), get_or-set_other places key y.key to 0 (other y refl) ∙ is.1)
+    λ low. get_or-set_other places key y.key to 0 (other y refl) ∙ is (omega (arith, low, length-set places key to))
 
 pub nobody : (items : List (Option Item)) (from : ℕ) → get_or (set items from None) from None ≡ None
 nobody [] from = refl
@@ -44,10 +33,17 @@ left_empty places items from at is = elim (cases_eq at from) [
   | inr other ↦ rw (get_or-set_other items from at None None other) is
 ]
 
+stays_there : (items : List (Option Item)) (from at : ℕ) (x : Item) → get_or (set items from None) at None ≡ Some x → get_or items at None ≡ Some x
+stays_there items from at x here = elim (cases_eq at from) [
+  | inl same ↦ absurd (none-some x (sym (nobody items from) ∙ (ap (λ (k : ℕ). get_or (set items from None) k None) (sym same) ∙ here)))
+  | inr other ↦ sym (get_or-set_other items from at None None other) ∙ here
+]
+
 -- an item leaves
 pub IsRow-out : (weights : List ℕ) (items : List (Option Item)) (places : List ℕ) (end from : ℕ) → IsRow weights items places end → IsRow (set weights from 18446744073709551616) (set items from None) places end
 IsRow-out weights items places end from row = record {
   weighed = ap (λ ws. set ws from 18446744073709551616) row.weighed ∙ sym (map-set weight_in items from None);
+  apart = λ at other x y here there same. row.apart at other x y (stays_there items from at x here) (stays_there items from other y there) same;
   placed = λ at. left_empty places items from at (row.placed at);
   vacant = λ at past. elim (cases_eq at from) [
     | inl same ↦ rw same (nobody items from)
@@ -58,14 +54,27 @@ IsRow-out weights items places end from row = record {
 }
 
 -- an item is written into an empty place, and its key leads there
-pub IsRow-put : (weights : List ℕ) (items : List (Option Item)) (places : List ℕ) (end at next : ℕ) (x : Item) → IsRow weights items places end → at < length items → x.key < length places
-    → ((q : ℕ) (y : Item) → get_or items q None ≡ Some y → y.key ≢ x.key) → at < next → end ≤ next → next ≤ length items
+pub IsRow-put : (weights : List ℕ) (items : List (Option Item)) (places : List ℕ) (end at next : ℕ) (x : Item) → IsRow weights items places end → at < length items → ((q : ℕ) (y : Item) → get_or items q None ≡ Some y → y.key ≢ x.key) → at < next → end ≤ next → next ≤ length items
     → IsRow (set weights at x.weight) (set items at (Some x)) (set places x.key at) next
-IsRow-put weights items places end at next x row there keyed alone after grown last = record {
+IsRow-put weights items places end at next x row there alone after grown last = record {
   weighed = ap (λ ws. set ws at x.weight) row.weighed ∙ sym (map-set weight_in items at (Some x));
+  apart = λ q r y z here other same. elim (cases_eq q at) [
+    | inl q_is ↦ elim (cases_eq r at) [
+      | inl r_is ↦ q_is ∙ sym r_is
+      | inr r_not ↦
+          let it : x ≡ y = same_Some x y (sym (get_or-set_same items at (Some x) None there) ∙ (ap (λ (k : ℕ). get_or (set items at (Some x)) k None) (sym q_is) ∙ here)) in
+          absurd (alone r z (sym (get_or-set_other items at r (Some x) None r_not) ∙ other) (sym same ∙ ap (λ (i : Item). i.key) (sym it)))
+    ]
+    | inr q_not ↦ elim (cases_eq r at) [
+      | inl r_is ↦
+          let it : x ≡ z = same_Some x z (sym (get_or-set_same items at (Some x) None there) ∙ (ap (λ (k : ℕ). get_or (set items at (Some x)) k None) (sym r_is) ∙ other)) in
+          absurd (alone q y (sym (get_or-set_other items at q (Some x) None q_not) ∙ here) (same ∙ ap (λ (i : Item). i.key) (sym it)))
+      | inr r_not ↦ row.apart q r y z (sym (get_or-set_other items at q (Some x) None q_not) ∙ here) (sym (get_or-set_other items at r (Some x) None r_not) ∙ other) same
+    ]
+  ];
   placed = λ q. elim (cases_eq q at) [
     | inl same ↦
-        rw same (subst (IsPlaced (set places x.key at) at) (sym (get_or-set_same items at (Some x) None there)) (omega (arith, keyed, length-set places x.key at), get_or-set_same places x.key at 0 keyed))
+        rw same (subst (IsPlaced (set places x.key at) at) (sym (get_or-set_same items at (Some x) None there)) (λ low. get_or-set_same places x.key at 0 (omega (arith, low, length-set places x.key at))))
     | inr other ↦ rw (get_or-set_other items at q (Some x) None other) (elsewhere places q x.key at (get_or items q None) (row.placed q) (λ y is. alone q y is))
   ];
   vacant = λ q past. get_or-set_other items at q (Some x) None (λ e. absurd (omega (arith, e, past, after))) ∙ row.vacant q (omega arith);
@@ -92,9 +101,9 @@ IsRow-shift weights items places to from x row before here =
     let other : (q : ℕ) (y : Item) → get_or (set items from None) q None ≡ Some y → y.key ≢ x.key = λ q y there keyed.
     elim (cases_eq q from) [
       | inl it ↦ none-some y (sym (nobody items from) ∙ (ap (λ (k : ℕ). get_or (set items from None) k None) (sym it) ∙ there))
-      | inr not ↦ not (one_place weights items places (length items) q from y x row (sym (get_or-set_other items from q None None not) ∙ there) here keyed)
+      | inr not ↦ not (row.apart q from y x (sym (get_or-set_other items from q None None not) ∙ there) here keyed)
     ] in
-    let put = IsRow-put (set weights from 18446744073709551616) (set items from None) places (length items) to (length items) x out (omega (arith, same)) (its_place weights items places (length items) from x row here).0 other (omega arith) (omega arith) (omega (arith, same)) in
+    let put = IsRow-put (set weights from 18446744073709551616) (set items from None) places (length items) to (length items) x out (omega (arith, same)) other (omega arith) (omega arith) (omega (arith, same)) in
     rw (set_comm weights to from x.weight 18446744073709551616 apart, set_comm items to from (Some x) None apart) put
 
 -- ---- an empty row
@@ -115,6 +124,7 @@ nobody_there (suc n) (suc at) o = nobody_there n at o
 pub IsRow-empty : (room : ℕ) → IsRow (replicate (2 * room) 18446744073709551616) (replicate (2 * room) None) (replicate room 0) 0
 IsRow-empty room = record {
   weighed = weigh_nothing (2 * room);
+  apart = λ at other x y here there same. absurd (none-some x (sym (nobody_there (2 * room) at None) ∙ here));
   placed = λ at. subst (IsPlaced (replicate room 0) at) (sym (nobody_there (2 * room) at None)) tt;
   vacant = λ at past. nobody_there (2 * room) at None;
   within = omega arith;
@@ -208,6 +218,7 @@ pub Packed-all : (all : List Item) (weights : List ℕ) (items : List (Option It
 Packed-all all weights items places to from was past last = (
   record {
     weighed = was.row.weighed;
+    apart = was.row.apart;
     placed = was.row.placed;
     vacant = λ q low. elim (cases_lt q from) [ inl there ↦ was.gap q low there | inr beyond ↦ was.row.vacant q (omega (arith, past, beyond)) ];
     within = omega (arith, was.before, last);
@@ -218,20 +229,31 @@ Packed-all all weights items places to from was past last = (
 
 -- ---- an item is found by its key
 
-pub record Held (items : List (Option Item)) (places : List ℕ) (key at : ℕ) : Type 0 where
-  pub below : key < length places
+pub record Held (items : List (Option Item)) (key at : ℕ) : Type 0 where
   pub there : at < length items
   pub out : gathered (set items at None) ≡ without key (gathered items)
 
-pub held : (weights : List ℕ) (items : List (Option Item)) (places : List ℕ) (end key : ℕ) → IsRow weights items places end → is_in key (gathered items) ≡ true → Held items places key (get_or places key 0)
-held weights items places end key row listed =
+pub held_at : (items : List (Option Item)) (key at : ℕ) (x : Item) → AreApart items → get_or items at None ≡ Some x → x.key ≡ key → Held items key at
+held_at items key at x apart here its =
+    let alone : (q : ℕ) (y : Item) → q < at → get_or items q None ≡ Some y → y.key ≡ x.key → ⊥ = λ q y before there same. absurd (omega (arith, before, apart q at y x there here same)) in
+    record { there = within items at x here; out = gathered-out items at x here alone ∙ ap (λ (k : ℕ). without k (gathered items)) its }
+
+-- an item whose key is noted
+pub noted : (items : List (Option Item)) (places : List ℕ) (key : ℕ) → AreApart items → AreNoted places items → is_in key (gathered items) ≡ true → key < length places → Held items key (get_or places key 0)
+noted items places key apart placed listed low =
     let s = in_place items key listed in
-    let its = its_place weights items places end s.at s.it row s.here in
-    let leads : get_or places key 0 ≡ s.at = ap (λ (k : ℕ). get_or places k 0) (sym s.its) ∙ its.1 in
-    let alone : (q : ℕ) (y : Item) → q < s.at → get_or items q None ≡ Some y → y.key ≡ s.it.key → ⊥ = λ q y before here same. absurd (omega (arith, before, one_place weights items places end q s.at y s.it row here s.here same)) in
-    let it : Held items places key s.at = record {
-      below = subst (λ (k : ℕ). k < length places) s.its its.0;
-      there = within items s.at s.it s.here;
-      out = gathered-out items s.at s.it s.here alone ∙ ap (λ (k : ℕ). without k (gathered items)) s.its;
-    } in
-    subst (Held items places key) (sym leads) it
+    let its : s.it.key < length places → get_or places s.it.key 0 ≡ s.at = subst (IsPlaced places s.at) s.here (placed s.at) in
+    let leads : get_or places key 0 ≡ s.at = ap (λ (k : ℕ). get_or places k 0) (sym s.its) ∙ its (subst (λ (k : ℕ). k < length places) (sym s.its) low) in
+    subst (Held items key) (sym leads) (held_at items key s.at s.it apart s.here s.its)
+
+-- an item that is nowhere isn't in
+pub somewhere : (items : List (Option Item)) (key n : ℕ) → is_in key (gathered items) ≡ true → length items ≤ n → ((q : ℕ) (y : Item) → q < n → get_or items q None ≡ Some y → y.key ≢ key) → ⊥
+somewhere items key n listed past none =
+    let s = in_place items key listed in none s.at s.it (omega (arith, within items s.at s.it s.here, past)) s.here s.its
+
+-- one place more has another key
+pub past_one : (items : List (Option Item)) (key n : ℕ) → ((q : ℕ) (y : Item) → q < n → get_or items q None ≡ Some y → y.key ≢ key) → ((y : Item) → get_or items n None ≡ Some y → y.key ≢ key) → (q : ℕ) (y : Item) → q < n + 1 → get_or items q None ≡ Some y → y.key ≢ key
+past_one items key n before here q y low there = elim (cases_eq q n) [
+  | inl same ↦ here y (ap (λ (k : ℕ). get_or items k None) (sym same) ∙ there)
+  | inr other ↦ before q y (omega (arith, low, other)) there
+]

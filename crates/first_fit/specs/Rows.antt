@@ -3,8 +3,7 @@ use Rattle.std.specs.Prelude.{◌≡◌, ℕ, ◌*◌, ◌<◌, ◌≤◌, Bool,
 use Rattle.std.specs.List.{All}
 use Rattle.first_fit.specs.declared.row.Item.{Item}
 
--- What a contract sees of a row: who stands in it, oldest first; how many there may be before one more needs memory, which is also
--- above each key; and how many nodes a search visits at most.
+-- What a contract sees of a row: who stands in it, oldest first; how many there may be before one more needs memory; and how many nodes a search visits at most.
 pub record Weighed : Type 0 where
   pub items : List Item
   pub room : ℕ
@@ -47,26 +46,28 @@ abbrev pub weight_in : Option Item → ℕ
 weight_in None = 18446744073709551616
 weight_in (Some x) = x.weight
 
--- The item stands in this place, and its key leads there.
+-- If its key is below the number of keys that are noted, the item that stands in this place is noted there.
 abbrev pub IsPlaced : List ℕ → ℕ → Option Item → Type 0
 IsPlaced places at None = Unit {0}
-IsPlaced places at (Some x) = (x.key < length places) × (slice_index places x.key ≡ at)
+IsPlaced places at (Some x) = x.key < length places → slice_index places x.key ≡ at
 
--- Each item's key leads to its place, the places from `end` on are empty, and the tree has what each place weighs.
-pub record IsRow (weights : List ℕ) (items : List (Option Item)) (places : List ℕ) (end : ℕ) : Type 0 where
-  pub weighed : weights ≡ map weight_in items
-  pub placed : (at : ℕ) → IsPlaced places at (slice_index_or items at None)
-  pub vacant : (at : ℕ) → end ≤ at → slice_index_or items at None ≡ None
-  pub within : end ≤ length items
-  pub room : length items ≡ 2 * length places
+-- So it is of each item.
+abbrev pub AreNoted : List ℕ → List (Option Item) → Type 0
+AreNoted places items = (at : ℕ) → IsPlaced places at (slice_index_or items at None)
 
 -- No two places have items of one key.
 abbrev pub AreApart : List (Option Item) → Type 0
 AreApart items = (at other : ℕ) (x y : Item) → slice_index_or items at None ≡ Some x → slice_index_or items other None ≡ Some y → x.key ≡ y.key → at ≡ other
 
--- Each item's key is below this number.
-abbrev pub AreBelow : ℕ → List (Option Item) → Type 0
-AreBelow n items = (at : ℕ) (x : Item) → slice_index_or items at None ≡ Some x → x.key < n
+-- Items have keys of their own, the place of each key that is low enough is noted, the places from `end` on are empty, and the tree has
+-- what each place weighs.
+pub record IsRow (weights : List ℕ) (items : List (Option Item)) (places : List ℕ) (end : ℕ) : Type 0 where
+  pub weighed : weights ≡ map weight_in items
+  pub apart : AreApart items
+  pub placed : AreNoted places items
+  pub vacant : (at : ℕ) → end ≤ at → slice_index_or items at None ≡ None
+  pub within : end ≤ length items
+  pub room : length items ≡ 2 * length places
 
 -- And there are no more items than keys.
 abbrev pub IsSound : List ℕ → List (Option Item) → List ℕ → ℕ → Type 0

@@ -1,7 +1,7 @@
 //! Weights in order of arrival, in the places of a tree.
 
-ghost use Rattle.std.specs.Prelude.{◌≡◌, ◌+◌, ◌*◌, ◌^◌, ◌<◌, ◌≤◌, ◌++◌, ◌∷◌, slice_set, slice_index_or, [], length, false, true, IfOk, IfSome, IsOk, OnOk, OnErr, Some, None};
-ghost use Rattle.first_fit.specs.Rows.{item, is_in, without, gathered, AreApart, AreBelow, IsFirstFit, IsRow};
+ghost use Rattle.std.specs.Prelude.{◌≡◌, ◌≢◌, ℕ, List, MatchBool, IsSomeAnd, ◌+◌, ◌*◌, ◌^◌, ◌<◌, ◌≤◌, ◌++◌, ◌∷◌, slice_set, slice_index_or, [], length, false, true, IfOk, IfSome, IsOk, OnOk, OnErr, Some, None};
+ghost use Rattle.first_fit.specs.Rows.{item, is_in, without, gathered, AreApart, AreNoted, IsFirstFit, IsRow};
 
 use crate::tree::{EMPTY, Tree};
 use std::alloc::{AllocError, Global};
@@ -27,8 +27,7 @@ pub struct Found {
 
 /// Weights in order of arrival, each under a key of its own.
 ///
-/// Contracts see the items, oldest first; the room: how many there may be before one more needs memory, which is also above each
-/// key; and the path: how many nodes a search looks at, at most. Only [`Row::reserve`] takes memory, and only it can be refused.
+/// Contracts see the items, oldest first; the room: how many there may be before one more needs memory; and the path: how many nodes a search looks at, at most. Only [`Row::reserve`] takes memory, and only it can be refused.
 #[derive(Drop)]
 pub struct Row {
     tree: Tree,
@@ -73,6 +72,44 @@ fn power_from(n: usize) -> Option<(usize, u64)>
     None
 }
 
+// The place of the item that has this key is noted, if the key is low enough.
+fn note(places: &mut [usize], key: usize, at: usize)
+    ensures { places.new ≡ slice_set places.old key at }
+{
+    if key < places.len() {
+        places[key] = at;
+    }
+}
+
+// The place of the item that has this key. It is looked for where it isn't noted.
+fn place_of(items: &[Option<Item>], places: &[usize], key: usize) -> usize
+    requires apart { AreApart items.now }
+    requires noted { AreNoted places.now items.now }
+    requires listed { is_in key (gathered items.now) ≡ true }
+    ensures there { result < length items.now }
+    ensures out { gathered (slice_set items.now result None) ≡ without key (gathered items.now) }
+{
+    if key < places.len() {
+        return places[key];
+    }
+    for at in 0..items.len() {
+        if has_key(items[at], key) {
+            return at;
+        }
+    }
+    unreachable!()
+}
+
+// Whether an item of this key stands there.
+fn has_key(item: Option<Item>, key: usize) -> bool
+    ensures { MatchBool result (IsSomeAnd item (λ x. x.key ≡ key)) (IfSome item (λ x. x.key ≢ key)) }
+{
+    match item {
+        Some(it) => it.key == key,
+        None => false,
+    }
+}
+
 // The item in the place `from` moves to the place `to`, which is empty and stands before it.
 fn shift(
     tree: &mut Tree,
@@ -94,7 +131,7 @@ fn shift(
     tree.set(from, EMPTY);
     items[to] = Some(it);
     items[from] = None;
-    places[it.key] = to;
+    note(places, it.key, to);
 }
 
 // The items move together in their order, to the first places. How many there are is answered: the first place that is empty now.
@@ -137,10 +174,31 @@ fn vacant_place(
     compact(tree, items, places)
 }
 
+// An item joins behind all others. The first place after it is answered.
+fn add(
+    tree: &mut Tree,
+    items: &mut [Option<Item>],
+    places: &mut [usize],
+    end: usize,
+    it: Item,
+) -> usize
+    requires row { IsRow tree.old.weights items.old places.old end }
+    requires some { length (gathered items.old) < length items.old }
+    requires fresh { is_in it.key (gathered items.old) ≡ false }
+    ensures row { IsRow tree.new.weights items.new places.new result }
+    ensures items { gathered items.new ≡ gathered items.old ++ it ∷ [] }
+    ensures path { tree.new.path ≡ tree.old.path }
+{
+    let at = vacant_place(tree, items, places, end);
+    tree.set(at, it.weight as u128);
+    items[at] = Some(it);
+    note(places, it.key, at);
+    at + 1
+}
+
 // The items that stand in these places join the row in their order.
 fn refill(row: &mut Row, items: &[Option<Item>])
     requires empty { row.old.items ≡ [] }
-    requires below { AreBelow row.old.room items.now }
     requires apart { AreApart items.now }
     requires room { length (gathered items.now) ≤ row.old.room }
     ensures items { row.new.items ≡ gathered items.now }
@@ -207,7 +265,7 @@ impl Row {
         self.places.len()
     }
 
-    /// Makes room for `n` items with keys below `n` (`room`), and for no more than twice as many and one (`lean`).
+    /// Makes room for `n` items (`room`), and for no more than twice as many and one (`lean`).
     ///
     /// [`AllocError`] comes only where that room was missing (`succeeds`) and memory was refused. The row then is as it was (`refused`).
     /// Where there was room nothing changes (`kept`).
@@ -228,22 +286,25 @@ impl Row {
         Ok(())
     }
 
-    /// An item of this weight joins at the back, under this key, which no item has and which is below the room.
+    /// An item of this weight joins at the back, under this key, which no item has. If the key is below the room, [`Row::remove`] finds the
+    /// item at once; if not, it looks for it.
     ///
     /// Where the places behind the last item are used up, the items move together first: after as many calls as there is room for, at the least.
     pub fn push(&mut self, key: usize, weight: u64)
         requires room { length self.old.items < self.old.room }
-        requires key { key < self.old.room }
         requires fresh { is_in key self.old.items ≡ false }
         ensures items { self.new.items ≡ self.old.items ++ item key weight ∷ [] }
         ensures room { self.new.room ≡ self.old.room }
         ensures path { self.new.path ≡ self.old.path }
     {
-        self.end = vacant_place(&mut self.tree, &mut self.items, &mut self.places, self.end);
-        self.tree.set(self.end, weight as u128);
-        self.items[self.end] = Some(Item { key, weight });
-        self.places[key] = self.end;
-        self.end += 1;
+        let it = Item { key, weight };
+        self.end = add(
+            &mut self.tree,
+            &mut self.items,
+            &mut self.places,
+            self.end,
+            it,
+        );
     }
 
     /// The item that has this key leaves the row.
@@ -253,7 +314,7 @@ impl Row {
         ensures room { self.new.room ≡ self.old.room }
         ensures path { self.new.path ≡ self.old.path }
     {
-        let at = self.places[key];
+        let at = place_of(&self.items, &self.places, key);
         self.tree.set(at, EMPTY);
         self.items[at] = None;
     }
