@@ -5,11 +5,16 @@ ghost use Rattle.lock_event.specs.Lists.{joined, marked_count, with_key, is_mark
 ghost use Rattle.lock_event.specs.Slots.{has_id};
 ghost use Rattle.lock_event.specs.Chains.{is_in, at_slot, rewritten, with_waker};
 ghost use Rattle.lock_event.specs.Weights.{fitted, is_wanted};
+ghost use Rattle.std.specs.Prelude.{◌*◌, max, ⊤};
+ghost use Rattle.first_fit.specs.Rows.{is_in as is_ranked};
+ghost use Rattle.lock_event.specs.Chains.{AreApart};
+ghost use Rattle.lock_event.specs.Ranks.{ranked, left_ranks, joined_ranks, AreAlike, IsRanked, IsReady, OnRanked};
 ghost use Rattle.lock_event.specs.Loads.{weight_of as its_weight, laden, load, weight_at, first_fit, marked_waker, without_marked_waker, waker_in, kept_at, HasAskedFor};
 
 use crate::chain::Chain;
 use crate::event::{Asked, Entry, EntryId, Mark, Memory, Slot};
 use crate::line::passed;
+use first_fit::Row;
 use std::alloc::Global;
 use std::marker::Model;
 
@@ -38,7 +43,29 @@ pub struct WeightedEvent<W> {
     chain: Chain<Load<W>>,
     // The slot of the notified entry.
     marked: Option<usize>,
+    ranks: Ranks,
     visits: u64,
+}
+
+// Lists up to this length are walked.
+const SHORT: usize = 8;
+
+// How the weights are known beside the entries.
+#[derive(Clone, Copy)]
+enum Kind {
+    // All entries have this weight.
+    Alike(u64),
+    // There are at most [`SHORT`] entries.
+    Few,
+    // The row has the weight of each entry.
+    Ranked,
+}
+
+// The weights beside the entries: in a row only if there are many, of more than one weight. Of another kind, the row is empty.
+#[derive(Drop)]
+struct Ranks {
+    row: Row,
+    kind: Kind,
 }
 
 impl<W> Model for WeightedEvent<W> {
@@ -47,11 +74,12 @@ impl<W> Model for WeightedEvent<W> {
 
     ghost Value = { Waiters (Load W) };
 
-    ghost use Rattle.lock_event.specs.Loads.{IsOneMarked};
+    ghost use Rattle.std.specs.Prelude.{min};
+    ghost use Rattle.lock_event.specs.Ranks.{IsWeighted};
 
-    ghost view = { λ e. record { entries = e.chain.entries; room = e.chain.room; visits = e.visits } };
+    ghost view = { λ e. record { entries = e.chain.entries; room = min e.chain.room e.ranks.row.room; visits = e.visits } };
 
-    ghost invariant = { λ e. IsOneMarked e.chain.entries e.marked };
+    ghost invariant = { λ e. IsWeighted e.chain.entries e.chain.room e.marked e.ranks };
 }
 
 // What an entry wants.
@@ -87,6 +115,158 @@ fn find<W>(chain: &mut Chain<Load<W>>, a: u64) -> Option<usize>
         at = chain.after(at);
     }
     None
+}
+
+// The slot of the first entry that so many are enough for, in the row if the list is longer than the way in its tree.
+fn search<W>(chain: &mut Chain<Load<W>>, ranks: &Ranks, a: u64) -> Option<usize>
+    requires fresh { chain.old.visits ≡ 0 }
+    requires ranked { IsRanked chain.old.entries ranks.now.row.items ranks.now.kind }
+    ensures entries { chain.new.entries ≡ chain.old.entries }
+    ensures room { chain.new.room ≡ chain.old.room }
+    ensures found { result ≡ first_fit a chain.old.entries }
+    ensures visits { chain.new.visits ≤ length chain.old.entries }
+    ensures before { IfSome result (λ _. chain.new.visits + 1 ≤ length chain.old.entries) }
+    ensures few { chain.new.visits ≤ max 8 (ranks.now.row.path + 1) }
+    ensures few_before { IfSome result (λ _. chain.new.visits + 1 ≤ max 8 (ranks.now.row.path + 1)) }
+    ensures path { 2 ^ ranks.now.row.path ≤ 4 * ranks.now.row.room + 1 }
+{
+    chain.laws();
+    let n = chain.len();
+    let path = ranks.row.path();
+    match ranks.kind {
+        Kind::Alike(weight) => alike(chain, weight, a),
+        Kind::Few => find(chain, a),
+        Kind::Ranked => {
+            if n <= SHORT || n as u64 <= path {
+                find(chain, a)
+            } else {
+                let found = ranks.row.find(a);
+                chain.looks(found.visits);
+                match found.item {
+                    Some(item) => Some(item.key),
+                    None => None,
+                }
+            }
+        }
+    }
+}
+
+// The same, where all entries have this weight: the first of them, or none.
+fn alike<W>(chain: &mut Chain<Load<W>>, weight: u64, a: u64) -> Option<usize>
+    requires fresh { chain.old.visits ≡ 0 }
+    requires alike { AreAlike weight chain.old.entries }
+    ensures entries { chain.new.entries ≡ chain.old.entries }
+    ensures room { chain.new.room ≡ chain.old.room }
+    ensures found { result ≡ first_fit a chain.old.entries }
+    ensures visits { chain.new.visits ≤ length chain.old.entries }
+    ensures before { IfSome result (λ _. chain.new.visits + 1 ≤ length chain.old.entries) }
+    ensures few { chain.new.visits ≤ 1 }
+    ensures few_before { IfSome result (λ _. chain.new.visits ≡ 0) }
+{
+    let first = chain.first();
+    if weight <= a {
+        return first;
+    }
+    if first.is_some() {
+        chain.look();
+    }
+    None
+}
+
+// Makes the row have room for n items, and for as many as the list's slots if there is memory.
+fn widen(row: &mut Row, slots: usize, n: usize) -> Result<(), Memory>
+    requires { n ≤ slots }
+    ensures items { row.new.items ≡ row.old.items }
+    ensures room { OnOk result (n ≤ row.new.room) }
+    ensures kept { row.old.room ≤ row.new.room }
+    ensures lean { row.old.room ≤ 2 * slots + 1 → row.new.room ≤ 2 * slots + 1 }
+    ensures succeeds { n ≤ row.old.room → IsOk result }
+{
+    if row.reserve(slots).is_ok() {
+        return Ok(());
+    }
+    match row.reserve(n) {
+        Ok(()) => Ok(()),
+        Err(_) => Err(Memory),
+    }
+}
+
+// The weights of all entries come into the row, which is empty.
+fn bring_in<W>(chain: &Chain<Load<W>>, row: &mut Row)
+    requires empty { row.old.items ≡ [] }
+    requires room { length chain.now.entries ≤ row.old.room }
+    ensures items { row.new.items ≡ ranked chain.now.entries }
+    ensures room { row.new.room ≡ row.old.room }
+{
+    chain.laws();
+    let mut at = chain.first();
+    for _ in 0..chain.len() {
+        let Some(key) = at else {
+            return;
+        };
+        row.push(key, weight_of(chain.at(key)));
+        at = chain.after(at);
+    }
+}
+
+// The ranks are made ready for one more entry, of this weight.
+fn settle<W>(chain: &Chain<Load<W>>, ranks: &mut Ranks, weight: u64) -> Result<(), Memory>
+    requires ranked { IsRanked chain.now.entries ranks.old.row.items ranks.old.kind }
+    requires room { length chain.now.entries + 1 ≤ chain.now.room }
+    ensures ranked { IsRanked chain.now.entries ranks.new.row.items ranks.new.kind }
+    ensures ready { OnOk result (IsReady weight chain.now.entries ranks.new) }
+    ensures kept { ranks.old.row.room ≤ ranks.new.row.room }
+    ensures lean { ranks.old.row.room ≤ 2 * chain.now.room + 1 → ranks.new.row.room ≤ 2 * chain.now.room + 1 }
+    ensures succeeds { length chain.now.entries + 1 ≤ ranks.old.row.room → IsOk result }
+{
+    let n = chain.len();
+    if n == 0 {
+        ranks.kind = Kind::Alike(weight);
+        return Ok(());
+    }
+    match ranks.kind {
+        Kind::Alike(common) => {
+            if common == weight {
+                return Ok(());
+            }
+        }
+        Kind::Few => {}
+        Kind::Ranked => return widen(&mut ranks.row, chain.capacity(), n + 1),
+    }
+    if n < SHORT {
+        ranks.kind = Kind::Few;
+        return Ok(());
+    }
+    widen(&mut ranks.row, chain.capacity(), n + 1)?;
+    bring_in(chain, &mut ranks.row);
+    ranks.kind = Kind::Ranked;
+    Ok(())
+}
+
+// The ranks once an entry of this weight has joined.
+fn join(ranks: &mut Ranks, key: usize, weight: u64)
+    requires room { OnRanked ranks.old.kind (length ranks.old.row.items < ranks.old.row.room) }
+    requires fresh { OnRanked ranks.old.kind (is_ranked key ranks.old.row.items ≡ false) }
+    ensures items { ranks.new.row.items ≡ joined_ranks ranks.old.kind key weight ranks.old.row.items }
+    ensures kind { ranks.new.kind ≡ ranks.old.kind }
+    ensures room { ranks.new.row.room ≡ ranks.old.row.room }
+{
+    if let Kind::Ranked = ranks.kind {
+        ranks.row.push(key, weight);
+    }
+}
+
+// The ranks once an entry has left.
+#[inline(always)]
+fn leave(ranks: &mut Ranks, key: usize)
+    requires { OnRanked ranks.old.kind (is_ranked key ranks.old.row.items ≡ true) }
+    ensures items { ranks.new.row.items ≡ left_ranks ranks.old.kind key ranks.old.row.items }
+    ensures kind { ranks.new.kind ≡ ranks.old.kind }
+    ensures room { ranks.new.row.room ≡ ranks.old.row.room }
+{
+    if let Kind::Ranked = ranks.kind {
+        ranks.row.remove(key);
+    }
 }
 
 // The entry in this slot carries that now, and what it carried before is dropped.
@@ -137,6 +317,10 @@ impl<W: Drop> WeightedEvent<W> {
         WeightedEvent {
             chain: Chain::new(alloc),
             marked: None,
+            ranks: Ranks {
+                row: Row::new(alloc),
+                kind: Kind::Few,
+            },
             visits: 0,
         }
     }
@@ -182,10 +366,12 @@ impl<W: Drop> WeightedEvent<W> {
         ensures kept { self.old.room ≤ self.new.room }
         ensures succeeds { length self.old.entries + n ≤ self.old.room → IsOk result }
     {
-        match self.chain.reserve(n) {
-            Ok(()) => Ok(()),
-            Err(_) => Err(Memory),
+        if self.chain.reserve(n).is_err() {
+            return Err(Memory);
         }
+        let slots = self.chain.capacity();
+        let all = self.chain.len() + n;
+        widen(&mut self.ranks.row, slots, all)
     }
 
     /// Whether an entry has this id, so that the calls that name an entry can be made with it. The id of an
@@ -208,12 +394,18 @@ impl<W: Drop> WeightedEvent<W> {
         ensures succeeds { length self.old.entries < self.old.room → IsOk result }
         ensures room { self.old.room ≤ self.new.room }
     {
+        // Room first: so nothing has changed if there is none.
+        if self.chain.reserve(1).is_err() {
+            return Err(Memory);
+        }
+        settle(&self.chain, &mut self.ranks, weight)?;
         self.chain.start();
         let Ok(number) = self.chain.push_back() else {
             return Err(Memory);
         };
         self.chain.start();
         put(&mut self.chain, number, weight, None);
+        join(&mut self.ranks, number, weight);
         Ok(EntryId { number })
     }
 
@@ -226,6 +418,7 @@ impl<W: Drop> WeightedEvent<W> {
         ensures told { IsTrue (is_wanted its_weight a self.old.entries) → 0 < marked_count self.new.entries }
         ensures room { self.new.room ≡ self.old.room }
         ensures visits { self.new.visits ≤ length self.old.entries }
+        ensures few { 2 ^ self.new.visits ≤ 256 * (self.old.room + 1) }
     {
         self.chain.start();
         self.chain.laws();
@@ -233,7 +426,7 @@ impl<W: Drop> WeightedEvent<W> {
             self.visits = 0;
             return;
         }
-        let found = find(&mut self.chain, a);
+        let found = search(&mut self.chain, &self.ranks, a);
         let Some(key) = found else {
             self.visits = self.chain.visits();
             return;
@@ -257,6 +450,7 @@ impl<W: Drop> WeightedEvent<W> {
         self.chain.laws();
         let (entry, _next) = self.chain.remove(id.number);
         self.marked = passed(self.marked, id.number, None);
+        leave(&mut self.ranks, id.number);
         self.visits = self.chain.visits();
         entry.mark.is_marked()
     }
@@ -287,6 +481,7 @@ impl<W: Drop> WeightedEvent<W> {
         if marked {
             let _ = self.chain.remove(id.number);
             self.marked = passed(self.marked, id.number, None);
+            leave(&mut self.ranks, id.number);
             return true;
         }
         put(&mut self.chain, id.number, weight, Some(w));
@@ -325,6 +520,7 @@ impl<W: Drop> WeightedEvent<W> {
         if marked {
             let (gone, _next) = self.chain.remove(id.number);
             self.marked = passed(self.marked, id.number, None);
+            leave(&mut self.ranks, id.number);
             return Asked::Notified {
                 kept: waker_of(gone.key.waker),
                 unused: waker,
@@ -354,6 +550,7 @@ impl<W: Drop> WeightedEvent<W> {
         self.chain.laws();
         let (gone, _next) = self.chain.remove(id.number);
         self.marked = passed(self.marked, id.number, None);
+        leave(&mut self.ranks, id.number);
         (gone.mark.is_marked(), waker_of(gone.key.waker))
     }
 }

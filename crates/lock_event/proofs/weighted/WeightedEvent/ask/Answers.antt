@@ -2,9 +2,11 @@ use Rattle.std.proofs.Common.{◌≡◌, ℕ, false, Some, refl, sym, ap, ◌∙
 use Rattle.lock_event.specs.Lists.{is_listed, is_marked_at, without, with_key}
 use Rattle.lock_event.specs.Slots.{has_id}
 use Rattle.lock_event.specs.Chains.{at_slot}
-use Rattle.lock_event.specs.Loads.{IsOneMarked, load, laden, weight_at, waker_in, kept_at}
+use Rattle.lock_event.specs.Loads.{load, laden, weight_at, waker_in, kept_at}
 use Rattle.lock_event.proofs.Ids.{is_listed-in, named, rewritten-with_key}
-use Rattle.lock_event.proofs.Loads.{IsOneMarked-out, IsOneMarked-put, weight_at-is, kept_at-is}
+use Rattle.lock_event.proofs.Loads.{weight_at-is, kept_at-is}
+use Rattle.lock_event.specs.Ranks.{IsWeighted}
+use Rattle.lock_event.proofs.Ranks.{at_slot-in, IsRanked-listed, IsWeighted-out, IsWeighted-put}
 use Rattle.lock_event.proofs.weighted.WeightedEvent.ask.Goals as goal
 
 pub returns-then-not-contains-clause-asked : goal.returns-then-not-contains-clause-asked
@@ -13,10 +15,17 @@ returns-then-not-contains-clause-asked g c =
     let unlisted : is_listed (has_id c.args.id) c.args.self.now.entries ≡ false = ap (λ es. is_listed (has_id c.args.id) es) (sym view) ∙ (is_listed-in c.args.id c.self.inside.chain.entries ∙ (sym c.contains.ensures ∙ c.if-not-contains.true)) in
     (unlisted, refl, refl)
 
+pub leave-requires : goal.leave-requires
+leave-requires g c =
+    let start = ap (λ v. v.entries) c.start.ensures in
+    IsRanked-listed c.args.id.number c.start.new.self.entries c.self.inside.ranks.row.items c.self.inside.ranks.kind (rw start c.self.invariant.ranks_are) (at_slot-in c.args.id.number c.start.new.self.entries c.remove-gone.result.0 c.remove-gone.ensures.entry)
+
 pub invariant_of-self : goal.invariant_of-self
 invariant_of-self g c =
-    let one : IsOneMarked c.start.new.self.entries c.self.inside.marked = subst (λ es. IsOneMarked es c.self.inside.marked) (sym (ap (λ v. v.entries) c.start.ensures)) c.self.invariant in
-    rw (c.remove-gone.ensures.entries, c.passed-self-inside.ensures) (IsOneMarked-out c.args.id.number c.start.new.self.entries c.self.inside.marked c.laws.ensures.apart one)
+    let start = ap (λ v. v.entries) c.start.ensures in
+    let room : c.remove-gone.new.self.room ≡ c.self.inside.chain.room = c.remove-gone.ensures.room ∙ ap (λ v. v.room) c.start.ensures in
+    let was : IsWeighted c.start.new.self.entries c.self.inside.chain.room c.self.inside.marked c.self.inside.ranks = subst (λ es. IsWeighted es c.self.inside.chain.room c.self.inside.marked c.self.inside.ranks) (sym start) c.self.invariant in
+    rw (c.remove-gone.ensures.entries, c.passed-self-inside.ensures, room) (IsWeighted-out c.args.id.number c.start.new.self.entries c.self.inside.chain.room c.self.inside.marked c.self.inside.ranks c.leave.new.ranks c.laws.ensures.apart was c.leave.ensures.items c.leave.ensures.kind c.leave.ensures.room)
 
 pub returns-then-marked-clause-asked : goal.returns-then-marked-clause-asked
 returns-then-marked-clause-asked g c =
@@ -31,8 +40,11 @@ returns-then-marked-clause-asked g c =
 
 pub invariant_of-self-2 : goal.invariant_of-self-2
 invariant_of-self-2 g c =
-    let one : IsOneMarked c.start.new.self.entries c.self.inside.marked = subst (λ es. IsOneMarked es c.self.inside.marked) (sym (ap (λ v. v.entries) c.start.ensures)) c.self.invariant in
-    rw c.set_waker-kept.ensures.entries (IsOneMarked-put c.args.id.number _ c.start.new.self.entries c.self.inside.marked one)
+    let start = ap (λ v. v.entries) c.start.ensures in
+    let room : c.set_waker-kept.new.self.room ≡ c.self.inside.chain.room = c.set_waker-kept.ensures.room ∙ ap (λ v. v.room) c.start.ensures in
+    let was : IsWeighted c.start.new.self.entries c.self.inside.chain.room c.self.inside.marked c.self.inside.ranks = subst (λ es. IsWeighted es c.self.inside.chain.room c.self.inside.marked c.self.inside.ranks) (sym start) c.self.invariant in
+    let at_start : at_slot c.args.id.number c.start.new.self.entries ≡ Some c.at-entry.result.now = ap (λ v. at_slot c.args.id.number v.entries) c.start.ensures ∙ c.at-entry.ensures in
+    rw (c.set_waker-kept.ensures.entries, room) (IsWeighted-put c.args.id.number (Some (load c.weight_of-weight.result c.args.waker)) c.start.new.self.entries c.self.inside.chain.room c.self.inside.marked c.self.inside.ranks c.at-entry.result.now at_start c.weight_of-weight.ensures was)
 
 pub returns-clause-asked : goal.returns-clause-asked
 returns-clause-asked g c =
