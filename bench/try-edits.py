@@ -8,7 +8,8 @@ other's: edits that turn different functions stand in one copy of their crate, w
 that they turn. An edit is an *.edit file: a line 'file: src/NAME.rt', then pairs of lines 'old: TEXT' and 'new: TEXT'; each old
 text stands once in that file. Lines 'add: TEXT' after a line 'file:' make a new file, for a loop's measure, say. A line 'at: NAME' names
 the function at which an edit must be refused that turns no body alone (a clause, a constant, an impl), or as 'struct NAME' the struct; such an edit is tried by
-itself. A line that begins with '#' is a note.
+itself. A line that begins with '#' is a note. The lines 'promise: TEXT' and 'clause: TEXT' say what the edit breaks and what refuses it, for
+docs/WRONG_BODIES.md (generators/wrong_bodies.py): they are read by nobody here, and what was refused is kept whatever they say.
 
 Each edit has one line, with what it came to:
 - refused: a goal of the function fails;
@@ -42,6 +43,8 @@ from kit import bodies, crates_of, place_library, rt  # noqa: E402
 
 REFUSED, AT_LIMIT, SURVIVES, NO_GOAL, BAD, NOT_TRIED = 'refused', 'refused at a limit', 'SURVIVES', 'NO GOAL', 'BAD', 'NOT TRIED'
 PASSES = REFUSED, AT_LIMIT
+# The words of the lines that are for readers alone.
+SAID = 'promise', 'clause'
 # What one check takes of memory, in bytes.
 MEMORY = 3_000_000_000
 # The check's words for a goal that fails, in the source and in a file of answers.
@@ -97,7 +100,7 @@ class Edit:
                 old = None
             elif word == 'add' and path:
                 self.added.setdefault(path, []).append(text)
-            elif line and not line.startswith('#'):
+            elif line and word not in SAID and not line.startswith('#'):
                 self.end(BAD, f'a line begins with none of the words of an edit: {line[:60]}')
         if any(os.path.exists(f'{folder}/{it}') for it in self.added):
             self.end(BAD, "lines 'add:' make a file that is there")
@@ -334,7 +337,8 @@ def try_crate(crate, edits, kept, keys):
 def name_of(edit, keys):
     """Returns the name under which it is kept that an edit was refused."""
     with open(__file__, 'rb') as own, open(edit.path, 'rb') as text:
-        read = (own.read(), keys[edit.crate], edit.name, text.read())
+        lines = [it for it in text.read().split(b'\n') if it.partition(b':')[0].decode() not in SAID]
+        read = (own.read(), keys[edit.crate], edit.name, lines)
     return hashlib.sha256(repr(read).encode()).hexdigest()
 
 
