@@ -24,9 +24,9 @@ PARTS = {
 }
 HEAD = """# Wrong bodies
 
-Each of these {count} bodies turns the meaning of the code in one place. The prover refuses each at a goal of the function that it turns
-(`bench/try-edits.py`), so the clause beside it isn't empty. The edits are the files crates/NAME/wrong/*.edit; this page is written from them by
-generators/wrong_bodies.py. docs/GUARANTEES.md has the promises by lock.
+Each of these {count} bodies turns the meaning of the code in one place, and the prover refuses each (`bench/try-edits.py`). The clause is the contract that
+carries the promise. The goal that fails is one of the function that the edit turns, which may be a private one below that contract. The edits are the
+files crates/NAME/wrong/*.edit; this page is written from them by generators/wrong_bodies.py. docs/GUARANTEES.md has the promises by lock.
 """
 
 
