@@ -1,12 +1,12 @@
 -- What an entry with a weight keeps that has asked with a waker.
 use Rattle.std.proofs.Common.{◌≡◌, ℕ, Bool, true, false, List, [], ◌∷◌, Option, if◌then◌else◌, refl}
 use Rattle.lock_event.specs.Lists.{entry, is_listed, with_key}
-use Rattle.lock_event.specs.Loads.{kept_at, laden}
+use Rattle.weighted_event.specs.Loads.{kept_at, laden}
 use Rattle.lock_event.specs.Slots.{has_id}
 use Rattle.lock_event.specs.declared.event.Entry.{Entry}
 use Rattle.lock_event.specs.declared.event.EntryId.{EntryId}
 use Rattle.lock_event.specs.declared.event.Slot.{Slot}
-use Rattle.lock_event.specs.declared.weighted.Load.{Load}
+use Rattle.weighted_event.specs.declared.weighted.Load.{Load}
 use Rattle.async_driver.proofs.Keeping.{listed_after, same_number}
 
 module _ {W : Type 0} (id : EntryId) (k : ℕ) (w : Option W) where

@@ -6,16 +6,16 @@ use lib.ListN.{get_elem?}
 use Rattle.lock_event.specs.declared.event.Entry.{Entry}
 use Rattle.lock_event.specs.declared.event.EntryId.{EntryId}
 use Rattle.lock_event.specs.declared.event.Slot.{Slot}
-use Rattle.lock_event.specs.declared.weighted.Load.{Load}
+use Rattle.weighted_event.specs.declared.weighted.Load.{Load}
 use Rattle.lock_event.specs.declared.event.Asked.{Asked}
 use Rattle.lock_event.specs.declared.event.Asked.TheVariants as asked
 use Rattle.lock_event.specs.declared.event.Mark.TheVariants.{Notified}
 use Rattle.lock_event.specs.Lists.{entry, is_marked, marked_count, joined, without, with_key, is_listed, is_marked_at}
-use Rattle.lock_event.specs.Loads.{weight_of, laden, weight_at, lightened, without_marked_waker, HasAskedFor}
+use Rattle.weighted_event.specs.Loads.{weight_of, laden, weight_at, lightened, without_marked_waker, HasAskedFor}
 use Rattle.lock_event.specs.Slots.{has_id}
-use Rattle.lock_event.specs.Weights.{is_enough, fit_first, fitted, is_wanted}
+use Rattle.weighted_event.specs.Weights.{is_enough, fit_first, fitted, is_wanted}
 use Rattle.lock_event.proofs.Counts.{marked_count-without_waiting}
-use Rattle.lock_event.proofs.Weights.{fitted_none}
+use Rattle.weighted_event.proofs.Weights.{fitted_none}
 use Rattle.lock_event.proofs.Marks.{marked_count-joined, marked_count-with_key}
 use Rattle.words_base.specs.Sums.{weight, number}
 use Rattle.words_mutex.proofs.Flags.{number-zero}

@@ -1,10 +1,10 @@
 -- What calls on a list do, as far as the rule of the semaphore asks: who stands in it, and how many are notified.
 use Rattle.std.specs.Prelude.{◌≡◌, ◌≢◌, ℕ, ◌≤◌, List, [], ◌∷◌, ◌++◌}
 use Rattle.lock_event.specs.Lists.{marked_count}
-use Rattle.lock_event.specs.Loads.{weight_of}
+use Rattle.weighted_event.specs.Loads.{weight_of}
 use Rattle.lock_event.specs.declared.event.Entry.{Entry}
 use Rattle.lock_event.specs.declared.event.Slot.{Slot}
-use Rattle.lock_event.specs.declared.weighted.Load.{Load}
+use Rattle.weighted_event.specs.declared.weighted.Load.{Load}
 use Rattle.words_permits.specs.Waiters.{Waiter, waiter, StandsIn, HasNo, IsSound}
 
 module _ {W : Type 0} where

@@ -4,7 +4,7 @@ use Rattle.futures.specs.declared.task.waker.Waker.{Waker}
 use Rattle.lock_event.specs.Lists.{marked_count}
 use Rattle.lock_event.specs.declared.event.Entry.{Entry}
 use Rattle.lock_event.specs.declared.event.Slot.{Slot}
-use Rattle.lock_event.specs.declared.weighted.Load.{Load}
+use Rattle.weighted_event.specs.declared.weighted.Load.{Load}
 use Rattle.words_permits.specs.Waiters.{Waiter}
 use Rattle.semaphore_core.specs.Entries.{waiters_in}
 use Rattle.semaphore_core.specs.declared.queue.Queue.{Queue}

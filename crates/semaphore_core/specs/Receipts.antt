@@ -1,11 +1,11 @@
 -- Whose waker an entry keeps that waits for permits.
 use Rattle.std.specs.Prelude.{◌≡◌, List}
 use Rattle.futures.specs.declared.task.waker.Waker.{Waker}
-use Rattle.lock_event.specs.Loads.{kept_at}
+use Rattle.weighted_event.specs.Loads.{kept_at}
 use Rattle.lock_event.specs.declared.event.Entry.{Entry}
 use Rattle.lock_event.specs.declared.event.EntryId.{EntryId}
 use Rattle.lock_event.specs.declared.event.Slot.{Slot}
-use Rattle.lock_event.specs.declared.weighted.Load.{Load}
+use Rattle.weighted_event.specs.declared.weighted.Load.{Load}
 use Rattle.async_driver.specs.Tasks.{woken_by}
 use Rattle.lock_queue.specs.declared.whose.Whose.{Whose}
 

@@ -10,8 +10,9 @@ ghost use Rattle.lock_queue.specs.Receipts.{IsReceipt};
 ghost use Rattle.semaphore_core.specs.Receipts.{KeepsAt};
 
 use futures::task::{Context, Poll, Source, Waker};
-use lock_event::{Asked, EntryId, Memory, WeightedEvent};
+use lock_event::{Asked, EntryId, Memory};
 use lock_queue::{Heard, Whose};
+use weighted_event::WeightedEvent;
 
 // An entry joins at the back for so many permits, with no waker.
 pub(crate) fn join(event: &mut WeightedEvent<Waker>, permits: u64) -> Result<EntryId, Memory>

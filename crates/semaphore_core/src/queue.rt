@@ -13,9 +13,10 @@ ghost use Rattle.words_permits.specs.Steps.{Says};
 
 use crate::list;
 use futures::task::{Context, Source, Waker};
-use lock_event::{EntryId, Memory, WeightedEvent};
+use lock_event::{EntryId, Memory};
 use lock_queue::{Due, Heard, Whose};
 use std::alloc::Global;
+use weighted_event::WeightedEvent;
 use words_permits::Content;
 use words_permits::steps::{ENTRIES, NOTIFICATION};
 

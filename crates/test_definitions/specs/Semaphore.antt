@@ -1,7 +1,7 @@
 -- Runs of a semaphore that no user would accept. Each record is one wrong run: what its steps would be, if it were legal.
 use Rattle.std.specs.Prelude.{◌≡◌, ◌≢◌, ℕ, ◌+◌, ◌<◌, ◌≤◌, true, false, length, Some, None}
 use Rattle.lock_event.specs.Lists.{marked_count, is_marked_at}
-use Rattle.lock_event.specs.Weights.{is_wanted}
+use Rattle.weighted_event.specs.Weights.{is_wanted}
 use Rattle.world_base.specs.queue.Parties.{is_party, entries_of}
 use Rattle.world_base.specs.declared.moves.Answer.{Answer}
 use Rattle.world_base.specs.declared.moves.Answer.TheVariants as answer

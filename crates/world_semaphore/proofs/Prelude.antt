@@ -8,7 +8,7 @@ pub use Rattle.std.proofs.lemmas.Bool.Decides.{nat_tests}
 pub use Rattle.std.proofs.lemmas.List.{get_or_default, length-replicate, map-set}
 pub use Rattle.std.proofs.lemmas.List.Sums.{get_or-le-sum_by, sum_by-cons, sum_by-set}
 pub use Rattle.lock_event.specs.Lists.{is_marked, is_marked_at, marked_count, without, entry, mark_at}
-pub use Rattle.lock_event.specs.Weights.{is_wanted, is_enough, fit_first, fitted}
+pub use Rattle.weighted_event.specs.Weights.{is_wanted, is_enough, fit_first, fitted}
 pub use Rattle.lock_event.specs.declared.event.Entry.{Entry}
 pub use Rattle.lock_event.proofs.Counts.{length-joined, length-without, marked_count-without_marked, marked_count-without_waiting}
 pub use Rattle.lock_event.proofs.Marks.{marked_count-joined}

@@ -1,6 +1,6 @@
 -- What the first step of a call decides at once.
 use Rattle.std.specs.Prelude.{◌≡◌, ℕ, ◌+◌, ◌<◌, ◌≤◌, ◌==◌, ◌||◌, ◌⊎◌, if◌then◌else◌, Bool, true, false, Some, nat_le}
-use Rattle.lock_event.specs.Weights.{fitted}
+use Rattle.weighted_event.specs.Weights.{fitted}
 use Rattle.world_base.specs.queue.Parties.{entries_of}
 use Rattle.world_base.specs.declared.moves.Answer.{Answer}
 use Rattle.world_base.specs.declared.moves.Answer.TheVariants as answer

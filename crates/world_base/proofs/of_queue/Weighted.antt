@@ -2,9 +2,9 @@
 use Rattle.world_base.proofs.Prelude.{◌≡◌, ◌≢◌, ℕ, ◌+◌, ◌<◌, ◌≤◌, Bool, true, false, List, [], ◌∷◌, length, ◌==◌, Option, Some, None, IsTrue, refl, arith, sym, ap, ◌∙◌, get_or-set_same, get_or-set_other, length-set, set, nat_tests, Entry, is_marked, joined, without, key_at, is_listed, is_marked_at, marked_count, with_key, has_id, slot_of, by_party, party_of, is_party, entries_of, IsWaiting, Joins, Departs, IsSeated, seat_of, seat_at, taken, unladen, unweighed, weight_in, IsWeighed, IsWeightedWaiting, IsWeightedQueue, IsListedSeat, JoinsWeighted, DepartsWeighted, AskedWeighted, weighted_queue, weighted_seat}
 use Rattle.lock_event.specs.declared.event.Slot.{Slot}
 use Rattle.lock_event.specs.declared.event.EntryId.{EntryId}
-use Rattle.lock_event.specs.declared.weighted.Load.{Load}
-use Rattle.lock_event.specs.Loads.{laden, weight_of, weight_at}
-use Rattle.lock_event.specs.Weights.{is_enough, fit_first, fitted}
+use Rattle.weighted_event.specs.declared.weighted.Load.{Load}
+use Rattle.weighted_event.specs.Loads.{laden, weight_of, weight_at}
+use Rattle.weighted_event.specs.Weights.{is_enough, fit_first, fitted}
 use Rattle.world_base.proofs.of_queue.Keys.{is_listed-key_at}
 use Rattle.world_base.proofs.of_queue.Queues as queues
 use Rattle.world_base.proofs.of_queue.Rekeyed.{rekeyed-joined, length-rekeyed, marked_count-rekeyed}

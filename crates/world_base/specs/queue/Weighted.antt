@@ -3,9 +3,9 @@ use Rattle.std.specs.Prelude.{◌≡◌, ℕ, ◌≤◌, Bool, true, false, List
 use Rattle.lock_event.specs.declared.event.Entry.{Entry}
 use Rattle.lock_event.specs.declared.event.Slot.{Slot}
 use Rattle.lock_event.specs.declared.event.EntryId.{EntryId}
-use Rattle.lock_event.specs.declared.weighted.Load.{Load}
+use Rattle.weighted_event.specs.declared.weighted.Load.{Load}
 use Rattle.lock_event.specs.Lists.{joined, without, is_listed, is_marked_at, marked_count}
-use Rattle.lock_event.specs.Loads.{laden, weight_of, waker_in}
+use Rattle.weighted_event.specs.Loads.{laden, weight_of, waker_in}
 use Rattle.lock_event.specs.Slots.{has_id, slot_of}
 use Rattle.world_base.specs.queue.Parties.{rekeyed, party_of, entries_of}
 use Rattle.world_base.specs.queue.Queues.{IsWaiting}

@@ -2,15 +2,16 @@
 
 ghost use Rattle.std.specs.Prelude.{◌≡◌, ℕ, ◌<◌, ◌≤◌, ◌↔◌, true, false, [], IfOk, IsTrue, length, slice_get, slice_set, replicate};
 ghost use Rattle.lock_event.specs.Lists.{joined, without, is_marked_at};
-ghost use Rattle.lock_event.specs.Weights.{fitted};
-ghost use Rattle.lock_event.specs.Loads.{waker_in};
+ghost use Rattle.weighted_event.specs.Weights.{fitted};
+ghost use Rattle.weighted_event.specs.Loads.{waker_in};
 ghost use Rattle.world_base.specs.queue.Parties.{entries_of, is_party, party_of};
 ghost use Rattle.world_base.specs.queue.Weighted.{weighted_queue, weight_in, unladen, IsWeightedQueue};
 
 use crate::queue::weighted_seat::{ask, join, remove};
-use lock_event::{Entry, EntryId, Load, Slot, WeightedEvent};
+use lock_event::{Entry, EntryId, Slot};
 use std::alloc::{AllocError, Global};
 use std::marker::Model;
+use weighted_event::{Load, WeightedEvent};
 
 /// A waiting list in which each of so many parties has at most one entry, each entry has a weight, and at
 /// most one entry is marked at a time.

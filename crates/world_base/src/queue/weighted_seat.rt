@@ -3,7 +3,8 @@
 ghost use Rattle.std.specs.Prelude.{◌≡◌, ℕ, ◌<◌, ◌≤◌, true, false, length, IsTrue};
 ghost use Rattle.world_base.specs.queue.Weighted.{weighted_seat, IsListedSeat, JoinsWeighted, DepartsWeighted, AskedWeighted};
 
-use lock_event::{EntryId, WeightedEvent};
+use lock_event::EntryId;
+use weighted_event::WeightedEvent;
 
 /// The party joins the list, for which there is room.
 pub(crate) fn join(

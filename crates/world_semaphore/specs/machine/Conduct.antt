@@ -1,7 +1,7 @@
 -- What a step of a party's call does to a semaphore.
 use Rattle.std.specs.Prelude.{◌≡◌, ◌≢◌, ℕ, ◌+◌, ◌<◌, ◌≤◌, ◌⊎◌, ◌↔◌, ◌==◌, Bool, true, false, length, Option, Some, None, is_some}
 use Rattle.lock_event.specs.Lists.{without, mark_at}
-use Rattle.lock_event.specs.Weights.{fitted}
+use Rattle.weighted_event.specs.Weights.{fitted}
 use Rattle.lock_event.specs.declared.event.Mark.TheVariants.{Waiting}
 use Rattle.lock_program.specs.declared.end.End.{End}
 use Rattle.lock_program.specs.declared.end.End.TheVariants.{Got, Granted, Pending, NotFree, GivenBack, Refused}

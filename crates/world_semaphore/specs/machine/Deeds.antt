@@ -2,7 +2,7 @@
 use Rattle.std.specs.Prelude.{◌≡◌, ℕ, ◌+◌, ◌-◌, ◌<◌, ◌≤◌, if◌then◌else◌, Bool, true, false, List, slice_set}
 use Rattle.lock_event.specs.declared.event.Entry.{Entry}
 use Rattle.lock_event.specs.Lists.{joined, without, is_marked_at}
-use Rattle.lock_event.specs.Weights.{fitted}
+use Rattle.weighted_event.specs.Weights.{fitted}
 use Rattle.world_base.specs.queue.Parties.{is_party, entries_of}
 use Rattle.world_base.specs.queue.Weighted.{WeightedQueue}
 use Rattle.sync_program.specs.declared.permits.Action.{Action}

@@ -3,7 +3,7 @@ use Rattle.std.specs.Prelude.{◌≡◌, ℕ, ◌+◌, ◌<◌, ◌≤◌, ◌&&
 use Rattle.std.specs.List.{sum_by}
 use Rattle.lock_event.specs.declared.event.Entry.{Entry}
 use Rattle.lock_event.specs.Lists.{marked_count}
-use Rattle.lock_event.specs.Weights.{is_wanted}
+use Rattle.weighted_event.specs.Weights.{is_wanted}
 use Rattle.world_base.specs.queue.Parties.{entries_of}
 use Rattle.world_base.specs.queue.Weighted.{WeightedQueue, weight_in}
 use Rattle.world_base.specs.declared.moves.Answer.{Answer}

@@ -2,7 +2,7 @@
 use Rattle.std.specs.Prelude.{◌≡◌, ℕ, ◌⊎◌, true, false, List}
 use Rattle.lock_event.specs.declared.event.Entry.{Entry}
 use Rattle.lock_event.specs.Lists.{is_marked_at}
-use Rattle.lock_event.specs.Weights.{fitted}
+use Rattle.weighted_event.specs.Weights.{fitted}
 use Rattle.world_base.specs.queue.Parties.{is_party}
 use Rattle.world_semaphore.specs.machine.Seats.{Debt, nothing_owed, a_look, a_fit}
 

@@ -2,7 +2,7 @@
 use Rattle.std.proofs.Common.{◌≡◌, None, Some, subst, sym, ap, ◌∙◌, true≢false}
 use Rattle.futures.specs.Task.{Hears}
 use Rattle.lock_event.specs.Lists.{is_listed, is_marked_at}
-use Rattle.lock_event.specs.Loads.{kept_at, load}
+use Rattle.weighted_event.specs.Loads.{kept_at, load}
 use Rattle.lock_event.specs.Slots.{has_id}
 use Rattle.async_driver.specs.Tasks.{woken_by}
 use Rattle.async_driver.proofs.Keeping.{unmarked-with_key, listed-with_key}

@@ -1,5 +1,5 @@
 use Rattle.world_base.proofs.Prelude.{◌≡◌, true, false, refl, ap, ◌∙◌, Some, None, ℕ, eq-eqb, is_marked_at, with_key, joined, has_id}
-use Rattle.lock_event.specs.Loads.{laden, weight_at}
+use Rattle.weighted_event.specs.Loads.{laden, weight_at}
 use Rattle.world_base.proofs.of_queue.Keys.{is_marked_at-joined}
 use Rattle.world_base.proofs.of_queue.Weighted.{with_key-fresh}
 use Rattle.world_base.proofs.queue.weighted_seat.join.Goals as goal

@@ -1,3 +1,0 @@
-pub mod Heaps
-pub mod Gathers
-pub mod Kept

@@ -1,9 +1,0 @@
-use Rattle.std.proofs.Common.{◌≡◌, ◌-◌, ◌^◌}
-use Rattle.first_fit.proofs.Heaps.{Reached}
-use Rattle.first_fit.proofs.tree.Tree.first.Given as goal
-
-abbrev pub invariant-loop : goal.invariant-loop
-invariant-loop l = record {
-  here : Reached l.nodes l.a (2 ^ (l.counter - 1)) l.at;
-  visits : l.visits ≡ l.counter;
-}

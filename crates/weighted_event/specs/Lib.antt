@@ -1,0 +1,5 @@
+pub mod Trees
+pub mod Rows
+pub mod Weights
+pub mod Loads
+pub mod Ranks
