@@ -32,10 +32,13 @@ pub struct Load<W> {
 /// notifies the first waiter that so many permits are enough for, even if one before it wants more. So
 /// the list is not fair to large requests.
 ///
-/// Contracts see it as its entries, its room, and how many slots the last [`WeightedEvent::fit`] or
+/// A list of more than eight entries of more than one weight is ranked: its weights stand in a tree of least
+/// weights too, in which [`WeightedEvent::fit`] goes down one way.
+///
+/// Contracts see it as its entries, its room, and how many slots and nodes the last [`WeightedEvent::fit`] or
 /// [`WeightedEvent::remove`] visited. Only [`WeightedEvent::listen`] and [`WeightedEvent::reserve`] take
-/// memory, and only they can be refused. No call takes time in the length of the list except
-/// [`WeightedEvent::fit`]. The Rust crate has no such list.
+/// memory, and only they can be refused. A join or a leave of a ranked list mends one way in its tree; the
+/// join after which a list is ranked takes time in its length. The Rust crate has no such list.
 #[derive(Drop)]
 pub struct WeightedEvent<W> {
     chain: Chain<Load<W>>,
@@ -338,8 +341,8 @@ impl<W: Drop> WeightedEvent<W> {
         self.chain.entry(index)
     }
 
-    /// How many slots the last [`WeightedEvent::fit`] or [`WeightedEvent::remove`] visited. It is 0 before
-    /// the first of them.
+    /// How many slots, and nodes of the tree of weights, the last [`WeightedEvent::fit`] or
+    /// [`WeightedEvent::remove`] visited. It is 0 before the first of them.
     pub fn visits(&self) -> u64
         ensures { result ≡ self.now.visits }
     {
@@ -410,7 +413,8 @@ impl<W: Drop> WeightedEvent<W> {
     /// Notifies the first entry whose weight is at most `a`, if no entry is notified and there is such a one
     /// (`entries`). So if `a` are enough for some entry, an entry is notified afterwards (`told`).
     ///
-    /// It may look at each entry once (`visits`), and looks at none if one is notified already.
+    /// It visits at most as many slots and nodes as there are entries (`visits`), and few even of a long list
+    /// (`few`). It visits none if one is notified already.
     pub fn fit(&mut self, a: u64)
         ensures entries { self.new.entries ≡ fitted its_weight a self.old.entries }
         ensures told { IsTrue (is_wanted its_weight a self.old.entries) → 0 < marked_count self.new.entries }
