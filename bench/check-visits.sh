@@ -1,5 +1,5 @@
 #!/bin/sh
-# Looks that the calls of lock_event whose visits are promised reach slots by counted calls alone.
+# Looks that the calls of lock_event and weighted_event whose visits are promised reach slots by counted calls alone.
 #
 # A call by `&self` can't count, so three calls of `Slots` reach a slot without counting: `node`, `contains` and
 # `len`. A fourth, `waker_mut`, lends an entry's waker out, and counts nothing either. Each function of the crate that names one of them, or a function above that does, is listed below; a
@@ -8,11 +8,12 @@
 # Run it at the top of the repository: bench/check-visits.sh
 set -eu
 
-python3 - crates/lock_event/src <<'PYTHON'
+python3 - <<'PYTHON'
 import re
 import sys
 
-FILES = ["slots", "chain", "line", "event", "weighted"]
+FILES = {name: f"crates/lock_event/src/{name}.rt" for name in ("slots", "chain", "line", "event")}
+FILES["weighted"] = "crates/weighted_event/src/weighted.rt"
 # the uncounted calls of each layer: (file, function)
 UNCOUNTED = {
     "slots": {"node", "contains", "len", "waker_mut"},
@@ -39,8 +40,8 @@ def functions(text):
 
 
 wrong = []
-for file in FILES[1:]:
-    text = open(f"{sys.argv[1]}/{file}.rt").read()
+for file, path in list(FILES.items())[1:]:
+    text = open(path).read()
     below = UNCOUNTED[BELOW[file]]
     for name, body in functions(text):
         used = {call for call in re.findall(r"(?:slots|chain|line)\s*\.(\w+)\(", body) if call in below}
