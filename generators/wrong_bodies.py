@@ -15,7 +15,7 @@ PARTS = {
     'What all locks share': 'lock_program sync_program lock_event world_base lock_place async_driver lock_queue',
     'The mutex': 'world_mutex words_mutex mutex_core async_mutex',
     'The read-write lock': 'world_rwlock words_access access_core access_vault rwlock_core async_rwlock',
-    'The semaphore': 'first_fit world_semaphore words_permits semaphore_core async_semaphore',
+    'The semaphore': 'weighted_event world_semaphore words_permits semaphore_core async_semaphore',
     'The once-cell': 'world_once_cell words_cell cell_core async_once_cell once_cell_scene',
     'The barrier': 'world_barrier words_barrier barrier_core async_barrier',
     'The pool': 'world_pool bounded_pool',
