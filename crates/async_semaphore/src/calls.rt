@@ -8,6 +8,7 @@ ghost use Rattle.lock_program.specs.declared.refusal.Refusal.{Refusal};
 use crate::acquire::AcquireFuture;
 use crate::guard::PermitGuard;
 use crate::lock_futures::{Acquire, AcquireArc};
+use crate::releases::Releases;
 use crate::semaphore::Semaphore;
 use crate::stage::{Stage, first};
 use crate::{SemaphoreGuard, SemaphoreGuardArc};
@@ -19,7 +20,7 @@ use std::random::RandomSource;
 use std::sync::{Arc, Wait};
 use std::time::Clock;
 
-impl<R: Wait> Semaphore<R> {
+impl<R: Releases> Semaphore<R> {
     /// Attempts to acquire a permit: it does if one is available. It waits for nobody, but looks again where another party changes the
     /// number of permits between its look and its exchange.
     ///
@@ -40,7 +41,7 @@ impl<R: Wait> Semaphore<R> {
                 self.raw.give_up(seat, 1);
                 return None;
             }
-            Tried::Changed(seat) => self.raw.try_again(&self.rt, seat, 1)?,
+            Tried::Changed(seat) => self.rt.try_again(&self.raw, seat, 1)?,
         };
         Some(PermitGuard::new(self, seat, 1))
     }
@@ -64,11 +65,13 @@ impl<R: Wait> Semaphore<R> {
                 self.raw.give_up(seat, permits);
                 return None;
             }
-            Tried::Changed(seat) => self.raw.try_again(&self.rt, seat, permits)?,
+            Tried::Changed(seat) => self.rt.try_again(&self.raw, seat, permits)?,
         };
         Some(PermitGuard::new(self, seat, permits))
     }
+}
 
+impl<R: Wait> Semaphore<R> {
     /// Returns a future of a permit, which does nothing until it is polled.
     ///
     /// ```
@@ -151,7 +154,7 @@ impl<R: Wait + Clock + RandomSource + AllocGlobal> Semaphore<R> {
     }
 }
 
-impl<R: Wait + Drop> Semaphore<R> {
+impl<R: Releases + Drop> Semaphore<R> {
     /// Does as [`Semaphore::try_acquire`] does, for a guard that has a share of the semaphore. It is `None` too if that share can't be had.
     ///
     /// ```
@@ -185,11 +188,13 @@ impl<R: Wait + Drop> Semaphore<R> {
                 owner.raw.give_up(seat, permits);
                 return None;
             }
-            Tried::Changed(seat) => owner.raw.try_again(&owner.rt, seat, permits)?,
+            Tried::Changed(seat) => owner.rt.try_again(&owner.raw, seat, permits)?,
         };
         Some(PermitGuard::new(owner, seat, permits))
     }
+}
 
+impl<R: Wait + Drop> Semaphore<R> {
     /// Returns a future as [`Semaphore::acquire`] does, which has a share of the semaphore and gives it to its guard. If that share can't be
     /// had, its polls are refused as [`Refusal::Memory`].
     ///

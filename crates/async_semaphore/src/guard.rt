@@ -4,24 +4,24 @@ ghost use Rattle.std.specs.Prelude.{◌≡◌};
 ghost use Rattle.semaphore_core.specs.Semaphores.{Has};
 
 use crate::owns::Owns;
+use crate::releases::Releases;
 use semaphore_core::{Lowered, Seat};
 use std::fmt;
 use std::marker::{Model, PhantomData};
-use std::sync::Wait;
 
 /// Permits of a semaphore. Dropping it gives them back, and notifies the first waiter for whom those that are then available
 /// are enough.
 ///
 /// Its type keeps that its seat has exactly as many permits as it says, so a drop gives back neither more nor fewer. Contracts see
 /// the semaphore, and how many permits it has.
-pub struct PermitGuard<R: Wait, O: Owns<Runtime = R>> {
+pub struct PermitGuard<R: Releases, O: Owns<Runtime = R>> {
     owner: O,
     seat: Seat,
     permits: u64,
     runtime: PhantomData<R>,
 }
 
-impl<R: Wait, O: Owns<Runtime = R>> Model for PermitGuard<R, O> {
+impl<R: Releases, O: Owns<Runtime = R>> Model for PermitGuard<R, O> {
     ghost use Rattle.async_semaphore.specs.Guards.{Held};
     ghost use Rattle.semaphore_core.specs.Semaphores.{Has};
 
@@ -32,7 +32,7 @@ impl<R: Wait, O: Owns<Runtime = R>> Model for PermitGuard<R, O> {
     ghost invariant = { λ g. Has (O.semaphore_of g.owner).raw g.permits g.seat };
 }
 
-impl<R: Wait, O: Owns<Runtime = R>> PermitGuard<R, O> {
+impl<R: Releases, O: Owns<Runtime = R>> PermitGuard<R, O> {
     #[inline]
     pub(crate) fn new(owner: O, seat: Seat, permits: u64) -> PermitGuard<R, O>
         requires { Has (O.semaphore_of owner).raw permits seat }
@@ -80,7 +80,7 @@ impl<R: Wait, O: Owns<Runtime = R>> PermitGuard<R, O> {
     }
 }
 
-impl<R: Wait, O: Owns<Runtime = R>> Drop for PermitGuard<R, O> {
+impl<R: Releases, O: Owns<Runtime = R>> Drop for PermitGuard<R, O> {
     // The call that gives the permits back waits for nobody: after one that may, the compiled code looks at a flag.
     #[inline]
     fn drop(self) {
@@ -93,13 +93,13 @@ impl<R: Wait, O: Owns<Runtime = R>> Drop for PermitGuard<R, O> {
         let semaphore = owner.semaphore();
         let _ = match semaphore.raw.give(seat, permits) {
             Ok(given) => given,
-            Err(notifies) => semaphore.raw.notify(&semaphore.rt, notifies),
+            Err(notifies) => semaphore.rt.notify(&semaphore.raw, notifies),
         };
         drop(owner);
     }
 }
 
-impl<R: Wait, O: Owns<Runtime = R>> fmt::Debug for PermitGuard<R, O> {
+impl<R: Releases, O: Owns<Runtime = R>> fmt::Debug for PermitGuard<R, O> {
     fn fmt<W: fmt::Write>(&self, f: &mut fmt::Formatter<W>) -> fmt::Result {
         let name = if O::is_share() {
             "SemaphoreGuardArc"

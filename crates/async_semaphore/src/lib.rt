@@ -12,6 +12,7 @@ mod acquire;
 mod calls;
 mod guard;
 mod owns;
+mod releases;
 mod semaphore;
 mod stage;
 
@@ -40,5 +41,6 @@ pub use async_driver::{Polled, Runtime, Settled, Turn, wait_for};
 pub use guard::PermitGuard;
 pub use lock_program::Refusal;
 pub use owns::Owns;
+pub use releases::Releases;
 pub use semaphore::Semaphore;
 pub use semaphore_core::{Added, Lowered};
