@@ -6,23 +6,24 @@ ghost use Rattle.mutex_core.specs.Outcomes.{IsHeldOf};
 
 use crate::mutex::Mutex;
 use crate::owns::Owns;
+use crate::releases::Releases;
 use mutex_core::{Held, Hold, Seat};
 use std::fmt;
 use std::marker::{Model, PhantomData};
 use std::ops::Deref;
-use std::sync::{Arc, Wait};
+use std::sync::Arc;
 
 /// Holds a mutex, and lends its value. Dropping it releases the mutex.
 ///
 /// Its type keeps that its seat holds the lock, with the right to the lock's value. Contracts see the mutex, and the value.
-pub struct Guard<T, R: Wait, O: Owns<Value = T, Runtime = R>> {
+pub struct Guard<T, R: Releases, O: Owns<Value = T, Runtime = R>> {
     pub(crate) owner: O,
     seat: Seat<T>,
     pub(crate) hold: Hold<T>,
     runtime: PhantomData<R>,
 }
 
-impl<T, R: Wait, O: Owns<Value = T, Runtime = R>> Model for Guard<T, R, O> {
+impl<T, R: Releases, O: Owns<Value = T, Runtime = R>> Model for Guard<T, R, O> {
     ghost use Rattle.mutex_core.specs.Outcomes.{Holds};
     ghost use Rattle.async_mutex.specs.Guards.{Guarded};
 
@@ -33,7 +34,7 @@ impl<T, R: Wait, O: Owns<Value = T, Runtime = R>> Model for Guard<T, R, O> {
     ghost invariant = { λ g. Holds (O.lock_of g.owner).words g.seat g.hold };
 }
 
-impl<T, R: Wait, O: Owns<Value = T, Runtime = R>> Guard<T, R, O> {
+impl<T, R: Releases, O: Owns<Value = T, Runtime = R>> Guard<T, R, O> {
     #[inline]
     pub(crate) fn new(owner: O, held: Held<T>) -> Guard<T, R, O>
         requires { IsHeldOf (O.lock_of owner).words held }
@@ -49,7 +50,7 @@ impl<T, R: Wait, O: Owns<Value = T, Runtime = R>> Guard<T, R, O> {
     }
 }
 
-impl<'a, T, R: Wait> Guard<T, R, &'a Mutex<T, R>> {
+impl<'a, T, R: Releases> Guard<T, R, &'a Mutex<T, R>> {
     /// Returns the mutex that the guard holds.
     ///
     /// ```
@@ -62,7 +63,7 @@ impl<'a, T, R: Wait> Guard<T, R, &'a Mutex<T, R>> {
     }
 }
 
-impl<T: Drop, R: Wait + Drop> Guard<T, R, Arc<Mutex<T, R>>> {
+impl<T: Drop, R: Releases + Drop> Guard<T, R, Arc<Mutex<T, R>>> {
     /// Returns the mutex that the guard holds.
     ///
     /// ```
@@ -75,7 +76,7 @@ impl<T: Drop, R: Wait + Drop> Guard<T, R, Arc<Mutex<T, R>>> {
     }
 }
 
-impl<T, R: Wait, O: Owns<Value = T, Runtime = R>> Deref for Guard<T, R, O> {
+impl<T, R: Releases, O: Owns<Value = T, Runtime = R>> Deref for Guard<T, R, O> {
     type Target = T;
 
     ghost deref_gives = { λ guard value. value ≡ guard.value };
@@ -85,7 +86,7 @@ impl<T, R: Wait, O: Owns<Value = T, Runtime = R>> Deref for Guard<T, R, O> {
     }
 }
 
-impl<T, R: Wait, O: Owns<Value = T, Runtime = R>> Drop for Guard<T, R, O> {
+impl<T, R: Releases, O: Owns<Value = T, Runtime = R>> Drop for Guard<T, R, O> {
     #[inline]
     fn drop(self) {
         let Self {
@@ -99,14 +100,15 @@ impl<T, R: Wait, O: Owns<Value = T, Runtime = R>> Drop for Guard<T, R, O> {
     }
 }
 
-impl<T: fmt::Debug, R: Wait, O: Owns<Value = T, Runtime = R>> fmt::Debug for Guard<T, R, O> {
+impl<T: fmt::Debug, R: Releases, O: Owns<Value = T, Runtime = R>> fmt::Debug for Guard<T, R, O> {
     fn fmt<W: fmt::Write>(&self, f: &mut fmt::Formatter<W>) -> fmt::Result {
         let value: &T = self;
         value.fmt(f)
     }
 }
 
-impl<T: fmt::Display, R: Wait, O: Owns<Value = T, Runtime = R>> fmt::Display for Guard<T, R, O> {
+impl<T: fmt::Display, R: Releases, O: Owns<Value = T, Runtime = R>> fmt::Display
+    for Guard<T, R, O> {
     fn fmt<W: fmt::Write>(&self, f: &mut fmt::Formatter<W>) -> fmt::Result {
         let value: &T = self;
         value.fmt(f)

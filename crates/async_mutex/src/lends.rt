@@ -10,10 +10,10 @@ ghost use Rattle.async_mutex.specs.contracts.guard.Guard.{the_row as guard_row};
 use crate::guard::Guard;
 use crate::mutex::Mutex;
 use crate::owns::Owns;
+use crate::releases::Releases;
 use std::ops::DerefMut;
-use std::sync::Wait;
 
-impl<T, R: Wait, O: Owns<Value = T, Runtime = R>> DerefMut for Guard<T, R, O> {
+impl<T, R: Releases, O: Owns<Value = T, Runtime = R>> DerefMut for Guard<T, R, O> {
     ghost deref_mut_gives = { λ guard value. value ≡ guard.value };
 
     fn deref_mut(&mut self) -> &mut T

@@ -14,6 +14,7 @@ mod lends;
 mod lock;
 mod mutex;
 mod owns;
+mod releases;
 mod stage;
 
 use std::sync::Arc;
@@ -42,3 +43,4 @@ pub use guard::Guard;
 pub use lock_program::Refusal;
 pub use mutex::Mutex;
 pub use owns::Owns;
+pub use releases::Releases;

@@ -2,13 +2,14 @@
 
 ghost use Rattle.std.specs.Prelude.{◌≡◌, IfSome, IfOk, IfErr, None, ◌≤◌, false};
 ghost use Rattle.std.specs.Arc.{arc_value};
-ghost use Rattle.async_mutex.specs.Stages.{IsFor, is_finished};
+ghost use Rattle.async_mutex.specs.Stages.{IsFor, IsOf, is_finished};
 ghost use Rattle.mutex_core.specs.Outcomes.{IsGivenUp, IsHeldOf};
 ghost use Rattle.lock_program.specs.declared.refusal.Refusal.{Refusal};
 
 use crate::guard::Guard;
 use crate::lock::LockFuture;
 use crate::lock_futures::{Lock, LockArc};
+use crate::releases::Releases;
 use crate::stage::{Stage, first};
 use crate::{MutexGuard, MutexGuardArc};
 use async_driver::wait_for;
@@ -96,7 +97,7 @@ impl<T, R> Mutex<T, R> {
     }
 }
 
-impl<T, R: Wait> Mutex<T, R> {
+impl<T, R: Releases> Mutex<T, R> {
     /// Takes the lock at once, if it is free and nobody is starved.
     ///
     /// The contract guarantees that a returned guard belongs to this mutex. That a free lock is acquired is only tested.
@@ -113,30 +114,32 @@ impl<T, R: Wait> Mutex<T, R> {
         Some(Guard::new(self, held))
     }
 
-    /// Returns a future of the lock, which does nothing until it is polled.
+    // Gives the lock back.
+    #[inline]
+    pub(crate) fn release(&self, held: Held<T>)
+        requires { IsHeldOf self.now.words held }
+    {
+        self.rt.release(&self.words, held);
+    }
+}
+
+impl<T, R: Wait> Mutex<T, R> {
+    /// Returns a future of the lock, which does nothing until it is polled. It has the mutex (`owner`).
     ///
     /// ```
     /// let mut future = mutex.lock();
     /// let first = task.enter(|cx| poll_once(&mut future, cx))?;
     /// ```
     pub fn lock(&self) -> Lock<'_, T, R>
-        ensures mutex { IsFor (λ o. o.now) result.stage self.now }
+        ensures owner { IsOf (λ o. o.now) result.stage self.now }
         ensures new { is_finished result.stage ≡ false }
         ensures entry { result.entry ≡ None }
     {
         LockFuture::new(Stage::Waits(self))
     }
-
-    // Gives the lock back.
-    #[inline]
-    pub(crate) fn release(&self, held: Held<T>)
-        requires { IsHeldOf self.now.words held }
-    {
-        self.words.release(&self.rt, held);
-    }
 }
 
-impl<T: Drop, R: Wait + Drop> Mutex<T, R> {
+impl<T: Drop, R: Releases + Drop> Mutex<T, R> {
     /// Does as [`Mutex::try_lock`] does, for a guard that owns its share of the mutex. It is `None` too where that share
     /// can't be had.
     ///
@@ -155,7 +158,9 @@ impl<T: Drop, R: Wait + Drop> Mutex<T, R> {
             }
         }
     }
+}
 
+impl<T: Drop, R: Wait + Drop> Mutex<T, R> {
     /// Returns a future as [`Mutex::lock`] does, which owns its share of the mutex and gives it to its guard. Where that share
     /// can't be had, its polls are refused as [`Refusal::Memory`].
     ///
@@ -220,7 +225,7 @@ impl<T: Drop, R: Wait + Clock + RandomSource + AllocGlobal + Drop> Mutex<T, R> {
     }
 }
 
-impl<T: fmt::Debug, R: Wait> fmt::Debug for Mutex<T, R> {
+impl<T: fmt::Debug, R: Releases> fmt::Debug for Mutex<T, R> {
     fn fmt<W: fmt::Write>(&self, f: &mut fmt::Formatter<W>) -> fmt::Result {
         let Some(held) = self.words.try_lock() else {
             return debug_as(f, &Locked);
