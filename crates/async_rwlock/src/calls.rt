@@ -9,6 +9,7 @@ ghost use Rattle.std.specs.Arc.{arc_value};
 use crate::lock_futures::{Read, ReadArc, UpgradableRead, UpgradableReadArc, Write, WriteArc};
 use crate::read::ReadFuture;
 use crate::read_guard::ReadGuard;
+use crate::releases::Releases;
 use crate::rwlock::RwLock;
 use crate::stage::{Stage, first};
 use crate::upgradable_guard::UpgradableGuard;
@@ -28,7 +29,7 @@ use std::random::RandomSource;
 use std::sync::{Arc, Wait};
 use std::time::Clock;
 
-impl<T, R: Wait> RwLock<T, R> {
+impl<T, R: Releases> RwLock<T, R> {
     /// Attempts to acquire a right to read: it does if nobody writes or waits for readers to leave, and fewer read than may.
     ///
     /// The contract guarantees that a returned guard belongs to this lock. That a free lock is acquired is only tested.
@@ -39,7 +40,7 @@ impl<T, R: Wait> RwLock<T, R> {
     pub fn try_read(&self) -> Option<RwLockReadGuard<'_, T, R>>
         ensures { IfSome result (λ guard. guard.lock ≡ self.now) }
     {
-        match self.raw.try_read(&self.rt) {
+        match self.rt.try_read(&self.raw) {
             Ok(reader) => Some(ReadGuard::new(self, reader)),
             Err(seat) => {
                 seat.rise();
@@ -57,7 +58,7 @@ impl<T, R: Wait> RwLock<T, R> {
     pub fn try_upgradable_read(&self) -> Option<RwLockUpgradableReadGuard<'_, T, R>>
         ensures { IfSome result (λ guard. guard.lock ≡ self.now) }
     {
-        match self.raw.try_upgradable_read(&self.rt) {
+        match self.rt.try_upgradable_read(&self.raw) {
             Ok(upgradable) => Some(UpgradableGuard::new(self, upgradable)),
             Err(vain) => {
                 vain.end();
@@ -74,7 +75,7 @@ impl<T, R: Wait> RwLock<T, R> {
     pub fn try_write(&self) -> Option<RwLockWriteGuard<'_, T, R>>
         ensures { IfSome result (λ guard. guard.lock ≡ self.now) }
     {
-        match self.raw.try_write(&self.rt) {
+        match self.rt.try_write(&self.raw) {
             Ok(writer) => Some(WriteGuard::new(self, writer)),
             Err(vain) => {
                 vain.end();
@@ -82,7 +83,9 @@ impl<T, R: Wait> RwLock<T, R> {
             }
         }
     }
+}
 
+impl<T, R: Wait> RwLock<T, R> {
     /// Returns a future of a right to read of this lock, which does nothing until it is polled.
     ///
     /// ```
@@ -179,7 +182,7 @@ impl<T: Drop, R: Wait + Clock + RandomSource + AllocGlobal> RwLock<T, R> {
     }
 }
 
-impl<T: Drop, R: Wait + Drop> RwLock<T, R> {
+impl<T: Drop, R: Releases + Drop> RwLock<T, R> {
     /// Does as [`RwLock::try_read`] does, for a guard that has a share of the lock. It is `None` too if that share can't be had.
     ///
     /// ```
@@ -188,7 +191,7 @@ impl<T: Drop, R: Wait + Drop> RwLock<T, R> {
     pub fn try_read_arc(this: &Arc<RwLock<T, R>>) -> Option<RwLockReadGuardArc<T, R>>
         ensures { IfSome result (λ guard. guard.lock ≡ arc_value this.now) }
     {
-        match this.raw.try_read(&this.rt) {
+        match this.rt.try_read(&this.raw) {
             Ok(reader) => reader_of(this, reader),
             Err(seat) => {
                 seat.rise();
@@ -207,7 +210,7 @@ impl<T: Drop, R: Wait + Drop> RwLock<T, R> {
     ) -> Option<RwLockUpgradableReadGuardArc<T, R>>
         ensures { IfSome result (λ guard. guard.lock ≡ arc_value this.now) }
     {
-        match this.raw.try_upgradable_read(&this.rt) {
+        match this.rt.try_upgradable_read(&this.raw) {
             Ok(upgradable) => upgradable_reader_of(this, upgradable),
             Err(vain) => {
                 vain.end();
@@ -224,7 +227,7 @@ impl<T: Drop, R: Wait + Drop> RwLock<T, R> {
     pub fn try_write_arc(this: &Arc<RwLock<T, R>>) -> Option<RwLockWriteGuardArc<T, R>>
         ensures { IfSome result (λ guard. guard.lock ≡ arc_value this.now) }
     {
-        match this.raw.try_write(&this.rt) {
+        match this.rt.try_write(&this.raw) {
             Ok(writer) => writer_of(this, writer),
             Err(vain) => {
                 vain.end();
@@ -232,7 +235,9 @@ impl<T: Drop, R: Wait + Drop> RwLock<T, R> {
             }
         }
     }
+}
 
+impl<T: Drop, R: Wait + Drop> RwLock<T, R> {
     /// Returns a future as [`RwLock::read`] does, which has a share of the lock and gives it to its guard. If that share can't be
     /// had, its polls are refused as [`Refusal::Memory`].
     ///
@@ -331,7 +336,7 @@ impl<T: Drop, R: Wait + Clock + RandomSource + AllocGlobal + Drop> RwLock<T, R> 
 // the right back.
 
 #[inline]
-fn reader_of<T: Drop, R: Wait + Drop>(
+fn reader_of<T: Drop, R: Releases + Drop>(
     this: &Arc<RwLock<T, R>>,
     reader: Reader,
 ) -> Option<RwLockReadGuardArc<T, R>>
@@ -342,14 +347,14 @@ fn reader_of<T: Drop, R: Wait + Drop>(
         Ok(owner) => Some(ReadGuard::new(owner, reader)),
         Err(_) => {
             let Reader { seat } = reader;
-            this.raw.release_read(&this.rt, seat);
+            this.rt.release_read(&this.raw, seat);
             None
         }
     }
 }
 
 #[inline]
-fn upgradable_reader_of<T: Drop, R: Wait + Drop>(
+fn upgradable_reader_of<T: Drop, R: Releases + Drop>(
     this: &Arc<RwLock<T, R>>,
     upgradable: Upgradable,
 ) -> Option<RwLockUpgradableReadGuardArc<T, R>>
@@ -359,14 +364,14 @@ fn upgradable_reader_of<T: Drop, R: Wait + Drop>(
     match Arc::try_clone(this) {
         Ok(owner) => Some(UpgradableGuard::new(owner, upgradable)),
         Err(_) => {
-            this.raw.release_upgradable(&this.rt, upgradable);
+            this.rt.release_upgradable(&this.raw, upgradable);
             None
         }
     }
 }
 
 #[inline]
-fn writer_of<T: Drop, R: Wait + Drop>(
+fn writer_of<T: Drop, R: Releases + Drop>(
     this: &Arc<RwLock<T, R>>,
     writer: Writer,
 ) -> Option<RwLockWriteGuardArc<T, R>>
@@ -376,13 +381,13 @@ fn writer_of<T: Drop, R: Wait + Drop>(
     match Arc::try_clone(this) {
         Ok(owner) => Some(WriteGuard::new(owner, writer)),
         Err(_) => {
-            this.raw.release_write(&this.rt, writer);
+            this.rt.release_write(&this.raw, writer);
             None
         }
     }
 }
 
-impl<T: fmt::Debug, R: Wait> fmt::Debug for RwLock<T, R> {
+impl<T: fmt::Debug, R: Releases> fmt::Debug for RwLock<T, R> {
     fn fmt<W: fmt::Write>(&self, f: &mut fmt::Formatter<W>) -> fmt::Result {
         match self.try_read() {
             Some(guard) => debug_as(f, &*guard),

@@ -8,11 +8,11 @@ ghost use Rattle.async_rwlock.specs.Lent.{held_with};
 ghost use Rattle.async_rwlock.specs.contracts.write_guard.WriteGuard.{the_row as guard_row};
 
 use crate::owns::Owns;
+use crate::releases::Releases;
 use crate::write_guard::WriteGuard;
 use std::ops::DerefMut;
-use std::sync::Wait;
 
-impl<T, R: Wait, O: Owns<Value = T, Runtime = R>> DerefMut for WriteGuard<T, R, O> {
+impl<T, R: Releases, O: Owns<Value = T, Runtime = R>> DerefMut for WriteGuard<T, R, O> {
     ghost deref_mut_gives = { λ guard value. value ≡ guard.value };
 
     fn deref_mut(&mut self) -> &mut T

@@ -5,19 +5,19 @@ ghost use Rattle.async_rwlock.specs.Stages.{At, IsOf};
 ghost use Rattle.rwlock_core.specs.Parties.{IsReaderOf};
 
 use crate::owns::Owns;
+use crate::releases::Releases;
 use crate::stage::Stage;
 use access_vault::Glance;
 use rwlock_core::{Pledge, Reader};
 use std::fmt;
 use std::marker::{Model, PhantomData};
 use std::ops::Deref;
-use std::sync::Wait;
 
 /// A right to read, and the value to read. Dropping it ends the right; the last reader notifies the writer that waits for this.
 ///
 /// Its type keeps that its seat reads, and that the value is lent against that. Contracts see the lock, the value, and the seat with what it
 /// knows of itself.
-pub struct ReadGuard<T, R: Wait, O: Owns<Value = T, Runtime = R>> {
+pub struct ReadGuard<T, R: Releases, O: Owns<Value = T, Runtime = R>> {
     owner: O,
     glance: Glance<T>,
     // The seat, while what it says is lent.
@@ -25,7 +25,7 @@ pub struct ReadGuard<T, R: Wait, O: Owns<Value = T, Runtime = R>> {
     runtime: PhantomData<R>,
 }
 
-impl<T, R: Wait, O: Owns<Value = T, Runtime = R>> Model for ReadGuard<T, R, O> {
+impl<T, R: Releases, O: Owns<Value = T, Runtime = R>> Model for ReadGuard<T, R, O> {
     ghost use Rattle.std.specs.Prelude.{◌≡◌, false, []};
     ghost use Rattle.async_rwlock.specs.Guards.{Held};
     ghost use Rattle.access_core.specs.Accesses.{IsReading, seated};
@@ -37,7 +37,7 @@ impl<T, R: Wait, O: Owns<Value = T, Runtime = R>> Model for ReadGuard<T, R, O> {
     ghost invariant = { λ g. (g.glance.vault_id ≡ (O.lock_of g.owner).vault.vault_id) × (g.glance.view.has_lists ≡ false) × IsReading (seated (O.lock_of g.owner).raw.access.table g.glance.id g.glance.view) × (g.pledge.badge.views ≡ []) };
 }
 
-impl<T, R: Wait, O: Owns<Value = T, Runtime = R>> ReadGuard<T, R, O> {
+impl<T, R: Releases, O: Owns<Value = T, Runtime = R>> ReadGuard<T, R, O> {
     #[inline]
     pub(crate) fn new(owner: O, reader: Reader) -> ReadGuard<T, R, O>
         requires { IsReaderOf (O.lock_of owner).raw reader }
@@ -67,7 +67,7 @@ impl<T, R: Wait, O: Owns<Value = T, Runtime = R>> ReadGuard<T, R, O> {
     }
 }
 
-impl<T, R: Wait, O: Owns<Value = T, Runtime = R>> Deref for ReadGuard<T, R, O> {
+impl<T, R: Releases, O: Owns<Value = T, Runtime = R>> Deref for ReadGuard<T, R, O> {
     type Target = T;
 
     ghost deref_gives = { λ guard value. value ≡ guard.value };
@@ -77,7 +77,7 @@ impl<T, R: Wait, O: Owns<Value = T, Runtime = R>> Deref for ReadGuard<T, R, O> {
     }
 }
 
-impl<T, R: Wait, O: Owns<Value = T, Runtime = R>> Drop for ReadGuard<T, R, O> {
+impl<T, R: Releases, O: Owns<Value = T, Runtime = R>> Drop for ReadGuard<T, R, O> {
     fn drop(self) {
         let Self {
             owner,
@@ -87,19 +87,20 @@ impl<T, R: Wait, O: Owns<Value = T, Runtime = R>> Drop for ReadGuard<T, R, O> {
         } = self;
         let lock = owner.lock();
         let seat = lock.end_read(glance, pledge);
-        lock.raw.release_read(&lock.rt, seat);
+        lock.rt.release_read(&lock.raw, seat);
         drop(owner);
     }
 }
 
-impl<T: fmt::Debug, R: Wait, O: Owns<Value = T, Runtime = R>> fmt::Debug for ReadGuard<T, R, O> {
+impl<T: fmt::Debug, R: Releases, O: Owns<Value = T, Runtime = R>> fmt::Debug
+    for ReadGuard<T, R, O> {
     fn fmt<W: fmt::Write>(&self, f: &mut fmt::Formatter<W>) -> fmt::Result {
         let value: &T = self;
         value.fmt(f)
     }
 }
 
-impl<T: fmt::Display, R: Wait, O: Owns<Value = T, Runtime = R>> fmt::Display
+impl<T: fmt::Display, R: Releases, O: Owns<Value = T, Runtime = R>> fmt::Display
     for ReadGuard<T, R, O> {
     fn fmt<W: fmt::Write>(&self, f: &mut fmt::Formatter<W>) -> fmt::Result {
         let value: &T = self;

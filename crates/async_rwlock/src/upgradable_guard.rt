@@ -8,6 +8,7 @@ ghost use Rattle.async_rwlock.specs.Stages.{At, IsOf};
 
 use crate::owns::Owns;
 use crate::read_guard::ReadGuard;
+use crate::releases::Releases;
 use crate::stage::Stage;
 use crate::upgrade::UpgradeFuture;
 use crate::write_guard::WriteGuard;
@@ -28,7 +29,7 @@ use std::time::Clock;
 ///
 /// Its type keeps that its seat reads and has the lock's turn, and that the value is lent against that. Contracts see the lock,
 /// the value, and the seat with what it knows of itself.
-pub struct UpgradableGuard<T, R: Wait, O: Owns<Value = T, Runtime = R>> {
+pub struct UpgradableGuard<T, R: Releases, O: Owns<Value = T, Runtime = R>> {
     owner: O,
     glance: Glance<T>,
     // The seat, while what it says is lent.
@@ -38,7 +39,7 @@ pub struct UpgradableGuard<T, R: Wait, O: Owns<Value = T, Runtime = R>> {
     runtime: PhantomData<R>,
 }
 
-impl<T, R: Wait, O: Owns<Value = T, Runtime = R>> Model for UpgradableGuard<T, R, O> {
+impl<T, R: Releases, O: Owns<Value = T, Runtime = R>> Model for UpgradableGuard<T, R, O> {
     ghost use Rattle.std.specs.Prelude.{◌≡◌, false, []};
     ghost use Rattle.async_rwlock.specs.Guards.{Held};
     ghost use Rattle.mutex_core.specs.Outcomes.{IsHeldOf};
@@ -51,7 +52,7 @@ impl<T, R: Wait, O: Owns<Value = T, Runtime = R>> Model for UpgradableGuard<T, R
     ghost invariant = { λ g. (g.glance.vault_id ≡ (O.lock_of g.owner).vault.vault_id) × (g.glance.view.has_lists ≡ false) × IsReading (seated (O.lock_of g.owner).raw.access.table g.glance.id g.glance.view) × IsHeldOf (O.lock_of g.owner).raw.turn g.turn × (g.pledge.badge.views ≡ []) };
 }
 
-impl<T, R: Wait, O: Owns<Value = T, Runtime = R>> UpgradableGuard<T, R, O> {
+impl<T, R: Releases, O: Owns<Value = T, Runtime = R>> UpgradableGuard<T, R, O> {
     #[inline]
     pub(crate) fn new(owner: O, upgradable: Upgradable) -> UpgradableGuard<T, R, O>
         requires { IsUpgradableOf (O.lock_of owner).raw upgradable }
@@ -111,7 +112,7 @@ impl<T, R: Wait, O: Owns<Value = T, Runtime = R>> UpgradableGuard<T, R, O> {
     {
         let (owner, upgradable) = guard.into_party();
         let lock = owner.lock();
-        let reader = lock.raw.downgrade_upgradable(&lock.rt, upgradable);
+        let reader = lock.rt.downgrade_upgradable(&lock.raw, upgradable);
         ReadGuard::new(owner, reader)
     }
 
@@ -136,7 +137,9 @@ impl<T, R: Wait, O: Owns<Value = T, Runtime = R>> UpgradableGuard<T, R, O> {
             Err(upgradable) => Err(UpgradableGuard::new(owner, upgradable)),
         }
     }
+}
 
+impl<T, R: Wait, O: Owns<Value = T, Runtime = R>> UpgradableGuard<T, R, O> {
     /// Begins to write: from now on nobody begins to read. The future is ready once no other reader is left. Until then it lends
     /// nothing.
     ///
@@ -156,7 +159,7 @@ impl<T, R: Wait, O: Owns<Value = T, Runtime = R>> UpgradableGuard<T, R, O> {
     }
 }
 
-impl<T, R: Wait, O: Owns<Value = T, Runtime = R>> Deref for UpgradableGuard<T, R, O> {
+impl<T, R: Releases, O: Owns<Value = T, Runtime = R>> Deref for UpgradableGuard<T, R, O> {
     type Target = T;
 
     ghost deref_gives = { λ guard value. value ≡ guard.value };
@@ -166,16 +169,16 @@ impl<T, R: Wait, O: Owns<Value = T, Runtime = R>> Deref for UpgradableGuard<T, R
     }
 }
 
-impl<T, R: Wait, O: Owns<Value = T, Runtime = R>> Drop for UpgradableGuard<T, R, O> {
+impl<T, R: Releases, O: Owns<Value = T, Runtime = R>> Drop for UpgradableGuard<T, R, O> {
     fn drop(self) {
         let (owner, upgradable) = self.into_party();
         let lock = owner.lock();
-        lock.raw.release_upgradable(&lock.rt, upgradable);
+        lock.rt.release_upgradable(&lock.raw, upgradable);
         drop(owner);
     }
 }
 
-impl<T: fmt::Debug, R: Wait, O: Owns<Value = T, Runtime = R>> fmt::Debug
+impl<T: fmt::Debug, R: Releases, O: Owns<Value = T, Runtime = R>> fmt::Debug
     for UpgradableGuard<T, R, O> {
     fn fmt<W: fmt::Write>(&self, f: &mut fmt::Formatter<W>) -> fmt::Result {
         let value: &T = self;
@@ -183,7 +186,7 @@ impl<T: fmt::Debug, R: Wait, O: Owns<Value = T, Runtime = R>> fmt::Debug
     }
 }
 
-impl<T: fmt::Display, R: Wait, O: Owns<Value = T, Runtime = R>> fmt::Display
+impl<T: fmt::Display, R: Releases, O: Owns<Value = T, Runtime = R>> fmt::Display
     for UpgradableGuard<T, R, O> {
     fn fmt<W: fmt::Write>(&self, f: &mut fmt::Formatter<W>) -> fmt::Result {
         let value: &T = self;

@@ -7,6 +7,7 @@ ghost use Rattle.rwlock_core.specs.Parties.{IsWriterOf};
 
 use crate::owns::Owns;
 use crate::read_guard::ReadGuard;
+use crate::releases::Releases;
 use crate::stage::Stage;
 use crate::upgradable_guard::UpgradableGuard;
 use access_vault::Grip;
@@ -14,14 +15,13 @@ use rwlock_core::{Pledge, Turn, Writer};
 use std::fmt;
 use std::marker::{Model, PhantomData};
 use std::ops::Deref;
-use std::sync::Wait;
 
 /// The right to write, and the value to read and write. Dropping it ends the right. It notifies the readers that wait, and one of
 /// those who wait to write or to read upgradably.
 ///
 /// Its type keeps that its seat writes, and that the value is lent against that. Contracts see the lock, the value, and the seat with
 /// what it knows of itself.
-pub struct WriteGuard<T, R: Wait, O: Owns<Value = T, Runtime = R>> {
+pub struct WriteGuard<T, R: Releases, O: Owns<Value = T, Runtime = R>> {
     pub(crate) owner: O,
     pub(crate) grip: Grip<T>,
     // The seat, while what it says is lent.
@@ -31,7 +31,7 @@ pub struct WriteGuard<T, R: Wait, O: Owns<Value = T, Runtime = R>> {
     runtime: PhantomData<R>,
 }
 
-impl<T, R: Wait, O: Owns<Value = T, Runtime = R>> Model for WriteGuard<T, R, O> {
+impl<T, R: Releases, O: Owns<Value = T, Runtime = R>> Model for WriteGuard<T, R, O> {
     ghost use Rattle.std.specs.Prelude.{◌≡◌, false, []};
     ghost use Rattle.async_rwlock.specs.Guards.{Held};
     ghost use Rattle.mutex_core.specs.Outcomes.{IsHeldOf};
@@ -44,7 +44,7 @@ impl<T, R: Wait, O: Owns<Value = T, Runtime = R>> Model for WriteGuard<T, R, O> 
     ghost invariant = { λ g. (g.grip.vault_id ≡ (O.lock_of g.owner).vault.vault_id) × (g.grip.view.has_lists ≡ false) × IsWriting (seated (O.lock_of g.owner).raw.access.table g.grip.id g.grip.view) × IsHeldOf (O.lock_of g.owner).raw.turn g.turn × (g.pledge.badge.views ≡ []) };
 }
 
-impl<T, R: Wait, O: Owns<Value = T, Runtime = R>> WriteGuard<T, R, O> {
+impl<T, R: Releases, O: Owns<Value = T, Runtime = R>> WriteGuard<T, R, O> {
     #[inline]
     pub(crate) fn new(owner: O, writer: Writer) -> WriteGuard<T, R, O>
         requires { IsWriterOf (O.lock_of owner).raw writer }
@@ -104,7 +104,7 @@ impl<T, R: Wait, O: Owns<Value = T, Runtime = R>> WriteGuard<T, R, O> {
     {
         let (owner, writer) = guard.into_party();
         let lock = owner.lock();
-        let reader = lock.raw.downgrade_write(&lock.rt, writer);
+        let reader = lock.rt.downgrade_write(&lock.raw, writer);
         ReadGuard::new(owner, reader)
     }
 
@@ -120,12 +120,12 @@ impl<T, R: Wait, O: Owns<Value = T, Runtime = R>> WriteGuard<T, R, O> {
     {
         let (owner, writer) = guard.into_party();
         let lock = owner.lock();
-        let upgradable = lock.raw.downgrade_to_upgradable(&lock.rt, writer);
+        let upgradable = lock.rt.downgrade_to_upgradable(&lock.raw, writer);
         UpgradableGuard::new(owner, upgradable)
     }
 }
 
-impl<T, R: Wait, O: Owns<Value = T, Runtime = R>> Deref for WriteGuard<T, R, O> {
+impl<T, R: Releases, O: Owns<Value = T, Runtime = R>> Deref for WriteGuard<T, R, O> {
     type Target = T;
 
     ghost deref_gives = { λ guard value. value ≡ guard.value };
@@ -135,23 +135,24 @@ impl<T, R: Wait, O: Owns<Value = T, Runtime = R>> Deref for WriteGuard<T, R, O> 
     }
 }
 
-impl<T, R: Wait, O: Owns<Value = T, Runtime = R>> Drop for WriteGuard<T, R, O> {
+impl<T, R: Releases, O: Owns<Value = T, Runtime = R>> Drop for WriteGuard<T, R, O> {
     fn drop(self) {
         let (owner, writer) = self.into_party();
         let lock = owner.lock();
-        lock.raw.release_write(&lock.rt, writer);
+        lock.rt.release_write(&lock.raw, writer);
         drop(owner);
     }
 }
 
-impl<T: fmt::Debug, R: Wait, O: Owns<Value = T, Runtime = R>> fmt::Debug for WriteGuard<T, R, O> {
+impl<T: fmt::Debug, R: Releases, O: Owns<Value = T, Runtime = R>> fmt::Debug
+    for WriteGuard<T, R, O> {
     fn fmt<W: fmt::Write>(&self, f: &mut fmt::Formatter<W>) -> fmt::Result {
         let value: &T = self;
         value.fmt(f)
     }
 }
 
-impl<T: fmt::Display, R: Wait, O: Owns<Value = T, Runtime = R>> fmt::Display
+impl<T: fmt::Display, R: Releases, O: Owns<Value = T, Runtime = R>> fmt::Display
     for WriteGuard<T, R, O> {
     fn fmt<W: fmt::Write>(&self, f: &mut fmt::Formatter<W>) -> fmt::Result {
         let value: &T = self;
