@@ -5,6 +5,7 @@
 //! of any number of threads is [`MutexRule`] of `words_mutex`, and [`no_lost_wakeup`] is what it says of a free lock.
 #![tactic(auto)]
 
+mod alone;
 mod calls;
 mod cell;
 mod left;

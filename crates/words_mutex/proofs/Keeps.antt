@@ -242,6 +242,14 @@ module _ (S : Type 0) (len_of marked_of : S → ℕ) (is_right : RoomId → ℕ 
         (λ _. (right, subst (λ (t : List (ℕ × S)). get_elem? (put_back s.homes t) 1 ≡ some (some right)) (sym has) (set_here s.homes 1 (some right) wide), of_lock right good))
         (mine.0, (λ _ o _. never (sym o))) (wakes-owing r.len r.marked w refl)
 
+    -- the right is laid down while the seat holds the lock
+    pub lays_down : (right : S) → me.0.holds ≡ true → me.1 ≡ (1, right) ∷ rest me.1 → R (stepped s 0 x id me.1 me.0 gives)
+    lays_down right is has =
+        moved x me.0 gives (word.stays is_holder is_starved most 0 s.words s.views id me.0 me.0 r.word at refl refl) (refl, refl, refl, refl, (refl, refl))
+        (subst (λ (t : List (ℕ × S)). get_elem? (put_back s.homes t) 0 ≡ get_elem? s.homes 0) (sym has) (set_else s.homes 1 0 (some right) (λ z. omega (arith, z))))
+        (λ absent. let m = number-at is_holder s.views id me.0 at in let w : weight (is_holder me.0) ≡ 1 = ap weight is in let none' = sym (same_holders me.0 refl) ∙ absent in absurd (omega arith))
+        mine (wakes-same me.0 refl refl refl)
+
     -- counted in the list, having looked: the seat's duty is the others'
     abbrev pub counted_listed : View
     counted_listed = counted_listed_of me.0
@@ -502,6 +510,9 @@ module _ (S : Type 0) (len_of marked_of : S → ℕ) (is_right : RoomId → ℕ 
 
     pub cleared_by : (right : S) → me.0.holds ≡ true → me.1 ≡ (1, right) ∷ rest me.1 → is_right me.0.room me.0.deed right → 1 < slots → Allows R slots id me 0 (λ n. (n + (2 ^ 64 - 1)) % 2 ^ 64) (λ _ m'. m' ≡ (cleared_of me.0, rest me.1))
     cleared_by right is has good wide s r len at small = (cleared_of me.0, gives, tt, clears s id me r at right small is has good (subst (λ (z : ℕ). 1 < z) (sym len) wide), refl)
+
+    pub laid_down : (right : S) → me.0.holds ≡ true → me.1 ≡ (1, right) ∷ rest me.1 → Allows R slots id me 0 (λ n. n) (λ _ m'. m' ≡ (me.0, rest me.1))
+    laid_down right is has s r _ at _ = (me.0, gives, tt, lays_down s id me r at right is has, refl)
 
     pub peeks : me.0.starved ≡ false → Allows R slots id me 1 (λ n. n) (λ n m'. m' ≡ (peeking n me.0, me.1))
     peeks calm s r _ at _ = (peeking (get_or s.words 1 0) me.0, keeps, tt, peeked s id me r at calm, refl)

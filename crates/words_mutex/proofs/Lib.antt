@@ -2,3 +2,4 @@ pub mod Flags
 pub mod Keeps
 pub mod Wakeups
 pub mod Holding
+pub mod Alone

@@ -1,5 +1,6 @@
 -- What each step makes of a seat's view.
-use Rattle.std.specs.Prelude.{ℕ, ◌%◌, ◌==◌, ◌&&◌, leb, true, false}
+use Rattle.std.specs.Prelude.{ℕ, ◌+◌, ◌%◌, ◌==◌, ◌&&◌, leb, true, false}
+use Rattle.lock_place.specs.Held.{RoomId}
 use Rattle.words_mutex.specs.declared.view.View.{View}
 
 abbrev pub saw_held_of : View → View
@@ -50,3 +51,14 @@ looking n v = record v { owes = v.owes && (n % 2 == 0); fresh = v.fresh && (n ==
 -- Who finds the list empty owes nothing any more.
 abbrev pub peeking : ℕ → View → View
 peeking n v = record v { owes = v.owes && leb 4 (n % 8) }
+
+-- What two seats that both hold the lock would be as one: a seat of no such lock.
+abbrev pub both_of : View → View → View
+both_of v w = record v { holds = false; deed = v.deed + 1 }
+
+abbrev pub nowhere : RoomId
+nowhere = record { block = 0; offset = 0; atom = 0; name = 0 }
+
+-- what is left of the one that was taken in
+abbrev pub spent : View
+spent = record { holds = false; starved = false; owes = false; listed = false; fresh = false; has_list = false; len = 0; marked = 0; room = nowhere; deed = 0; passed = 0 }

@@ -2,7 +2,7 @@
 
 use crate::rule::Content;
 use crate::view::View;
-use atomic_table::Play;
+use atomic_table::{Join, Play};
 
 /// Nothing changes for the seat.
 pub struct Keep;
@@ -165,4 +165,32 @@ impl<S: Content> Play<S, View> for Lifts {
     ghost use Rattle.words_mutex.specs.Steps.{Got};
 
     ghost then = { λ _ m r m'. (r % 2 ≡ 0 → Got S.is_right (r / 2) m m') × (r % 2 ≢ 0 → m' ≡ m) };
+}
+
+// The right is laid down in its slot while the seat holds the lock.
+pub(crate) struct LaysDown;
+
+impl<S> Play<S, View> for LaysDown {
+    ghost use Rattle.std.specs.Prelude.{◌≡◌};
+    ghost use Rattle.atomic_table.specs.Table.{rest};
+
+    ghost then = { λ _ m _ m'. m' ≡ (m.0, rest m.1) };
+}
+
+// Two seats that both hold the lock, which the rule shuts out, as one.
+pub(crate) struct Twins;
+
+impl Join<View> for Twins {
+    ghost use Rattle.words_mutex.specs.Seats.{both_of, spent as is_spent};
+
+    ghost both = { both_of };
+
+    ghost spent = { is_spent };
+}
+
+// A step that no seat makes.
+pub(crate) struct NoStep;
+
+impl<S> Play<S, View> for NoStep {
+    ghost then = { λ _ _ _ _. ⊥ };
 }
