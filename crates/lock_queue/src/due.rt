@@ -59,7 +59,9 @@ impl AllDue {
     }
 
     /// Calls the wakers, in their order. Returns whether more may be due, which memory was refused for.
-    pub fn pay(self) -> bool {
+    pub fn pay(self) -> bool
+        ensures { result ≡ is_some self.next }
+    {
         let AllDue { all, next } = self;
         pay_all(all);
         match next {
