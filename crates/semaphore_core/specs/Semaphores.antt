@@ -99,6 +99,14 @@ with_paid s = record s { owes = false }
 abbrev pub Has : Semaphore → ℕ → Seated → Type 0
 Has s k seat = (seat.table ≡ s.word.table) × (seat.permits ≡ k) × (seat.under_way ≡ 0) × (seat.owes ≡ false) × (seat.listed ≡ false) × (seat.fresh ≡ false)
 
+-- The seat has nothing, and has neither added nor forgotten any.
+abbrev pub IsNew : Semaphore → Seated → Type 0
+IsNew s seat = Has s 0 seat × (seat.added ≡ 0) × (seat.forgotten ≡ 0)
+
+-- The seat is one of the semaphore, and has added exactly so many permits in all, and forgotten none.
+abbrev pub HasAdded : Semaphore → ℕ → Seated → Type 0
+HasAdded s n seat = (seat.table ≡ s.word.table) × (seat.added ≡ n) × (seat.forgotten ≡ 0)
+
 -- The seat has raised the semaphore's limit by exactly so many that it has to give, and has nothing else.
 abbrev pub HasUnderWay : Semaphore → ℕ → Seated → Type 0
 HasUnderWay s n seat = (seat.table ≡ s.word.table) × (seat.permits ≡ 0) × (seat.under_way ≡ n) × (seat.owes ≡ false) × (seat.listed ≡ false) × (seat.fresh ≡ false)

@@ -2,10 +2,10 @@
 //!
 //! The comments name the places of the program's table, which are `sync_program`'s.
 
-ghost use Rattle.std.specs.Prelude.{◌≡◌, ℕ, IfErr, IfOk, IfSome, MatchBool};
+ghost use Rattle.std.specs.Prelude.{◌≡◌, ℕ, true, IfErr, IfOk, IfSome, MatchBool};
 ghost use Rattle.lock_program.specs.declared.refusal.Refusal.TheVariants as refusals;
 ghost use Rattle.semaphore_core.specs.Outcomes.{OnTried, Owes};
-ghost use Rattle.semaphore_core.specs.Semaphores.{Has, HasUnderWay, IsPastLimit, IsShort};
+ghost use Rattle.semaphore_core.specs.Semaphores.{Has, HasAdded, HasUnderWay, IsNew, IsPastLimit, IsShort, with_lowered};
 
 use crate::raw::RawSemaphore;
 use crate::receipts::{Added, Given, Lowered};
@@ -121,25 +121,29 @@ impl RawSemaphore {
         given
     }
 
-    /// Ends a guard's permits for good: the limit is lowered by as many, which its receipt says. It waits for nobody.
+    /// Ends a guard's permits for good: the limit is lowered by as many, which its receipt says. It waits for nobody. By the contract the
+    /// seat has done nothing else since (`seat`).
     pub fn forget(&self, seat: Seat, permits: u64) -> Lowered
         requires { Has self.now permits seat }
-        ensures { result.permits ≡ permits }
+        ensures permits { result.permits ≡ permits }
+        ensures seat { result.ended ≡ with_lowered permits seat }
     {
         // Lower
         let mut seat = seat;
-        let lowered = self.lower(&mut seat, permits);
-        seat.rise();
-        lowered
+        self.lower(&mut seat, permits);
+        Lowered {
+            permits,
+            ended: seat.end(),
+        }
     }
 
     /// Adds this many permits, and notifies the first waiter for whom those that are then available are enough. It takes no
-    /// memory. Its receipt says that they were added.
+    /// memory. Its receipt says that they were added, by a seat that has added no others and forgotten none.
     ///
     /// If the limit would pass its greatest value, as its last look at the limit found, it returns [`Refusal::Permits`], and
     /// nothing has changed.
     pub fn add<R: Wait>(&self, rt: &R, permits: u64) -> Result<Added, Refusal>
-        ensures added { IfOk result (λ added. added.permits ≡ permits) }
+        ensures added { IfOk result (λ added. (added.permits ≡ permits) × HasAdded self.now permits added.ended) }
         ensures refused { IfErr result (λ refusal. refusal ≡ refusals.Permits) }
     {
         // Raise
@@ -148,11 +152,14 @@ impl RawSemaphore {
             return Err(self.refuse(seat, permits));
         }
         // GiveAdded
-        let added = self.give_new(&mut seat, permits);
+        let available = self.give_new(&mut seat, permits);
         // FitAdded
-        self.fit(rt, &mut seat, added.available());
-        seat.rise();
-        Ok(added)
+        self.fit(rt, &mut seat, available);
+        Ok(Added {
+            permits,
+            available,
+            ended: seat.end(),
+        })
     }
 
     // Ends an addition that is refused: its last look found a limit that would pass its greatest value.
@@ -168,8 +175,9 @@ impl RawSemaphore {
     // Raises the limit by this many, if its greatest value allows it, however often the word changes meanwhile: it is refused only
     // where its last look found that it doesn't.
     fn raise_on<R: Wait>(&self, rt: &R, seat: &mut Seat, permits: u64) -> bool
-        requires { Has self.now 0 seat.old }
-        ensures { MatchBool result (HasUnderWay self.now permits seat.new) (IsPastLimit self.now permits seat.new) }
+        requires { IsNew self.now seat.old }
+        ensures raised { MatchBool result (HasUnderWay self.now permits seat.new) (IsPastLimit self.now permits seat.new) }
+        ensures added { result ≡ true → HasAdded self.now permits seat.new }
     {
         for _ in rt.forever() {
             match self.raise(seat, permits) {

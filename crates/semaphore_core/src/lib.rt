@@ -21,6 +21,6 @@ pub use actions::Joined;
 pub use queue::Queue;
 pub use raw::RawSemaphore;
 pub use receipts::{Added, Given, Lowered};
-pub use seat::Seat;
+pub use seat::{Ended, Seat};
 pub use turn::{Notifies, Outcome, Tried, Waiting};
 pub use words_permits::{Content, PermitRule, Raising, Taking, View, no_lost_wakeup};

@@ -6,7 +6,7 @@ ghost use Rattle.words_permits.specs.Tries.{OnTaking, OnRaising};
 
 use crate::list_steps::Listing;
 use crate::queue::Queue;
-use crate::receipts::{Added, Given, Lowered};
+use crate::receipts::Given;
 use crate::seat::Seat;
 use atomic_table::Table;
 use futures::task::Source;
@@ -146,16 +146,15 @@ impl RawSemaphore {
         Given { permits, available }
     }
 
-    /// Gives this many new permits that the seat has under way: one step. The seat owes a notification then.
+    /// Gives this many new permits that the seat has under way: one step, which answers how many are then available. The seat owes a
+    /// notification then.
     #[inline]
-    pub fn give_new(&self, seat: &mut Seat, permits: u64) -> Added
+    pub fn give_new(&self, seat: &mut Seat, permits: u64) -> u64
         requires of { IsOf self.now seat.old }
         requires has { permits ≤ seat.old.under_way }
-        ensures step { seat.new ≡ with_given_new permits result.available seat.old }
-        ensures added { result.permits ≡ permits }
+        ensures { seat.new ≡ with_given_new permits result seat.old }
     {
-        let available = give_new(&self.table.shared, &mut seat.inner, permits);
-        Added { permits, available }
+        give_new(&self.table.shared, &mut seat.inner, permits)
     }
 
     /// Raises the limit by this many permits if it stays a number of 64 bits: one try, after a look. The seat has the new permits under
@@ -169,14 +168,12 @@ impl RawSemaphore {
 
     /// Lowers the limit by this many of the seat's permits, which never come back: one step.
     #[inline]
-    pub fn lower(&self, seat: &mut Seat, permits: u64) -> Lowered
+    pub fn lower(&self, seat: &mut Seat, permits: u64)
         requires of { IsOf self.now seat.old }
         requires has { permits ≤ seat.old.permits }
-        ensures step { seat.new ≡ with_lowered permits seat.old }
-        ensures lowered { result.permits ≡ permits }
+        ensures { seat.new ≡ with_lowered permits seat.old }
     {
         lower(&self.table.shared, &mut seat.inner, permits);
-        Lowered { permits }
     }
 
     /// Returns whether the list may have entries: one load. If not, the seat owes nothing any more.

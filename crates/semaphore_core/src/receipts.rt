@@ -1,6 +1,8 @@
 //! What shows that permits were given, added or forgotten.
 
-ghost use Rattle.std.specs.Prelude.{◌≡◌};
+ghost use Rattle.std.specs.Prelude.{◌≡◌, ◌≤◌};
+
+use crate::seat::Ended;
 
 /// A receipt: a seat gave so many of its permits back, by one step, which alone makes it.
 #[derive(Drop)]
@@ -20,12 +22,15 @@ impl Given {
     }
 }
 
-/// A receipt: the limit was raised by so many permits, and these were made available by one step, which alone makes it.
+/// A receipt: by steps of one seat, which has ended, the limit was raised by so many permits, and these were made available. It is made
+/// of that seat alone.
 #[derive(Drop)]
 pub struct Added {
     pub(crate) permits: u64,
     // How many were available then.
     pub(crate) available: u64,
+    pub(crate) ended: Ended,
+    ghost shown: { (ended.added ≡ permits) × (ended.forgotten ≡ 0) },
 }
 
 impl Added {
@@ -38,8 +43,10 @@ impl Added {
     }
 }
 
-/// A receipt: the limit was lowered by so many permits of a seat that has added none, by one step, which alone makes it.
+/// A receipt: by steps of one seat, which has ended, the limit was lowered by so many of its permits. It is made of that seat alone.
 #[derive(Drop)]
 pub struct Lowered {
     pub(crate) permits: u64,
+    pub(crate) ended: Ended,
+    ghost shown: { permits ≤ ended.forgotten },
 }

@@ -1,5 +1,5 @@
-use Rattle.semaphore_core.specs.Semaphores.{Has}
+use Rattle.semaphore_core.specs.Semaphores.{IsNew}
 use Rattle.semaphore_core.proofs.raw.RawSemaphore.raise_on.Given as goal
 
 abbrev pub invariant-loop : goal.invariant-loop
-invariant-loop g l = Has l.fn.self 0 l.seat
+invariant-loop g l = IsNew l.fn.self l.seat
