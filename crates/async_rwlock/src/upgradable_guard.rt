@@ -84,7 +84,7 @@ impl<T, R: Releases, O: Owns<Value = T, Runtime = R>> UpgradableGuard<T, R, O> {
 
     // Who has the lock, and the party with its right. Nothing is lent any more.
     #[inline]
-    fn into_party(self) -> (O, Upgradable)
+    pub(crate) fn into_party(self) -> (O, Upgradable)
         ensures owner { O.lock_of result.0 ≡ self.lock }
         ensures party { IsUpgradableOf self.lock.raw result.1 }
         ensures same { result.1.seat ≡ self.seat }
@@ -156,6 +156,25 @@ impl<T, R: Wait, O: Owns<Value = T, Runtime = R>> UpgradableGuard<T, R, O> {
         let lock = owner.lock();
         let begun = lock.raw.begin_upgrade(&lock.rt, upgradable);
         UpgradeFuture::new(owner, begun)
+    }
+}
+
+impl<T, R: Releases, O: Owns<Value = T, Runtime = R>> UpgradableGuard<T, R, O> {
+    /// Two that may upgrade of one lock are absurd, so no run comes here: the contract lets a proof end where it has both.
+    ///
+    /// The Rust crate has no such call.
+    ///
+    /// ```
+    /// RwLockUpgradableReadGuard::never_two(first, second);
+    /// ```
+    pub fn never_two<P: Owns<Value = T, Runtime = R>>(guard: Self, other: UpgradableGuard<T, R, P>)
+        requires { guard.lock ≡ other.lock }
+        ensures { ⊥ }
+    {
+        let (owner, upgradable) = guard.into_party();
+        let (_others, twin) = other.into_party();
+        owner.lock().raw.turn.never_two(upgradable.turn, twin.turn);
+        unreachable!()
     }
 }
 

@@ -125,6 +125,47 @@ impl<T, R: Releases, O: Owns<Value = T, Runtime = R>> WriteGuard<T, R, O> {
     }
 }
 
+impl<T, R: Releases, O: Owns<Value = T, Runtime = R>> WriteGuard<T, R, O> {
+    /// Two writers of one lock are absurd, so no run comes here: the contract lets a proof end where it has both.
+    ///
+    /// The Rust crate has no such call.
+    ///
+    /// ```
+    /// RwLockWriteGuard::never_two(first, second);
+    /// ```
+    pub fn never_two<P: Owns<Value = T, Runtime = R>>(guard: Self, other: WriteGuard<T, R, P>)
+        requires { guard.lock ≡ other.lock }
+        ensures { ⊥ }
+    {
+        let (owner, writer) = guard.into_party();
+        let (_others, twin) = other.into_party();
+        owner.lock().raw.turn.never_two(writer.turn, twin.turn);
+        unreachable!()
+    }
+
+    /// A writer beside who may upgrade is absurd, as two writers are.
+    ///
+    /// ```
+    /// RwLockWriteGuard::never_beside_upgradable(writer, upgradable);
+    /// ```
+    pub fn never_beside_upgradable<P: Owns<Value = T, Runtime = R>>(
+        guard: Self,
+        other: UpgradableGuard<T, R, P>,
+    )
+        requires { guard.lock ≡ other.lock }
+        ensures { ⊥ }
+    {
+        let (owner, writer) = guard.into_party();
+        let (_others, upgradable) = other.into_party();
+        owner
+            .lock()
+            .raw
+            .turn
+            .never_two(writer.turn, upgradable.turn);
+        unreachable!()
+    }
+}
+
 impl<T, R: Releases, O: Owns<Value = T, Runtime = R>> Deref for WriteGuard<T, R, O> {
     type Target = T;
 
