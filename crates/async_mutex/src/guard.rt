@@ -50,6 +50,40 @@ impl<T, R: Releases, O: Owns<Value = T, Runtime = R>> Guard<T, R, O> {
     }
 }
 
+impl<T, R: Releases, O: Owns<Value = T, Runtime = R>> Guard<T, R, O> {
+    /// Two guards of one mutex are absurd, so no run comes here: the contract lets a proof end where it has both.
+    ///
+    /// The Rust crate has no such call.
+    ///
+    /// ```
+    /// MutexGuard::never_two(first, second);
+    /// ```
+    pub fn never_two<P: Owns<Value = T, Runtime = R>>(guard: Self, other: Guard<T, R, P>)
+        requires { guard.mutex ≡ other.mutex }
+        ensures { ⊥ }
+    {
+        let (owner, held) = guard.into_held();
+        let (others, twin) = other.into_held();
+        owner.lock().words.never_two(held, twin);
+        drop(owner);
+        drop(others);
+    }
+
+    // Who has the mutex, and the party that holds it.
+    fn into_held(self) -> (O, Held<T>)
+        ensures owner { O.lock_of result.0 ≡ self.mutex }
+        ensures held { IsHeldOf self.mutex.words result.1 }
+    {
+        let Self {
+            owner,
+            seat,
+            hold,
+            runtime: _,
+        } = self;
+        (owner, Held::of(seat, hold))
+    }
+}
+
 impl<'a, T, R: Releases> Guard<T, R, &'a Mutex<T, R>> {
     /// Returns the mutex that the guard holds.
     ///
