@@ -2,7 +2,8 @@
 
 ghost use Rattle.std.specs.Prelude.{◌≡◌, IfErr, IfOk, IfSome, None};
 ghost use Rattle.std.specs.Arc.{arc_value};
-ghost use Rattle.async_semaphore.specs.Stages.{IsFor};
+ghost use Rattle.async_semaphore.specs.Stages.{IsFor, IsOf};
+ghost use Rattle.semaphore_core.specs.Semaphores.{HasAdded};
 ghost use Rattle.lock_program.specs.declared.refusal.Refusal.{Refusal};
 
 use crate::acquire::AcquireFuture;
@@ -79,7 +80,7 @@ impl<R: Wait> Semaphore<R> {
     /// ```
     #[inline]
     pub fn acquire(&self) -> Acquire<'_, R>
-        ensures semaphore { IsFor (λ o. o.now) result.stage self.now }
+        ensures owner { IsOf (λ o. o.now) result.stage self.now }
         ensures permits { result.permits ≡ 1 }
         ensures waiting { result.waiting ≡ None }
     {
@@ -97,7 +98,7 @@ impl<R: Wait> Semaphore<R> {
     /// ```
     #[inline]
     pub fn acquire_many(&self, permits: usize) -> Acquire<'_, R>
-        ensures semaphore { IsFor (λ o. o.now) result.stage self.now }
+        ensures owner { IsOf (λ o. o.now) result.stage self.now }
         ensures permits { result.permits ≡ permits }
         ensures waiting { result.waiting ≡ None }
     {
@@ -105,7 +106,8 @@ impl<R: Wait> Semaphore<R> {
     }
 
     /// Adds this many permits, and notifies the first waiter for whom those that are then available are enough. It takes no
-    /// memory. By the contract its receipt says that exactly these were added to the limit and made available (`given`).
+    /// memory. By the contract its receipt says that exactly these were added to the limit and made available, by a seat that has ended, and has
+    /// added no others and forgotten none (`given`).
     ///
     /// If the limit would pass 18,446,744,073,709,551,615, it returns [`Refusal::Permits`] and changes nothing. The Rust crate
     /// wraps there, and returns nothing.
@@ -114,7 +116,7 @@ impl<R: Wait> Semaphore<R> {
     /// let added = semaphore.add_permits(2)?;
     /// ```
     pub fn add_permits(&self, permits: usize) -> Result<Added, Refusal>
-        ensures given { IfOk result (λ added. added.permits ≡ permits) }
+        ensures given { IfOk result (λ added. (added.permits ≡ permits) × HasAdded self.now.raw permits added.ended) }
         ensures refused { IfErr result (λ refusal. refusal ≡ Refusal.Permits) }
     {
         self.raw.add(&self.rt, permits as u64)

@@ -1,7 +1,7 @@
 //! Permits that a task has.
 
 ghost use Rattle.std.specs.Prelude.{◌≡◌};
-ghost use Rattle.semaphore_core.specs.Semaphores.{Has};
+ghost use Rattle.semaphore_core.specs.Semaphores.{Has, with_lowered};
 
 use crate::owns::Owns;
 use crate::releases::Releases;
@@ -13,7 +13,7 @@ use std::marker::{Model, PhantomData};
 /// are enough.
 ///
 /// Its type keeps that its seat has exactly as many permits as it says, so a drop gives back neither more nor fewer. Contracts see
-/// the semaphore, and how many permits it has.
+/// the semaphore, how many permits it has, and the seat with what it knows of itself.
 pub struct PermitGuard<R: Releases, O: Owns<Runtime = R>> {
     owner: O,
     seat: Seat,
@@ -27,7 +27,7 @@ impl<R: Releases, O: Owns<Runtime = R>> Model for PermitGuard<R, O> {
 
     ghost Value = { Held R };
 
-    ghost view = { λ g. record { semaphore = O.semaphore_of g.owner; permits = g.permits } };
+    ghost view = { λ g. record { semaphore = O.semaphore_of g.owner; permits = g.permits; seat = g.seat } };
 
     ghost invariant = { λ g. Has (O.semaphore_of g.owner).raw g.permits g.seat };
 }
@@ -36,7 +36,8 @@ impl<R: Releases, O: Owns<Runtime = R>> PermitGuard<R, O> {
     #[inline]
     pub(crate) fn new(owner: O, seat: Seat, permits: u64) -> PermitGuard<R, O>
         requires { Has (O.semaphore_of owner).raw permits seat }
-        ensures { (result.semaphore ≡ O.semaphore_of owner) × (result.permits ≡ permits) }
+        ensures permits { (result.semaphore ≡ O.semaphore_of owner) × (result.permits ≡ permits) }
+        ensures seat { result.seat ≡ seat }
     {
         PermitGuard {
             owner,
@@ -60,13 +61,15 @@ impl<R: Releases, O: Owns<Runtime = R>> PermitGuard<R, O> {
     /// Ends the guard without giving its permits back: the semaphore's limit is lowered by as many, and they never come back.
     /// It waits for nobody and takes no memory.
     ///
-    /// By the contract the receipt is of exactly the guard's permits. The Rust crate's call returns nothing.
+    /// By the contract the receipt is of exactly the guard's permits (`permits`), and of its seat, which has done nothing else since
+    /// (`seat`). The Rust crate's call returns nothing.
     ///
     /// ```
     /// semaphore.acquire_blocking()?.forget();
     /// ```
     pub fn forget(self) -> Lowered
-        ensures { result.permits ≡ self.permits }
+        ensures permits { result.permits ≡ self.permits }
+        ensures seat { result.ended ≡ with_lowered self.permits self.seat }
     {
         let Self {
             owner,

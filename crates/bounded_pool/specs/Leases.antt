@@ -3,7 +3,7 @@ use Rattle.std.specs.Prelude.{◌≡◌, Bool, true, false, ⊤, Option, None, S
 use Rattle.bounded_pool.specs.declared.pool.Pool.{Pool}
 use Rattle.bounded_pool.specs.declared.take.Taking.{Taking}
 use Rattle.bounded_pool.specs.declared.take.Taking.TheVariants as taking
-use Rattle.async_semaphore.specs.Stages.{IsFor}
+use Rattle.async_semaphore.specs.Stages.{IsOf}
 
 -- an item, and the pool that lent it
 pub record Lent (T R : Type 0) : Type 0 where
@@ -35,6 +35,6 @@ module _ {T R : Type 0} where
 
   -- it waits for a permit of this pool, or has one
   abbrev pub IsTaking : Pool T R → Taking T R → Type 0
-  IsTaking pool (taking.Permit acquire) = IsFor (λ o. o.now) acquire.stage pool.permits × (acquire.permits ≡ 1)
+  IsTaking pool (taking.Permit acquire) = IsOf (λ o. o.now) acquire.stage pool.permits × (acquire.permits ≡ 1)
   IsTaking pool (taking.List permit lock) = (permit.semaphore ≡ pool.permits) × (permit.permits ≡ 1)
   IsTaking pool taking.Over = ⊤
