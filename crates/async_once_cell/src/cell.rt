@@ -8,6 +8,7 @@ ghost use Rattle.async_once_cell.specs.declared.makers.Making.TheVariants as mak
 
 use crate::blocking::{BlockedInit, BlockedSet, BlockedTry, BlockedWait, Ended, Kept, Origin};
 use crate::faults::{InitFault, SetFault};
+use crate::fills::Fills;
 use crate::init::{GetOrInit, GetOrTryInit};
 use crate::set::Set;
 use crate::wait::Wait;
@@ -231,7 +232,9 @@ impl<T: Drop, R: Waits> OnceCell<T, R> {
     {
         Set::new(self, value)
     }
+}
 
+impl<T, R: Fills> OnceCell<T, R> {
     /// Puts this value in at once if the cell is empty, and else gives it back: also while another task makes the value. What it
     /// gives back is what was handed in. It waits for nobody but for the lists' short locks. It takes memory for the wakers that are
     /// due, and does without where that is refused.
@@ -243,7 +246,10 @@ impl<T: Drop, R: Waits> OnceCell<T, R> {
     pub fn try_set(&self, value: T) -> Result<(), T>
         ensures { IfErr result (λ back. back ≡ value) }
     {
-        self.raw.try_set(&self.rt, value)
+        match self.try_set_shown(value) {
+            Ok(_) => Ok(()),
+            Err(back) => Err(back),
+        }
     }
 
     /// Does as [`OnceCell::try_set`] does; a value that is put in is shown (`shown`), so that whatever shows the cell's value while this does shows
@@ -258,7 +264,7 @@ impl<T: Drop, R: Waits> OnceCell<T, R> {
         ensures shown { IfOk result (λ token. (token.of ≡ self.now.raw.word.store) × (token.value ≡ value)) }
         ensures back { IfErr result (λ back. back ≡ value) }
     {
-        self.raw.try_set_shown(&self.rt, value)
+        self.rt.try_set_shown(&self.raw, value)
     }
 }
 

@@ -4,6 +4,7 @@
 mod blocking;
 mod cell;
 mod faults;
+mod fills;
 mod init;
 mod makers;
 mod set;
@@ -20,5 +21,6 @@ pub mod lock_futures {
 pub use async_driver::{Polled, Runtime, Settled, Turn, wait_for};
 pub use cell::OnceCell;
 pub use faults::{InitFault, SetFault};
+pub use fills::Fills;
 pub use lock_program::Refusal;
 pub use makers::{Given, Making, Trying};
