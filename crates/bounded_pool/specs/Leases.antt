@@ -3,7 +3,10 @@ use Rattle.std.specs.Prelude.{◌≡◌, Bool, true, false, ⊤, Option, None, S
 use Rattle.bounded_pool.specs.declared.pool.Pool.{Pool}
 use Rattle.bounded_pool.specs.declared.take.Taking.{Taking}
 use Rattle.bounded_pool.specs.declared.take.Taking.TheVariants as taking
+use Rattle.async_driver.specs.declared.turn.Turn.{Turn}
+use Rattle.async_driver.specs.declared.turn.Turn.TheVariants as turns
 use Rattle.async_semaphore.specs.Stages.{IsOf}
+use Rattle.lock_program.specs.declared.refusal.Refusal.TheVariants.{Memory}
 
 -- an item, and the pool that lent it
 pub record Lent (T R : Type 0) : Type 0 where
@@ -24,6 +27,12 @@ abbrev pub is_none : {A : Type 0} → Option A → Bool
 is_none None = true
 is_none (Some _) = false
 
+-- the item is back and no lease is kept, or memory was refused and the lease is kept as it was
+abbrev pub IsPutBack : {T R G : Type 0} → Lent T R → Turn G → Option (Lent T R) → Type 0
+IsPutBack before (turns.Ready _) kept = kept ≡ None
+IsPutBack before turns.Pending kept = ⊥
+IsPutBack before (turns.Refused refusal) kept = (refusal ≡ Memory) × (kept ≡ Some before)
+
 -- it lends the same item of the same pool
 abbrev pub IsAsBefore : {T R : Type 0} → Lent T R → Lent T R → Type 0
 IsAsBefore before after = (after.pool ≡ before.pool) × (after.item ≡ before.item)
@@ -33,8 +42,9 @@ module _ {T R : Type 0} where
   is_over taking.Over = true
   is_over _ = false
 
-  -- it waits for a permit of this pool, or has one
+  -- it wants a permit, waits for one of this pool, or has one
   abbrev pub IsTaking : Pool T R → Taking T R → Type 0
-  IsTaking pool (taking.Permit acquire) = IsOf (λ o. o.now) acquire.stage pool.permits × (acquire.permits ≡ 1)
+  IsTaking pool (taking.Permit None) = ⊤
+  IsTaking pool (taking.Permit (Some acquire)) = IsOf (λ o. o.now) acquire.stage pool.permits × (acquire.permits ≡ 1)
   IsTaking pool (taking.List permit lock) = (permit.semaphore ≡ pool.permits) × (permit.permits ≡ 1)
   IsTaking pool taking.Over = ⊤

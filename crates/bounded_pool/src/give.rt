@@ -4,9 +4,10 @@ ghost use Rattle.std.specs.Prelude.{◌≡◌, ◌⊎◌, ⊤, None, Some};
 ghost use Rattle.async_driver.specs.Turns.{OnPending};
 ghost use Rattle.async_mutex.specs.Futures.{IsTurn};
 ghost use Rattle.futures.specs.Task.{Covers, Keeps};
-ghost use Rattle.bounded_pool.specs.Leases.{Given, is_none};
+ghost use Rattle.bounded_pool.specs.Leases.{Given, IsPutBack, is_none};
 
 use crate::lease::Lease;
+use async_mutex::MutexGuard;
 use async_mutex::lock_futures::Lock;
 use async_semaphore::{Polled, Refusal, Turn};
 use futures::task::Context;
@@ -36,10 +37,9 @@ impl<'a, T: Drop, R: Wait> Give<'a, T, R> {
     pub(crate) fn new(lease: Lease<'a, T, R>) -> Give<'a, T, R>
         ensures { result.lease ≡ Some lease.entry }
     {
-        let lock = Some(Lease::pool(&lease).items.lock());
         Give {
             lease: Some(lease),
-            lock,
+            lock: None,
         }
     }
 
@@ -70,9 +70,13 @@ impl<'a, T: Drop, R: Wait + Clock> Give<'a, T, R> {
         let pool = Lease::pool(&lease);
         let mut lock = match self.lock.take() {
             Some(lock) => lock,
-            None => pool.items.lock(),
+            // A list that is free is taken with no future made, which the common way would pay for.
+            None => match pool.items.try_lock() {
+                Some(items) => return self.put_back(lease, items),
+                None => pool.items.lock(),
+            },
         };
-        let mut items = match lock.poll(cx) {
+        let items = match lock.poll(cx) {
             Turn::Ready(items) => items,
             Turn::Pending => {
                 self.lock = Some(lock);
@@ -88,11 +92,21 @@ impl<'a, T: Drop, R: Wait + Clock> Give<'a, T, R> {
                 return Turn::Refused(Refusal::Memory);
             }
         };
+        self.put_back(lease, items)
+    }
+
+    // Puts the item back under the list's lock. Where memory is refused, it keeps the lease.
+    fn put_back(&mut self, lease: Lease<'a, T, R>, items: MutexGuard<'_, Vec<T>, R>) -> Turn<()>
+        ensures { IsPutBack lease.entry result self.new.lease }
+    {
+        let mut items = items;
+        let pool = Lease::pool(&lease);
         let (item, permit) = lease.into_parts();
         match items.push(item) {
             Ok(()) => {
                 drop(items);
                 drop(permit);
+                self.lease = None;
                 Turn::Ready(())
             }
             Err(refused) => {

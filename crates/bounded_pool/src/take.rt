@@ -1,6 +1,6 @@
 //! The future of a lease.
 
-ghost use Rattle.std.specs.Prelude.{◌≡◌, false};
+ghost use Rattle.std.specs.Prelude.{◌≡◌, false, true, IfNone, IfSome};
 ghost use Rattle.async_driver.specs.Turns.{OnPending};
 ghost use Rattle.async_mutex.specs.Futures.{CanRefuse, IsTurn};
 ghost use Rattle.futures.specs.Task.{Covers, Keeps};
@@ -20,8 +20,8 @@ use std::{fmt, mem};
 /// How far a take is.
 #[derive(Drop)]
 enum Taking<'a, T: Drop, R: Wait> {
-    /// It waits for a permit.
-    Permit(Acquire<'a, R>),
+    /// It wants a permit. It has a future of that once it found none.
+    Permit(Option<Acquire<'a, R>>),
     /// It has a permit, and waits for the list.
     List(SemaphoreGuard<'a, R>, Lock<'a, Vec<T>, R>),
     Over,
@@ -49,7 +49,7 @@ impl<'a, T: Drop, R: Wait> Take<'a, T, R> {
     pub(crate) fn new(pool: &'a Pool<T, R>) -> Take<'a, T, R>
         ensures { (result.pool ≡ pool.now) × (result.is_over ≡ false) }
     {
-        let at = Taking::Permit(pool.permits.acquire());
+        let at = Taking::Permit(None);
         Take { pool, at }
     }
 }
@@ -66,22 +66,63 @@ impl<'a, T: Drop, R: Wait + Clock> Take<'a, T, R> {
         ensures registered { OnPending result (Covers cx.new (λ _. ⊥)) }
         ensures kept { Keeps cx.old cx.new }
     {
+        if let Taking::Permit(None) = self.at {
+            if let Some(lease) = self.take_free() {
+                return Turn::Ready(lease);
+            }
+        }
+        self.poll_on(cx)
+    }
+
+    // Takes what is free with no future made, which the common way would pay for. A permit that it has got it keeps, and waits for the list.
+    fn take_free(&mut self) -> Option<Lease<'a, T, R>>
+        requires { self.old.is_over ≡ false }
+        ensures pool { self.new.pool ≡ self.old.pool }
+        ensures ready { IfSome result (λ lease. (lease.pool ≡ self.old.pool) × (self.new.is_over ≡ true)) }
+        ensures goes_on { IfNone result (self.new.is_over ≡ false) }
+    {
+        let pool = self.pool;
+        let permit = pool.permits.try_acquire()?;
+        let Some(mut items) = pool.items.try_lock() else {
+            self.at = Taking::List(permit, pool.items.lock());
+            return None;
+        };
+        // The list has an item for each permit.
+        let item = items.pop()?;
+        drop(items);
+        self.at = Taking::Over;
+        Some(Lease::new(pool, item, permit))
+    }
+
+    // Polls once what it waits for.
+    fn poll_on(&mut self, cx: &mut Context<'_>) -> Turn<Lease<'a, T, R>>
+        ensures pool { self.new.pool ≡ self.old.pool }
+        ensures turn { IsTurn (λ lease. lease.pool ≡ self.old.pool) self.old.is_over result self.new.is_over }
+        ensures registered { OnPending result (Covers cx.new (λ _. ⊥)) }
+        ensures kept { Keeps cx.old cx.new }
+    {
         let pool = self.pool;
         let at = mem::replace(&mut self.at, Taking::Over);
         let (permit, mut lock) = match at {
             Taking::Over => return Turn::Refused(Refusal::Finished),
             Taking::List(permit, lock) => (permit, lock),
-            Taking::Permit(mut acquire) => match acquire.poll(cx) {
-                Turn::Ready(permit) => (permit, pool.items.lock()),
-                Turn::Pending => {
-                    self.at = Taking::Permit(acquire);
-                    return Turn::Pending;
+            Taking::Permit(acquire) => {
+                let mut acquire = match acquire {
+                    Some(acquire) => acquire,
+                    None => pool.permits.acquire(),
+                };
+                match acquire.poll(cx) {
+                    Turn::Ready(permit) => (permit, pool.items.lock()),
+                    Turn::Pending => {
+                        self.at = Taking::Permit(Some(acquire));
+                        return Turn::Pending;
+                    }
+                    Turn::Refused(refusal) => {
+                        self.at = Taking::Permit(None);
+                        return Turn::Refused(refusal);
+                    }
                 }
-                Turn::Refused(refusal) => {
-                    self.at = Taking::Permit(pool.permits.acquire());
-                    return Turn::Refused(refusal);
-                }
-            },
+            }
         };
         let mut items = match lock.poll(cx) {
             Turn::Ready(items) => items,
@@ -90,11 +131,11 @@ impl<'a, T: Drop, R: Wait + Clock> Take<'a, T, R> {
                 return Turn::Pending;
             }
             Turn::Refused(Refusal::Starved) => {
-                self.at = Taking::Permit(pool.permits.acquire());
+                self.at = Taking::Permit(None);
                 return Turn::Refused(Refusal::Starved);
             }
             Turn::Refused(_) => {
-                self.at = Taking::Permit(pool.permits.acquire());
+                self.at = Taking::Permit(None);
                 return Turn::Refused(Refusal::Memory);
             }
         };
@@ -104,7 +145,7 @@ impl<'a, T: Drop, R: Wait + Clock> Take<'a, T, R> {
             Some(item) => Turn::Ready(Lease::new(pool, item, permit)),
             // The list has an item for each permit: so this isn't reached.
             None => {
-                self.at = Taking::Permit(pool.permits.acquire());
+                self.at = Taking::Permit(None);
                 let _ = cx.yield_now::<()>();
                 Turn::Pending
             }
