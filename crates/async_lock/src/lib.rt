@@ -9,6 +9,8 @@
 //! `async_once_cell` or `async_barrier`. None stands on the models of which all interleavings are proved (`lock_core`).
 #![tactic(auto)]
 
+mod releases;
+
 /// The futures of the locks.
 pub mod lock_futures {
     pub use async_barrier::lock_futures::BarrierWait;
@@ -24,9 +26,10 @@ pub use async_barrier::{Barrier, BarrierWaitResult};
 pub use async_mutex::{
     Mutex, MutexGuard, MutexGuardArc, Polled, Refusal, Runtime, Settled, Turn, wait_for,
 };
-pub use async_once_cell::{InitFault, OnceCell, SetFault};
+pub use async_once_cell::{Fills, InitFault, OnceCell, SetFault};
 pub use async_rwlock::{
     RwLock, RwLockReadGuard, RwLockReadGuardArc, RwLockUpgradableReadGuard,
     RwLockUpgradableReadGuardArc, RwLockWriteGuard, RwLockWriteGuardArc,
 };
 pub use async_semaphore::{Added, Lowered, Semaphore, SemaphoreGuard, SemaphoreGuardArc};
+pub use releases::Releases;

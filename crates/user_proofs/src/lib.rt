@@ -7,3 +7,4 @@
 pub mod mutex;
 pub mod once_cell;
 pub mod rwlock;
+pub mod semaphore;

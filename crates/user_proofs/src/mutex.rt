@@ -3,9 +3,9 @@
 //! Each function's contract is about values, and no file of proofs stands beside it. While a guard lives nobody else writes the
 //! value, so that what was read once is known.
 
-ghost use Rattle.std.specs.Prelude.{◌≡◌, true, IfOk, IfSome};
+ghost use Rattle.std.specs.Prelude.{◌≡◌, ◌%◌, true, false, IfOk, IfSome};
 
-use async_lock::{Mutex, MutexGuard, MutexGuardArc, Refusal};
+use async_lock::{Mutex, MutexGuard, MutexGuardArc, Refusal, Releases};
 use std::alloc::AllocGlobal;
 use std::random::RandomSource;
 use std::sync::{Arc, Wait};
@@ -66,4 +66,54 @@ pub fn first_of_two<'a, R: Wait + Clock + RandomSource + AllocGlobal>(
 {
     let _ = second;
     first.lock_blocking()
+}
+
+/// Whether two hold one mutex: never.
+pub fn is_held_twice<R: Releases>(mutex: &Mutex<u64, R>) -> bool
+    ensures { result ≡ false }
+{
+    let (Some(first), Some(second)) = (mutex.try_lock(), mutex.try_lock()) else {
+        return false;
+    };
+    MutexGuard::never_two(first, second);
+    true
+}
+
+/// A count that is even.
+#[derive(Drop)]
+pub struct Even {
+    count: u64,
+    ghost even: { count % 2 ≡ 0 },
+}
+
+impl Even {
+    /// None.
+    pub fn none() -> Even {
+        Even { count: 0 }
+    }
+
+    // Two more, or none past the greatest.
+    fn two_more(&self) -> Even {
+        if self.count > u64::MAX - 2 {
+            return Even::none();
+        }
+        Even {
+            count: self.count + 2,
+        }
+    }
+}
+
+/// Counts on by two under the mutex, if it is free.
+pub fn count_on<R: Releases>(mutex: &Mutex<Even, R>) {
+    if let Some(mut guard) = mutex.try_lock() {
+        *guard = guard.two_more();
+    }
+}
+
+/// Reads the count under the mutex, if it is free: it is even, whoever counted.
+pub fn counted<R: Releases>(mutex: &Mutex<Even, R>) -> Option<u64>
+    ensures { IfSome result (λ count. count % 2 ≡ 0) }
+{
+    let guard = mutex.try_lock()?;
+    Some(guard.count)
 }

@@ -3,12 +3,14 @@
 //! While a guard reads nobody writes, so that two reads agree; and what the writer writes it reads again. Each function's contract is
 //! about values or locks, and no file of proofs stands beside it.
 
-ghost use Rattle.std.specs.Prelude.{◌≡◌, true, IfOk, IfSome};
+ghost use Rattle.std.specs.Prelude.{◌≡◌, true, false, IfOk, IfSome};
 ghost use Rattle.std.specs.Arc.{arc_value};
 ghost use Rattle.async_rwlock.specs.Stages.{IsFor};
 
 use async_lock::lock_futures::ReadArc;
-use async_lock::{Refusal, RwLock, RwLockReadGuard, RwLockUpgradableReadGuard, RwLockWriteGuard};
+use async_lock::{
+    Refusal, Releases, RwLock, RwLockReadGuard, RwLockUpgradableReadGuard, RwLockWriteGuard,
+};
 use std::alloc::AllocGlobal;
 use std::random::RandomSource;
 use std::sync::{Arc, Wait};
@@ -131,4 +133,38 @@ where
         return Ok(0);
     }
     Ok(exchanged(&first, number).unwrap_or(0))
+}
+
+/// Whether two write under one lock: never.
+pub fn is_written_twice<R: Releases>(lock: &RwLock<u64, R>) -> bool
+    ensures { result ≡ false }
+{
+    let (Some(first), Some(second)) = (lock.try_write(), lock.try_write()) else {
+        return false;
+    };
+    RwLockWriteGuard::never_two(first, second);
+    true
+}
+
+/// Whether two may upgrade under one lock: never.
+pub fn is_upgradable_twice<R: Releases>(lock: &RwLock<u64, R>) -> bool
+    ensures { result ≡ false }
+{
+    let (Some(first), Some(second)) = (lock.try_upgradable_read(), lock.try_upgradable_read())
+    else {
+        return false;
+    };
+    RwLockUpgradableReadGuard::never_two(first, second);
+    true
+}
+
+/// Whether one writes beside one that may upgrade: never.
+pub fn is_written_beside<R: Releases>(lock: &RwLock<u64, R>) -> bool
+    ensures { result ≡ false }
+{
+    let (Some(writer), Some(upgradable)) = (lock.try_write(), lock.try_upgradable_read()) else {
+        return false;
+    };
+    RwLockWriteGuard::never_beside_upgradable(writer, upgradable);
+    true
 }
