@@ -34,8 +34,10 @@ REFUSED = 400
 # The first allocation of what is tried, and the number after that of the last one: that run is refused nothing. (Of the workers' last
 # two allocations either may come first.)
 CALLS = (22, 188)
-SCRIPT = (3, 47)
+SCRIPT = (3, 49)
 THREADS = (4, 21)
+# The allocations of the script by which a list of weights asks for a wide row: if one is refused, it asks for the row that it needs.
+WIDE = {21, 22, 23, 46, 47, 48}
 
 # More than the allocations of a book of forty moves, and how often its history grows at least.
 BOOK, GROWS = 20, 4
@@ -174,12 +176,12 @@ def judge_held():
                 amiss(name, number, line, wanted)
 
 
-def judge_lockrun(name, numbers, allowed, done):
+def judge_lockrun(name, numbers, allowed, done, wide=()):
     first, last = numbers
     for number in range(first, last):
-        line = (seen(name, number) or ["nothing"])[0]
-        if line not in allowed:
-            amiss(name, number, line, allowed[0])
+        line, wanted = (seen(name, number) or ["nothing"])[0], [done] if number in wide else allowed
+        if line not in wanted:
+            amiss(name, number, line, wanted[0])
     if seen(name, first - 1) or seen(name, last)[:1] != [done]:
         wrong.append(f"{name}: {name.upper()} doesn't fit: {first} isn't the first allocation of a run, or {last - 1} isn't the last one")
 
@@ -197,7 +199,7 @@ def judge_book():
 judge_held()
 judge_book()
 judge_calls()
-judge_lockrun("script", SCRIPT, ["refused: no memory"], "answered")
+judge_lockrun("script", SCRIPT, ["refused: no memory"], "answered", WIDE)
 # A worker that comes late needn't wait, and then takes no memory.
 judge_lockrun("threads", THREADS, ["refused: no memory", "added up"], "added up")
 if ["refused: no memory", "1 held the lock"] not in printed.values():

@@ -34,8 +34,9 @@ wrong += [f"{file}: {name} is none of the Rust crate's" for file, name, _, _ in 
 def is_there(place):
     """Says whether this test, `crate::module::name`, stands in the sources of the tests."""
     crate, module, name = place.split("::")
-    paths = glob.glob(f"tests/{crate}/{module}.rattle")
-    return any(re.search(rf"^#\[test\]\nfn {name}\(", open(path).read(), flags=re.MULTILINE) for path in paths)
+    paths = glob.glob(f"tests/{crate}/{module}.rattle") + glob.glob(f"tests/{crate}/{module.removesuffix('_rows')}.rows")
+    story = name.replace("_", " ")
+    return any(re.search(rf"^#\[test\]\nfn {name}\(|^{story}: ", open(path).read(), flags=re.MULTILINE) for path in paths)
 
 
 tests = 0

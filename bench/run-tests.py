@@ -3,8 +3,8 @@
 
 usage: bench/run-tests.py [--jobs N] [--minutes FILE] [--into FOLDER] [NAME..]
 
-The tests stand in tests/NAME as *.rattle files: what the toolchain proves is each .rt file of crates/, and of a test the run is
-what tells. tests/tests.txt says what each stands on, as crates.txt does. They are laid out as modules of a few crates in a copy of the
+The tests stand in tests/NAME as *.rattle files, and as stories in *.rows files (bench/rows.py): what the toolchain proves is each .rt file of
+crates/, and of a test the run is what tells. tests/tests.txt says what each stands on, as crates.txt does. They are laid out as modules of a few crates in a copy of the
 repository, since to build a crate costs more than to run its tests, and `rt try --test` builds and runs these with checks of each
 address. A folder of tests/ with a main.rattle is a program. It is run as the programs of crates/ are: on its files stdin and args, and
 what it prints is compared with its file stdout, and its status with its file status. Or it has a folder cases, and is run on each file NAME there
@@ -33,13 +33,17 @@ import tempfile
 import time
 from concurrent.futures import ThreadPoolExecutor
 
+HERE = os.path.dirname(os.path.realpath(__file__))
+sys.path.insert(0, HERE)
+from rows import module  # noqa: E402
+
 # What a build takes of memory, in bytes, and for how long what was built may run, in seconds.
 MEMORY = 4_500_000_000
 SECONDS = 900
 # The walks do so much that they are built without checks of each address, and optimised.
 FAST = {'walks', 'whole_calls'}
 # `rt try`, by itself.
-TRY = [sys.executable, f'{os.path.dirname(os.path.realpath(__file__))}/kit.py']
+TRY = [sys.executable, f'{HERE}/kit.py']
 RAN = re.compile(r'test (\S+) \.\.\. (\w+)')
 TEST = re.compile(r'(?m)^\s*#\[test\]')
 
@@ -55,12 +59,15 @@ def listed(path):
     return {line.split(':')[0].split()[0]: line.split(':')[1].split() for line in lines if ':' in line}
 
 
-def sources(folder):
-    """Yields the *.rattle files of a folder, each by its path there without that ending."""
+def sources(top, folder):
+    """Yields the modules of a folder of tests, each by its path there, with its text: what NAME.rows says is the module NAME_rows."""
     for at, _, names in os.walk(folder):
         for name in sorted(names):
-            if name.endswith('.rattle'):
-                yield os.path.relpath(f'{at}/{name}', folder)[: -len('.rattle')]
+            stem, ending = os.path.splitext(os.path.relpath(f'{at}/{name}', folder))
+            if ending == '.rattle':
+                yield stem, text_of(f'{at}/{name}')
+            elif ending == '.rows':
+                yield f'{stem}_rows', module(top, folder, f'{at}/{name}')
 
 
 def write(path, text):
@@ -137,7 +144,7 @@ class Layout:
         for name in self.needs:
             if name in own or not is_wanted(name):
                 continue
-            if not any(TEST.search(text_of(f'{tests}/{name}/{it}.rattle')) for it in sources(f'{tests}/{name}')):
+            if not any(TEST.search(text) for _, text in sources(self.top, f'{tests}/{name}')):
                 continue
             shared = [it for it in self.needs[name] if it in self.needs]
             some = self.groups.setdefault(group_of(self.top, name), [])
@@ -147,8 +154,8 @@ class Layout:
         """Lays a program of tests/ out as a crate, with what it shares with tests as its modules, and returns what it stands on."""
         own, crate = f'{self.top}/tests/{name}', f'{self.folder}/crates/{name}'
         shared = [it for it in self.needs[name] if it in self.needs]
-        for path in sources(own):
-            text = self.among(shared, text_of(f'{own}/{path}.rattle'))
+        for path, text in sources(self.top, own):
+            text = self.among(shared, text)
             if path == 'main' and shared:
                 mark = '#![tactic(auto)]\n'
                 text = text.replace(mark, mark + '\n' + ''.join(f'mod {it};\n' for it in shared), 1)
@@ -173,8 +180,8 @@ class Layout:
     def lay_modules(self, crate, names, shared):
         for name in names:
             own = f'{self.top}/tests/{name}'
-            for path in sources(own):
-                text = re.sub(r'\bcrate::', f'crate::{name}::', text_of(f'{own}/{path}.rattle'))
+            for path, text in sources(self.top, own):
+                text = re.sub(r'\bcrate::', f'crate::{name}::', text)
                 text = re.sub(r'(?m)^#!\[tactic\(.*\)\]\n', '', self.among(shared, text))
                 write(f'{crate}/src/{name if path == "lib" else f"{name}/{path}"}.rt', text)
 

@@ -1,0 +1,123 @@
+"""Stories of tests as text: what run-tests.py makes of a file tests/NAME/*.rows.
+
+A file begins with a note, in lines '# ..', of what its stories are about. A story is one heading or several, each a test: what it says, a
+colon, and how it is played, as 'who waits is woken by a drop: both 1'. Below it, set in, stand its rows: 'two poll -> ready 1, 0 available,
+wakes nobody'. A note in lines '# ..' above a heading, or among the rows, is of what comes next.
+
+tests/NAME/rows.form says how such a text reads: a line 'row ..', with the type of each field in braces; lines 'play WORDS = CODE', in
+which {N} stands for a number and ROWS for the story's; the lines 'use ..' of the module that is made; and 'in NAME', where the types stand in
+another folder. A type is an enum of these folders, whose variants are told in words, with what they carry after them; a number; or 'Woken',
+the names of all who were woken, or 'nobody'.
+"""
+
+import glob
+import os
+import re
+
+WOKEN = 'Woken'
+REASONS = 'crates/lock_program/src/refusal.rt'
+
+
+def text_of(path):
+    with open(path, encoding='utf-8') as file:
+        return file.read()
+
+
+def words_of(variant):
+    """Returns a variant's name in words."""
+    return re.sub(r'(?<=[a-z])(?=[A-Z])', ' ', variant).lower()
+
+
+def enums_of(texts):
+    """Returns the variants of each plain enum: by its name, each in words with its own name and the types that it carries."""
+    found = {}
+    for text in texts:
+        for name, body in re.findall(r'(?ms)^\s*(?:pub(?:\(crate\))? )?enum (\w+) \{\n(.*?)^\s*\}', text):
+            variants = re.findall(r'(?m)^ +(\w+)(?:\(([^()]*)\))?(?: = \d+)?,$', body)
+            found[name] = {words_of(it): (it, [one.strip() for one in types.split(',') if one.strip()]) for it, types in variants}
+    return found
+
+
+class Form:
+    """How the rows of a folder read."""
+
+    def __init__(self, top, folder):
+        lines = text_of(f'{folder}/rows.form').split('\n')
+        of = lambda word: [line[len(word) + 1 :] for line in lines if line.startswith(f'{word} ')]
+        folders = [folder, *(f'{os.path.dirname(folder)}/{it}' for it in of('in'))]
+        texts = [text_of(it) for at in folders for it in sorted(glob.glob(f'{at}/*.rattle'))]
+        self.enums = enums_of([*texts, text_of(f'{top}/{REASONS}')])
+        self.woken = '[{}]' if any(f'type {WOKEN} = [' in it for it in texts) else '({})'
+        self.uses = [f'use {it}' for it in of('use')]
+        self.plays = [tuple(it.split(' = ', 1)) for it in of('play')]
+        (row,) = of('row')
+        self.row_text = row
+        self.types = re.findall(r'\{(\w+)\}', row)
+        self.row = re.compile(re.sub(r'\\\{\w+\\\}', '(.+?)', re.escape(row)))
+
+    def value(self, kind, words):
+        """Returns the code of the value of this type with which the words begin, and the words that are left."""
+        if kind == WOKEN:
+            names = [it for it, _ in self.enums['Name'].values()]
+            woken = set() if words == ['nobody'] else {word.capitalize() for word in words if word != 'and'}
+            assert woken <= set(names), words
+            return self.woken.format(', '.join(str(it in woken).lower() for it in names)), []
+        if kind not in self.enums:
+            return str(int(words[0])), words[1:]
+        for many in range(len(words), 0, -1):
+            if ' '.join(words[:many]) in self.enums[kind]:
+                variant, types = self.enums[kind][' '.join(words[:many])]
+                values, rest = [], words[many:]
+                for it in types:
+                    one, rest = self.value(it, rest)
+                    values.append(one)
+                return f"{kind}::{variant}" + f"({', '.join(values)})" * bool(values), rest
+        raise ValueError(f"no {kind} begins with '{' '.join(words)}'")
+
+    def fields(self, line):
+        """Returns the code of each field of a row."""
+        found = self.row.fullmatch(line)
+        if not found:
+            raise ValueError(f'no row: {line}')
+        values = []
+        for kind, text in zip(self.types, found.groups()):
+            value, left = self.value(kind, text.split())
+            if left:
+                raise ValueError(f"'{' '.join(left)}' is too much: {line}")
+            values.append(value)
+        return values
+
+    def played(self, how, rows):
+        """Returns the code that plays these rows."""
+        for words, code in self.plays:
+            found = re.fullmatch(words.replace('{N}', r'(\d+)'), how)
+            if found:
+                return code.replace('{N}', found[1] if found.groups() else '').replace('ROWS', rows)
+        raise ValueError(f'no way to play: {how}')
+
+
+def stories_of(text):
+    """Yields each story of a text: its headings, each with how it is played, and its rows."""
+    headings, rows = [], []
+    for line in [*text.split('\n'), 'end: end']:
+        if not line.strip() or line.lstrip().startswith('#'):
+            continue
+        if line.startswith(' '):
+            rows.append(line.strip())
+            continue
+        if rows:
+            yield headings, rows
+            headings, rows = [], []
+        headings.append(tuple(line.rsplit(': ', 1)))
+
+
+def module(top, folder, path):
+    """Returns the module of tests that a file of stories is."""
+    form, text = Form(top, folder), text_of(path)
+    lines = ['//! Stories as text.', '', *form.uses]
+    for number, (headings, rows) in enumerate(stories_of(text)):
+        name = f'ROWS_{number}'
+        lines += ['', f'const {name}: [Row; {len(rows)}] = [', *(f"    ({', '.join(form.fields(row))})," for row in rows), '];']
+        for said, how in headings:
+            lines += ['', '#[test]', f"fn {re.sub(r'[^a-z0-9]+', '_', said.lower())}(rt: HostRuntime) {{", f'    {form.played(how, f"&{name}")}', '}']
+    return '\n'.join(lines) + '\n'
