@@ -8,6 +8,9 @@ tests/NAME/rows.form says how such a text reads: a line 'row ..', with the type 
 which {N} stands for a number and ROWS for the story's; the lines 'use ..' of the module that is made; and 'in NAME', where the types stand in
 another folder. A type is an enum of these folders, whose variants are told in words, with what they carry after them; a number; or 'Woken',
 the names of all who were woken, or 'nobody'.
+
+A file NAME.text has rows of scripts: a line '== NAME', the script, a line that ends in '=>', and what it prints. NAME.scripts stands for such a
+text of the scripts of the folder that it names, in the order of their names.
 """
 
 import glob
@@ -111,7 +114,7 @@ def stories_of(text):
         headings.append(tuple(line.rsplit(': ', 1)))
 
 
-def module(top, folder, path):
+def tests_of(top, folder, path):
     """Returns the module of tests that a file of stories is."""
     form, text = Form(top, folder), text_of(path)
     lines = ['//! Stories as text.', '', *form.uses]
@@ -121,3 +124,33 @@ def module(top, folder, path):
         for said, how in headings:
             lines += ['', '#[test]', f"fn {re.sub(r'[^a-z0-9]+', '_', said.lower())}(rt: HostRuntime) {{", f'    {form.played(how, f"&{name}")}', '}']
     return '\n'.join(lines) + '\n'
+
+
+def texts(rows):
+    """Returns the module of a text of rows, with how many they are."""
+    assert '\\' not in rows and '"' not in rows
+    many = len(re.findall(r'(?m)^== ', rows))
+    return f'//! Rows as text.\n\npub const ROWS: &str = "\\\n{rows}";\n\npub const HOW_MANY: usize = {many};\n'
+
+
+def scripts(folder):
+    """Returns the text of a folder's scripts with their answers."""
+    said = []
+    for path in sorted(glob.glob(f'{folder}/*.script')):
+        stem = path.removesuffix('.script')
+        said.append(f'== {os.path.basename(stem)}\n{text_of(path)}=>\n{text_of(f"{stem}.answers")}')
+    return ''.join(said)
+
+
+def module_of(top, folder, path):
+    """Returns the name and the text of the module that a file of a test makes, or none where it makes none."""
+    stem, ending = os.path.splitext(os.path.relpath(path, folder))
+    if ending == '.rattle':
+        return stem, text_of(path)
+    if ending == '.rows':
+        return f'{stem}_rows', tests_of(top, folder, path)
+    if ending == '.text':
+        return stem, texts(text_of(path))
+    if ending == '.scripts':
+        return stem, texts(scripts(f'{top}/{text_of(path).strip()}'))
+    return None

@@ -3,7 +3,7 @@
 
 usage: bench/run-tests.py [--jobs N] [--minutes FILE] [--into FOLDER] [NAME..]
 
-The tests stand in tests/NAME as *.rattle files, and as stories in *.rows files (bench/rows.py): what the toolchain proves is each .rt file of
+The tests stand in tests/NAME as *.rattle files, and as texts (bench/rows.py): what the toolchain proves is each .rt file of
 crates/, and of a test the run is what tells. tests/tests.txt says what each stands on, as crates.txt does. They are laid out as modules of a few crates in a copy of the
 repository, since to build a crate costs more than to run its tests, and `rt try --test` builds and runs these with checks of each
 address. A folder of tests/ with a main.rattle is a program. It is run as the programs of crates/ are: on its files stdin and args, and
@@ -35,7 +35,7 @@ from concurrent.futures import ThreadPoolExecutor
 
 HERE = os.path.dirname(os.path.realpath(__file__))
 sys.path.insert(0, HERE)
-from rows import module  # noqa: E402
+from rows import module_of  # noqa: E402
 
 # What a build takes of memory, in bytes, and for how long what was built may run, in seconds.
 MEMORY = 4_500_000_000
@@ -60,14 +60,9 @@ def listed(path):
 
 
 def sources(top, folder):
-    """Yields the modules of a folder of tests, each by its path there, with its text: what NAME.rows says is the module NAME_rows."""
+    """Yields the modules of a folder of tests, each by its path there, with its text."""
     for at, _, names in os.walk(folder):
-        for name in sorted(names):
-            stem, ending = os.path.splitext(os.path.relpath(f'{at}/{name}', folder))
-            if ending == '.rattle':
-                yield stem, text_of(f'{at}/{name}')
-            elif ending == '.rows':
-                yield f'{stem}_rows', module(top, folder, f'{at}/{name}')
+        yield from filter(None, (module_of(top, folder, f'{at}/{name}') for name in sorted(names)))
 
 
 def write(path, text):
