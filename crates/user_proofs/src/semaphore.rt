@@ -22,7 +22,7 @@ pub fn lend_one<'a, R: Releases>(semaphore: &'a Semaphore<R>, item: u64) -> Opti
 
 /// Takes a lent item back.
 pub fn given_back<R: Releases>(lent: Lent<'_, R>) -> u64
-    ensures { result ≡ lent.item }
+    ensures { result ≡ lent.entry.item }
 {
     let Lent { item, permit } = lent;
     drop(permit);
@@ -32,7 +32,7 @@ pub fn given_back<R: Releases>(lent: Lent<'_, R>) -> u64
 /// Retires a lent item: its permit goes for good, and no other.
 pub fn retired<R: Releases>(lent: Lent<'_, R>) -> Lowered
     ensures one { result.permits ≡ 1 }
-    ensures seat { result.ended.forgotten ≡ lent.permit.seat.forgotten + 1 }
+    ensures seat { result.ended.forgotten ≡ lent.entry.permit.seat.forgotten + 1 }
 {
     let Lent { item: _, permit } = lent;
     permit.forget()
