@@ -34,7 +34,7 @@ REFUSED = 400
 # The first allocation of what is tried, and the number after that of the last one: that run is refused nothing. (Of the workers' last
 # two allocations either may come first.)
 CALLS = (22, 188)
-SCRIPT = (3, 49)
+SCRIPT = (3, 53)
 THREADS = (4, 21)
 # The allocations of the script by which a list of weights asks for a wide row: if one is refused, it asks for the row that it needs.
 WIDE = {21, 22, 23, 46, 47, 48}
