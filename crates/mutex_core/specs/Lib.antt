@@ -1,3 +1,4 @@
+pub mod Courses
 pub mod Locks
 pub mod Cells
 pub mod Outcomes

@@ -3,6 +3,12 @@ use Rattle.std.specs.Prelude.{◌≡◌, ℕ, Bool, true, false, List, [], ◌�
 use Rattle.std.specs.Coded.{Coded, code_by, coded×, coded_ℕ, coded_bool}
 use Rattle.atomic_table.specs.Seated.{TableId, table_id_coded}
 use Rattle.lock_place.specs.Held.{RoomId, room_id_coded}
+use Rattle.lock_program.specs.Mutex.{action_of, next_of}
+use Rattle.lock_program.specs.declared.end.Next.TheVariants.{Do}
+use Rattle.lock_program.specs.declared.mutex.Action.{Action}
+use Rattle.lock_program.specs.declared.mutex.Found.{Found}
+use Rattle.lock_program.specs.declared.mutex.Place.{Place}
+use Rattle.mutex_core.specs.Courses.{Course, course_coded, outside, holding}
 use Rattle.words_mutex.specs.declared.view.View.{View}
 
 -- Which right to a value it is: where the value lay when the lock was made, and the spare that the right may wait in.
@@ -26,8 +32,8 @@ pub record Lock : Type 0 where
 abbrev pub lock_coded : Coded Lock
 lock_coded = code_by (TableId × (RightId × (RoomId × (ℕ × (ℕ × Bool))))) (coded× table_id_coded (coded× right_id_coded (coded× room_id_coded (coded× coded_ℕ (coded× coded_ℕ coded_bool))))) (λ l. (l.table, (l.right, (l.room, (l.source, (l.limit, l.is_left)))))) (λ p. record { table = p.0; right = p.1.0; room = p.1.1.0; source = p.1.1.1.0; limit = p.1.1.1.1.0; is_left = p.1.1.1.1.1 }) (λ _. refl)
 
--- A seat: of which table and right it is, whether it holds the lock, is counted as starved, owes, has an entry, and has not looked since it joined; and how
--- many were starved when it last got the lock.
+-- A seat: of which table and right it is, whether it holds the lock, is counted as starved, owes, has an entry, and has not looked since it joined; how
+-- many were starved when it last got the lock; and where it is in its program.
 pub record Seated : Type 0 where
   pub table : TableId
   pub right : RightId
@@ -37,12 +43,13 @@ pub record Seated : Type 0 where
   pub listed : Bool
   pub fresh : Bool
   pub passed : ℕ
+  pub course : Course
 
 abbrev pub seated_coded : Coded Seated
-seated_coded = code_by (TableId × (RightId × (Bool × (Bool × (Bool × (Bool × (Bool × ℕ))))))) (coded× table_id_coded (coded× right_id_coded (coded× coded_bool (coded× coded_bool (coded× coded_bool (coded× coded_bool (coded× coded_bool coded_ℕ))))))) (λ s. (s.table, (s.right, (s.holds, (s.starved, (s.owes, (s.listed, (s.fresh, s.passed)))))))) (λ p. record { table = p.0; right = p.1.0; holds = p.1.1.0; starved = p.1.1.1.0; owes = p.1.1.1.1.0; listed = p.1.1.1.1.1.0; fresh = p.1.1.1.1.1.1.0; passed = p.1.1.1.1.1.1.1 }) (λ _. refl)
+seated_coded = code_by (TableId × (RightId × (Bool × (Bool × (Bool × (Bool × (Bool × (ℕ × Course)))))))) (coded× table_id_coded (coded× right_id_coded (coded× coded_bool (coded× coded_bool (coded× coded_bool (coded× coded_bool (coded× coded_bool (coded× coded_ℕ course_coded)))))))) (λ s. (s.table, (s.right, (s.holds, (s.starved, (s.owes, (s.listed, (s.fresh, (s.passed, s.course))))))))) (λ p. record { table = p.0; right = p.1.0; holds = p.1.1.0; starved = p.1.1.1.0; owes = p.1.1.1.1.0; listed = p.1.1.1.1.1.0; fresh = p.1.1.1.1.1.1.0; passed = p.1.1.1.1.1.1.1.0; course = p.1.1.1.1.1.1.1.1 }) (λ _. refl)
 
-abbrev pub seated : TableId → View → Seated
-seated table v = record { table = table; right = record { room = v.room; deed = v.deed }; holds = v.holds; starved = v.starved; owes = v.owes; listed = v.listed; fresh = v.fresh; passed = v.passed }
+abbrev pub seated : TableId → View → Course → Seated
+seated table v course = record { table = table; right = record { room = v.room; deed = v.deed }; holds = v.holds; starved = v.starved; owes = v.owes; listed = v.listed; fresh = v.fresh; passed = v.passed; course = course }
 
 -- The seat is one of the lock.
 abbrev pub IsOf : Lock → Seated → Type 0
@@ -55,7 +62,7 @@ HasSlots false slots = slots ≡ []
 
 -- a seat with nothing
 abbrev pub entering : Lock → Seated
-entering lock = record { table = lock.table; right = lock.right; holds = false; starved = false; owes = false; listed = false; fresh = false; passed = 0 }
+entering lock = record { table = lock.table; right = lock.right; holds = false; starved = false; owes = false; listed = false; fresh = false; passed = 0; course = outside }
 
 -- it has got the lock while n were starved
 abbrev pub with_got : Seated → ℕ → Seated
@@ -94,6 +101,19 @@ with_count_owing s = record s { starved = true; owes = true }
 abbrev pub with_uncounted : Seated → Seated
 with_uncounted s = record s { starved = false }
 
--- it holds the lock, and has and owes nothing else
+-- it holds the lock, has and owes nothing else, and is outside every call
 abbrev pub IsHolding : Seated → Type 0
-IsHolding s = (s.holds ≡ true) × (s.starved ≡ false) × (s.owes ≡ false) × (s.listed ≡ false) × (s.fresh ≡ false)
+IsHolding s = (s.holds ≡ true) × (s.starved ≡ false) × (s.owes ≡ false) × (s.listed ≡ false) × (s.fresh ≡ false) × (s.course ≡ holding)
+
+module _ (at : Place) where
+  -- its call has come to this place, whose action is this
+  abbrev pub IsAt : Action → Seated → Type 0
+  IsAt act s = (s.course ≡ Do at) × (action_of at ≡ act)
+
+  -- the action of this place found this
+  abbrev pub goes : Found → Seated → Seated
+  goes found s = record s { course = next_of at found }
+
+-- it begins a call, at this place
+abbrev pub with_begun : Place → Seated → Seated
+with_begun at s = record s { course = Do at }

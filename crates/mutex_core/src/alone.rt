@@ -22,8 +22,11 @@ impl<T> Words<T> {
         } = other;
         drop(hold.park());
         drop(right.park());
-        let Seat { inner } = seat;
-        let Seat { inner: second } = twin;
+        let Seat { inner, course: _ } = seat;
+        let Seat {
+            inner: second,
+            course: _,
+        } = twin;
         never_two(&self.table.shared, inner, second);
     }
 }

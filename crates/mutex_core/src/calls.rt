@@ -2,7 +2,9 @@
 
 ghost use Rattle.std.specs.Prelude.{◌≡◌, true, false, IfNone, IfOk, IfSome, OnOk, OnErr};
 ghost use Rattle.futures.specs.Task.{Keeps};
-ghost use Rattle.mutex_core.specs.Locks.{IsOf, with_joined, with_told, with_paid, with_gone};
+ghost use Rattle.lock_program.specs.declared.mutex.Action.TheVariants as act;
+ghost use Rattle.lock_program.specs.declared.mutex.Found.TheVariants as finds;
+ghost use Rattle.mutex_core.specs.Locks.{IsAt, IsOf, goes, with_joined, with_told, with_paid, with_gone};
 ghost use Rattle.lock_queue.specs.Receipts.{IsReceipt};
 
 use crate::cell::MOST;
@@ -13,6 +15,7 @@ use crate::seat::Seat;
 use crate::words::Words;
 use futures::task::Context;
 use lock_event::{EntryId, Memory};
+use lock_program::mutex::{Found, Place};
 use lock_queue::Whose;
 use std::sync::Wait;
 use words_mutex::steps::{LIST, NOTIFICATION, give_gone, give_joined, give_paid, give_same};
@@ -29,11 +32,12 @@ pub struct Joined {
 impl<T> Words<T> {
     /// Joins the list at the back, with no waker. The seat has not looked since then. [`Memory`] comes only if memory was refused, and
     /// nothing has changed then.
-    pub fn join<R: Wait>(&self, rt: &R, seat: &mut Seat<T>) -> Result<EntryId, Memory>
+    pub fn join<R: Wait>(&self, rt: &R, seat: &mut Seat<T>, at: Place) -> Result<EntryId, Memory>
         requires of { IsOf self.now seat.old }
+        requires course { IsAt at act.Join seat.old }
         requires away { (seat.old.listed ≡ false) × (seat.old.starved ≡ true → seat.old.owes ≡ true) }
-        ensures joined { OnOk result (seat.new ≡ with_joined seat.old) }
-        ensures refused { OnErr result (seat.new ≡ seat.old) }
+        ensures joined { OnOk result (seat.new ≡ goes at finds.Done (with_joined seat.old)) }
+        ensures refused { OnErr result (seat.new ≡ goes at finds.NoMemory seat.old) }
     {
         let shared = &self.table.shared;
         let found = take_out(shared, rt, &mut seat.inner);
@@ -42,11 +46,13 @@ impl<T> Words<T> {
             Ok(id) => {
                 let found = give_joined(shared, &mut seat.inner, word);
                 wake_next(shared, found);
+                seat.go(at, Found::Done);
                 Ok(id)
             }
             Err(memory) => {
                 let found = give_same(shared, &mut seat.inner, word);
                 wake_next(shared, found);
+                seat.go(at, Found::NoMemory);
                 Err(memory)
             }
         }
@@ -58,11 +64,13 @@ impl<T> Words<T> {
         rt: &R,
         seat: &mut Seat<T>,
         cx: &mut Context<'_>,
+        at: Place,
     ) -> Result<Joined, Memory>
         requires of { IsOf self.now seat.old }
+        requires course { IsAt at act.Join seat.old }
         requires away { (seat.old.listed ≡ false) × (seat.old.starved ≡ true → seat.old.owes ≡ true) }
-        ensures joined { OnOk result (seat.new ≡ with_joined seat.old) }
-        ensures refused { OnErr result (seat.new ≡ seat.old) }
+        ensures joined { OnOk result (seat.new ≡ goes at finds.Done (with_joined seat.old)) }
+        ensures refused { OnErr result (seat.new ≡ goes at finds.NoMemory seat.old) }
         ensures keeps { IfOk result (λ joined. IsReceipt self.now.source cx.new joined.whose) }
         ensures kept { Keeps cx.old cx.new }
     {
@@ -80,11 +88,13 @@ impl<T> Words<T> {
             Ok((id, whose)) => {
                 let found = give_joined(shared, &mut seat.inner, word);
                 wake_next(shared, found);
+                seat.go(at, Found::Done);
                 Ok(Joined { id, whose, word })
             }
             Err(memory) => {
                 let found = give_same(shared, &mut seat.inner, word);
                 wake_next(shared, found);
+                seat.go(at, Found::NoMemory);
                 Err(memory)
             }
         }
@@ -92,31 +102,35 @@ impl<T> Words<T> {
 
     /// Notifies the first who waits, unless one is notified, and calls its waker. The seat owes nothing any more.
     #[inline(never)]
-    pub fn notify<R: Wait>(&self, rt: &R, seat: &mut Seat<T>)
+    pub fn notify<R: Wait>(&self, rt: &R, seat: &mut Seat<T>, at: Place)
         requires of { IsOf self.now seat.old }
+        requires course { IsAt at act.Notify seat.old }
         requires stands { seat.old.starved ≡ true → (seat.old.listed ≡ true) × (seat.old.fresh ≡ false) }
-        ensures { seat.new ≡ with_paid seat.old }
+        ensures { seat.new ≡ goes at finds.Done (with_paid seat.old) }
     {
         let shared = &self.table.shared;
         let found = take_out(shared, rt, &mut seat.inner);
         let (due, word) = notify_in(shared, &mut seat.inner, found);
         let found = give_paid(shared, &mut seat.inner, word);
         wake_next(shared, found);
+        seat.go(at, Found::Done);
         drop(due.pay());
     }
 
     /// Takes the entry of this id out of the list without asking, which is the seat's. A notification that it had goes on to the next. The
     /// entry's own waker is dropped, by which the kit wakes its task once more.
-    pub fn leave<R: Wait>(&self, rt: &R, seat: &mut Seat<T>, id: EntryId)
+    pub fn leave<R: Wait>(&self, rt: &R, seat: &mut Seat<T>, id: EntryId, at: Place)
         requires of { IsOf self.now seat.old }
+        requires course { IsAt at act.Leave seat.old }
         requires stands { (seat.old.listed ≡ true) × (seat.old.fresh ≡ false) × (seat.old.starved ≡ false) }
-        ensures { seat.new ≡ with_gone seat.old }
+        ensures { seat.new ≡ goes at finds.Done (with_gone seat.old) }
     {
         let shared = &self.table.shared;
         let found = take_out(shared, rt, &mut seat.inner);
         let (kept, due, word) = leave_in(shared, &mut seat.inner, id, found);
         let found = give_gone(shared, &mut seat.inner, word);
         wake_next(shared, found);
+        seat.go(at, Found::Done);
         drop(kept);
         drop(due.pay());
     }
@@ -130,43 +144,61 @@ impl<T> Words<T> {
         seat: &mut Seat<T>,
         id: EntryId,
         cx: &mut Context<'_>,
+        at: Place,
     ) -> Option<Whose>
         requires of { IsOf self.now seat.old }
+        requires course { IsAt at act.Ask seat.old }
         requires stands { (seat.old.listed ≡ true) × (seat.old.fresh ≡ false) }
-        ensures told { IfNone result ((seat.new ≡ with_told seat.old) × (cx.new ≡ cx.old)) }
-        ensures waits { IfSome result (λ whose. (seat.new ≡ seat.old) × IsReceipt self.now.source cx.new whose) }
+        ensures told { IfNone result ((seat.new ≡ goes at finds.Yes (with_told seat.old)) × (cx.new ≡ cx.old)) }
+        ensures waits { IfSome result (λ whose. (seat.new ≡ goes at finds.No seat.old) × IsReceipt self.now.source cx.new whose) }
         ensures kept { Keeps cx.old cx.new }
     {
         let shared = &self.table.shared;
         let found = take_out(shared, rt, &mut seat.inner);
         let (heard, word) = ask_in(shared, &mut seat.inner, id, &self.source, cx, found);
-        give_asked(shared, &mut seat.inner, heard, word)
+        let kept = give_asked(shared, &mut seat.inner, heard, word);
+        seat.go(at, answer(kept.is_some()));
+        kept
     }
 
     // The same, of an entry that keeps the waker that it has: whether it waits.
     #[cold]
     #[inline(never)]
-    fn ask_again<R: Wait>(&self, rt: &R, seat: &mut Seat<T>, id: EntryId) -> bool
+    fn ask_again<R: Wait>(&self, rt: &R, seat: &mut Seat<T>, id: EntryId, at: Place) -> bool
         requires of { IsOf self.now seat.old }
+        requires course { IsAt at act.Ask seat.old }
         requires stands { (seat.old.listed ≡ true) × (seat.old.fresh ≡ false) }
-        ensures told { result ≡ false → seat.new ≡ with_told seat.old }
-        ensures waits { result ≡ true → seat.new ≡ seat.old }
+        ensures told { result ≡ false → seat.new ≡ goes at finds.Yes (with_told seat.old) }
+        ensures waits { result ≡ true → seat.new ≡ goes at finds.No seat.old }
     {
         let shared = &self.table.shared;
         let found = take_out(shared, rt, &mut seat.inner);
         let (heard, word) = ask_again_in(shared, &mut seat.inner, id, found);
-        give_asked(shared, &mut seat.inner, heard, word).is_some()
+        let waits = give_asked(shared, &mut seat.inner, heard, word).is_some();
+        seat.go(at, answer(waits));
+        waits
     }
 
     /// Whether an entry waits that has joined with a waker: one load, where the list was not notified since. Else it asks for its
     /// notification, as [`Words::ask`] does.
-    pub fn still_waits<R: Wait>(&self, rt: &R, seat: &mut Seat<T>, joined: &Joined) -> bool
+    pub fn still_waits<R: Wait>(
+        &self,
+        rt: &R,
+        seat: &mut Seat<T>,
+        joined: &Joined,
+        at: Place,
+    ) -> bool
         requires of { IsOf self.now seat.old }
+        requires course { IsAt at act.Ask seat.old }
         requires stands { (seat.old.listed ≡ true) × (seat.old.fresh ≡ false) }
-        ensures told { result ≡ false → seat.new ≡ with_told seat.old }
-        ensures waits { result ≡ true → seat.new ≡ seat.old }
+        ensures told { result ≡ false → seat.new ≡ goes at finds.Yes (with_told seat.old) }
+        ensures waits { result ≡ true → seat.new ≡ goes at finds.No seat.old }
     {
-        self.is_still(joined.word) || self.ask_again(rt, seat, joined.id)
+        if self.is_still(joined.word) {
+            seat.go(at, Found::No);
+            return true;
+        }
+        self.ask_again(rt, seat, joined.id, at)
     }
 
     // Whether the list was not notified since its word was this.
@@ -174,4 +206,13 @@ impl<T> Words<T> {
         let told = word / NOTIFICATION;
         told < MOST && self.table.shared.peek(LIST) / NOTIFICATION == told
     }
+}
+
+// What an entry that asks finds: whether it was notified.
+#[inline(always)]
+fn answer(waits: bool) -> Found
+    ensures told { waits ≡ false → result ≡ finds.Yes }
+    ensures waits { waits ≡ true → result ≡ finds.No }
+{
+    if waits { Found::No } else { Found::Yes }
 }

@@ -3,7 +3,9 @@
 ghost use Rattle.std.specs.Prelude.{◌≡◌, ◌%◌, ◌∷◌, ◌⊎◌, [], true, false, IfOk, IsSome};
 ghost use Rattle.atomic_table.specs.Table.{rest};
 ghost use Rattle.mutex_core.specs.Cells.{cell_len, cell_marked, HasRightOf};
-ghost use Rattle.mutex_core.specs.Locks.{IsOf, with_got, with_held, with_look};
+ghost use Rattle.lock_program.specs.declared.mutex.Action.TheVariants as act;
+ghost use Rattle.lock_program.specs.declared.mutex.Found.TheVariants as finds;
+ghost use Rattle.mutex_core.specs.Locks.{IsAt, IsOf, goes, with_got, with_held, with_look};
 ghost use Rattle.mutex_core.specs.Outcomes.{IsRightOf};
 ghost use Rattle.mutex_core.specs.declared.cell.Cell.{Cell};
 ghost use Rattle.words_mutex.specs.Seats.{saw_held_of};
@@ -13,7 +15,8 @@ ghost use Rattle.words_base.specs.Tries.{OnAlone, OnTaking};
 use crate::list_steps::{Lister, Listing, notify_in};
 use crate::seat::Seat;
 use crate::words::{Words, take_right};
-use lock_place::{Hold, Place, Spare};
+use lock_place::{Hold, Place as ValuePlace, Spare};
+use lock_program::mutex::{Found, Place};
 use std::alloc::Global;
 use std::sync::Wait;
 use words_base::{Taking, TakingAlone};
@@ -69,31 +72,35 @@ impl<T> Words<T> {
     /// Looks at the lock inside a poll, and takes it if it is free and nobody is starved, as [`Words::take`]. A lock that was left held is
     /// found held.
     #[inline]
-    pub fn look<R: Wait>(&self, rt: &R, seat: &mut Seat<T>) -> Taking<Hold<T>>
+    pub fn look<R: Wait>(&self, rt: &R, seat: &mut Seat<T>, at: Place) -> Taking<Hold<T>>
         requires of { IsOf self.now seat.old }
+        requires course { IsAt at act.Take seat.old }
         requires idle { seat.old.holds ≡ false }
         requires stands { seat.old.starved ≡ true → seat.old.listed ≡ true }
-        ensures { OnTaking result (λ hold. (seat.new ≡ with_got seat.old 0) × IsRightOf self.now hold) (seat.new ≡ with_held seat.old) ((seat.new ≡ with_look seat.old) ⊎ (seat.new ≡ with_held seat.old)) }
+        ensures { OnTaking result (λ hold. (seat.new ≡ goes at finds.Free (with_got seat.old 0)) × IsRightOf self.now hold) (seat.new ≡ goes at (finds.Held false) (with_held seat.old)) ((seat.new ≡ goes at finds.SomeStarved (with_look seat.old)) ⊎ (seat.new ≡ goes at finds.SomeStarved (with_held seat.old))) }
     {
         if self.left.is_some() {
             find_held(&self.table.shared, rt, &mut seat.inner);
+            seat.go(at, Found::Held { starving: false });
             return Taking::Held;
         }
-        self.take(seat)
+        self.take(seat, at)
     }
 
     /// The same, by the only one who is starved, as [`Words::take_alone`].
-    pub fn look_alone<R: Wait>(&self, rt: &R, seat: &mut Seat<T>) -> TakingAlone<Hold<T>>
+    pub fn look_alone<R: Wait>(&self, rt: &R, seat: &mut Seat<T>, at: Place) -> TakingAlone<Hold<T>>
         requires of { IsOf self.now seat.old }
+        requires course { IsAt at act.TakeAlone seat.old }
         requires idle { seat.old.holds ≡ false }
         requires stands { (seat.old.starved ≡ true) × (seat.old.listed ≡ true) }
-        ensures { OnAlone result (λ hold. (seat.new ≡ with_got seat.old 1) × IsRightOf self.now hold) (seat.new ≡ with_held seat.old) (seat.new ≡ with_look seat.old) }
+        ensures { OnAlone result (λ hold. (seat.new ≡ goes at finds.Free (with_got seat.old 1)) × IsRightOf self.now hold) (seat.new ≡ goes at (finds.Held false) (with_held seat.old)) (seat.new ≡ goes at finds.SomeStarved (with_look seat.old)) }
     {
         if self.left.is_some() {
             find_held(&self.table.shared, rt, &mut seat.inner);
+            seat.go(at, Found::Held { starving: false });
             return TakingAlone::Held;
         }
-        self.take_alone(seat)
+        self.take_alone(seat, at)
     }
 }
 
@@ -115,7 +122,7 @@ fn find_held<T, R: Wait>(shared: &Listing<T>, rt: &R, inner: &mut Lister<T>)
 }
 
 // A new right, past a forgotten seat's, and a new spare for it.
-fn renew<T>(spare: &mut Spare<T>, place: &mut Place<T, Global>) -> Hold<T>
+fn renew<T>(spare: &mut Spare<T>, place: &mut ValuePlace<T, Global>) -> Hold<T>
     ensures hold { result.room_id ≡ place.new.room.room_id }
     ensures spare { spare.new.room_id ≡ place.new.room.room_id }
 {
@@ -129,7 +136,7 @@ fn renew<T>(spare: &mut Spare<T>, place: &mut Place<T, Global>) -> Hold<T>
 fn regain<T>(
     shared: &Listing<T>,
     spare: &mut Spare<T>,
-    place: &mut Place<T, Global>,
+    place: &mut ValuePlace<T, Global>,
 ) -> Result<Hold<T>, WasHeld>
     requires size { (shared.now.table_id.words ≡ 2) × (shared.now.table_id.slots ≡ 2) }
     requires key { (shared.now.key.room_id ≡ place.old.room.room_id) × (shared.now.key.deed ≡ spare.old.deed) × (spare.old.room_id ≡ place.old.room.room_id) × IsSome spare.old.value }
@@ -139,7 +146,7 @@ fn regain<T>(
     let mut inner = shared.load_new_seat::<Keep>(WORD).1;
     let word = lift(shared, &mut inner);
     if word % COUNT == HELD {
-        Seat { inner }.rise();
+        drop(inner);
         return Err(WasHeld::found(word));
     }
     let hold = take_right(shared, spare, &mut inner);
@@ -169,5 +176,5 @@ fn give_all_back<T>(shared: &Listing<T>, inner: Lister<T>, found: u64)
     let found = give_paid(shared, &mut inner, word);
     wake_next(shared, found);
     drop(due.pay());
-    Seat { inner }.rise();
+    drop(inner);
 }

@@ -11,6 +11,7 @@ mod cell;
 mod left;
 mod list_steps;
 mod mutex;
+mod patience;
 mod seat;
 mod turn;
 mod watch;

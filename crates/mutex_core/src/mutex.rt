@@ -1,13 +1,19 @@
 //! Whole calls of a mutex, action by action as its program has them.
 //!
-//! The comments name the places of the program's table, which are `lock_program`'s.
+//! Each action names its place in the table of `lock_program`, and asks that the call has come to it.
 
 ghost use Rattle.std.specs.Prelude.{◌≡◌, true, false, IfSome, MatchResult, Option};
 ghost use Rattle.futures.specs.Task.{Keeps};
+ghost use Rattle.lock_program.specs.Mutex.{next_of};
+ghost use Rattle.lock_program.specs.declared.end.Next.TheVariants.{Do};
+ghost use Rattle.lock_program.specs.declared.mutex.Found.TheVariants as finds;
+ghost use Rattle.lock_program.specs.declared.mutex.Place.TheVariants as at;
+ghost use Rattle.mutex_core.specs.Courses.{IsFirst, IsOutside, notifying_of, pending, refusing, striving_from, waiting_from};
 ghost use Rattle.mutex_core.specs.Locks.{IsOf};
 ghost use Rattle.mutex_core.specs.Outcomes.{IsGivenUp, IsHeldOf, IsKept, IsOutcomeOf, IsRightOf, WaitsSince};
 ghost use Rattle.std.specs.declared.time.Instant.{Instant};
 
+use crate::patience::{first_of, now};
 use crate::seat::Seat;
 use crate::turn::{Held, Outcome, Vain, Waiting};
 use crate::words::Words;
@@ -15,29 +21,30 @@ use futures::task::Context;
 use lock_event::{EntryId, Memory};
 use lock_place::Hold;
 use lock_program::Refusal;
+use lock_program::mutex::{LockCall, Place};
 use lock_queue::Whose;
 use std::sync::Wait;
-use std::time::{Clock, Duration, Instant};
+use std::time::{Clock, Instant};
 use words_base::{Setting, Taking, TakingAlone};
 
-/// How long a waiter is overtaken by newcomers before it counts as starved, in microseconds.
-const PATIENCE: u64 = 500;
-
 impl<T> Words<T> {
-    /// Takes the lock, if it is free and nobody is starved. It is the first action of a try and of a first poll, which goes on by
+    /// Takes the lock, if it is free and nobody is starved: the only action of a try, or the first of a poll, which goes on by
     /// [`Words::poll_first`] where it was in vain.
     #[inline]
-    pub fn first_look(&self) -> Result<Held<T>, Vain<T>>
-        ensures { MatchResult result (IsHeldOf self.now) (λ vain. IsOf self.now vain.seat) }
+    pub fn first_look(&self, call: LockCall, at: Place) -> Result<Held<T>, Vain<T>>
+        requires { IsFirst call at }
+        ensures { MatchResult result (IsHeldOf self.now) (λ vain. IsOf self.now vain.seat × (vain.seat.course ≡ next_of at (finds.Held false))) }
     {
         let mut seat = self.sit();
+        seat.begin(call, at);
         if self.left.is_some() {
+            self.find_left(&mut seat, at);
             return Err(Vain {
                 seat,
                 is_free: false,
             });
         }
-        match self.take(&mut seat) {
+        match self.take(&mut seat, at) {
             Taking::Got(hold) => Ok(Held { seat, hold }),
             Taking::Held => Err(Vain {
                 seat,
@@ -55,18 +62,10 @@ impl<T> Words<T> {
     pub fn try_lock(&self) -> Option<Held<T>>
         ensures { IfSome result (IsHeldOf self.now) }
     {
-        if self.left.is_some() {
-            return None;
-        }
-        let mut seat = self.sit();
-        match self.take(&mut seat) {
-            Taking::Got(hold) => Some(Held { seat, hold }),
-            Taking::Held => {
-                seat.rise();
-                None
-            }
-            Taking::Starved => {
-                seat.rise();
+        match self.first_look(LockCall::Try, Place::Try) {
+            Ok(held) => Some(held),
+            Err(vain) => {
+                vain.end();
                 None
             }
         }
@@ -78,9 +77,10 @@ impl<T> Words<T> {
         requires { IsHeldOf self.now held }
     {
         let Held { mut seat, hold } = held;
-        self.clear(&mut seat, hold);
-        if self.may_have_entries(&mut seat) {
-            self.notify(rt, &mut seat);
+        seat.begin(LockCall::Release, Place::Clear);
+        self.clear(&mut seat, hold, Place::Clear);
+        if self.may_have_entries(&mut seat, Place::ReleaseNotify) {
+            self.notify(rt, &mut seat, Place::ReleaseNotify);
         }
         seat.rise();
     }
@@ -96,7 +96,8 @@ impl<T> Words<T> {
         cx: &mut Context<'_>,
         vain: Vain<T>,
     ) -> Outcome<T>
-        requires { IsOf self.now vain.seat }
+        requires of { IsOf self.now vain.seat }
+        requires course { vain.seat.course ≡ Do (at.Join false) }
         ensures outcome { IsOutcomeOf self.now cx.new result }
         ensures kept { Keeps cx.old cx.new }
     {
@@ -105,22 +106,19 @@ impl<T> Words<T> {
         if is_free {
             return self.wait(rt, cx, seat, None, false);
         }
-        // Join
-        let joined = match self.join_waking(rt, &mut seat, cx) {
+        let joined = match self.join_waking(rt, &mut seat, cx, Place::Join { told: false }) {
             Ok(joined) => joined,
             Err(Memory) => {
-                seat.rise();
-                return Outcome::Refused(Refusal::Memory);
+                return Outcome::Refused(self.refuse(rt, seat, false, Refusal::Memory));
             }
         };
-        // Look: whoever gave the lock back before it joined told nobody
-        match self.look(rt, &mut seat) {
+        // Whoever gave the lock back before it joined told nobody.
+        match self.look(rt, &mut seat, Place::Look { told: false }) {
             Taking::Got(hold) => return Outcome::Got(self.leave_with(rt, seat, hold, joined.id)),
             Taking::Held => {}
             Taking::Starved => return self.count_here(rt, cx, seat, joined.id, false),
         }
-        // Ask
-        if self.still_waits(rt, &mut seat, &joined) {
+        if self.still_waits(rt, &mut seat, &joined, Place::Ask) {
             return Outcome::Waits(Waiting {
                 seat,
                 id: joined.id,
@@ -152,8 +150,13 @@ impl<T> Words<T> {
             since,
             is_starved,
         } = waiting;
-        // Ask, or AskStarved
-        if let Some(whose) = self.ask(rt, &mut seat, id, cx) {
+        let at = if is_starved {
+            Place::AskStarved
+        } else {
+            Place::Ask
+        };
+        seat.begin(LockCall::Poll, at);
+        if let Some(whose) = self.ask(rt, &mut seat, id, cx, at) {
             return Outcome::Waits(Waiting {
                 seat,
                 id,
@@ -181,12 +184,13 @@ impl<T> Words<T> {
             since: _,
             is_starved,
         } = waiting;
-        // CancelUncount
         if is_starved {
-            self.uncount(&mut seat);
+            seat.begin(LockCall::Cancel, Place::CancelUncount);
+            self.uncount(&mut seat, Place::CancelUncount);
+        } else {
+            seat.begin(LockCall::Cancel, Place::CancelLeave);
         }
-        // CancelLeave
-        self.leave(rt, &mut seat, id);
+        self.leave(rt, &mut seat, id, Place::CancelLeave);
         seat.rise();
     }
 
@@ -196,11 +200,11 @@ impl<T> Words<T> {
     fn leave_with<R: Wait>(&self, rt: &R, seat: Seat<T>, hold: Hold<T>, id: EntryId) -> Held<T>
         requires of { IsOf self.now seat }
         requires right { IsRightOf self.now hold }
-        requires holds { (seat.holds ≡ true) × (seat.starved ≡ false) × (seat.owes ≡ false) × (seat.listed ≡ true) × (seat.fresh ≡ false) }
+        requires holds { (seat.holds ≡ true) × (seat.starved ≡ false) × (seat.owes ≡ false) × (seat.listed ≡ true) × (seat.fresh ≡ false) × (seat.course ≡ Do at.Leave) }
         ensures { IsHeldOf self.now result }
     {
         let mut seat = seat;
-        self.leave(rt, &mut seat, id);
+        self.leave(rt, &mut seat, id, Place::Leave);
         Held { seat, hold }
     }
 
@@ -217,6 +221,7 @@ impl<T> Words<T> {
         requires of { IsOf self.now seat }
         requires idle { (seat.holds ≡ false) × (seat.starved ≡ false) × (seat.listed ≡ false) × (seat.fresh ≡ false) }
         requires told { told ≡ false → seat.owes ≡ false }
+        requires course { seat.course ≡ Do (waiting_from told) }
         ensures outcome { IsOutcomeOf self.now cx.new result }
         ensures since { WaitsSince since result }
         ensures kept { Keeps cx.old cx.new }
@@ -225,22 +230,17 @@ impl<T> Words<T> {
         let mut told = told;
         for _ in rt.forever() {
             if told {
-                // Retry, and PassOn
-                match self.look(rt, &mut seat) {
-                    Taking::Got(hold) => return Outcome::Got(Held { seat, hold }),
-                    Taking::Held => {
-                        if has_waited_long(rt, &since) {
-                            return self.count_away(rt, cx, seat);
-                        }
-                    }
-                    Taking::Starved => {
-                        self.notify(rt, &mut seat);
+                match self.retry(rt, &mut seat, &since) {
+                    (Taking::Got(hold), _) => return Outcome::Got(Held { seat, hold }),
+                    (Taking::Held, false) => {}
+                    (Taking::Held, true) => return self.count_away(rt, cx, seat),
+                    (Taking::Starved, _) => {
+                        self.notify(rt, &mut seat, Place::PassOn);
                         return self.count_away(rt, cx, seat);
                     }
                 }
             }
-            // Join
-            let id = match self.join(rt, &mut seat) {
+            let id = match self.join(rt, &mut seat, Place::Join { told }) {
                 Ok(id) => id,
                 Err(Memory) => return Outcome::Refused(self.refuse(
                     rt,
@@ -249,14 +249,12 @@ impl<T> Words<T> {
                     Refusal::Memory,
                 )),
             };
-            // Look, as after every join
-            match self.look(rt, &mut seat) {
+            match self.look(rt, &mut seat, Place::Look { told }) {
                 Taking::Got(hold) => return Outcome::Got(self.leave_with(rt, seat, hold, id)),
                 Taking::Held => {}
                 Taking::Starved => return self.count_here(rt, cx, seat, id, told),
             }
-            // Ask
-            if let Some(whose) = self.ask(rt, &mut seat, id, cx) {
+            if let Some(whose) = self.ask(rt, &mut seat, id, cx, Place::Ask) {
                 return Outcome::Waits(Waiting {
                     seat,
                     id,
@@ -283,18 +281,17 @@ impl<T> Words<T> {
     ) -> Outcome<T>
         requires of { IsOf self.now seat }
         requires idle { (seat.holds ≡ false) × (seat.starved ≡ false) × (seat.owes ≡ false) × (seat.listed ≡ true) × (seat.fresh ≡ false) }
+        requires course { seat.course ≡ Do (at.Count true told) }
         ensures outcome { IsOutcomeOf self.now cx.new result }
         ensures since { (then : Option Instant) → WaitsSince then result }
         ensures kept { Keeps cx.old cx.new }
     {
         let mut seat = seat;
-        if let Err(_) = self.count_listed(rt, &mut seat) {
-            // RefuseLeave
-            self.leave(rt, &mut seat, id);
+        if let Err(_) = self.count_listed(rt, &mut seat, Place::Count { listed: true, told }) {
+            self.leave(rt, &mut seat, id, Place::RefuseLeave { told });
             return Outcome::Refused(self.refuse(rt, seat, told, Refusal::Starved));
         }
-        // AskStarved
-        if let Some(whose) = self.ask(rt, &mut seat, id, cx) {
+        if let Some(whose) = self.ask(rt, &mut seat, id, cx, Place::AskStarved) {
             return Outcome::Waits(starves(seat, id, whose));
         }
         self.strive(rt, cx, seat, true)
@@ -306,12 +303,20 @@ impl<T> Words<T> {
     fn count_away<R: Wait + Clock>(&self, rt: &R, cx: &mut Context<'_>, seat: Seat<T>) -> Outcome<T>
         requires of { IsOf self.now seat }
         requires idle { (seat.holds ≡ false) × (seat.starved ≡ false) × (seat.owes ≡ false) × (seat.listed ≡ false) × (seat.fresh ≡ false) }
+        requires course { seat.course ≡ Do (at.Count false true) }
         ensures outcome { IsOutcomeOf self.now cx.new result }
         ensures since { (then : Option Instant) → WaitsSince then result }
         ensures kept { Keeps cx.old cx.new }
     {
         let mut seat = seat;
-        if let Err(_) = self.count(rt, &mut seat) {
+        if let Err(_) = self.count(
+            rt,
+            &mut seat,
+            Place::Count {
+                listed: false,
+                told: true,
+            },
+        ) {
             return Outcome::Refused(self.refuse(rt, seat, true, Refusal::Starved));
         }
         self.strive(rt, cx, seat, false)
@@ -329,6 +334,7 @@ impl<T> Words<T> {
     ) -> Outcome<T>
         requires of { IsOf self.now seat }
         requires owing { (seat.holds ≡ false) × (seat.starved ≡ true) × (seat.owes ≡ true) × (seat.listed ≡ false) × (seat.fresh ≡ false) }
+        requires course { seat.course ≡ Do (striving_from told) }
         ensures outcome { IsOutcomeOf self.now cx.new result }
         ensures since { (then : Option Instant) → WaitsSince then result }
         ensures kept { Keeps cx.old cx.new }
@@ -337,33 +343,29 @@ impl<T> Words<T> {
         let mut told = told;
         for _ in rt.forever() {
             if told {
-                // Seize
-                match self.set(&mut seat) {
+                match self.set(&mut seat, Place::Seize) {
                     Setting::Got(hold) => {
-                        // Uncount
-                        self.uncount(&mut seat);
+                        self.uncount(&mut seat, Place::Uncount { listed: false });
                         return Outcome::Got(Held { seat, hold });
                     }
                     Setting::WasSet => {}
                 }
             }
-            // JoinStarved
-            let id = match self.join(rt, &mut seat) {
+            let id = match self.join(rt, &mut seat, Place::JoinStarved) {
                 Ok(id) => id,
                 Err(Memory) => return Outcome::Refused(self.refuse_starved(rt, seat)),
             };
-            // LookAlone, and PassOnListed
-            match self.look_alone(rt, &mut seat) {
+            match self.look_alone(rt, &mut seat, Place::LookAlone) {
                 TakingAlone::Got(hold) => {
-                    // Uncount, Leave
-                    self.uncount(&mut seat);
+                    self.uncount(&mut seat, Place::Uncount { listed: true });
                     return Outcome::Got(self.leave_with(rt, seat, hold, id));
                 }
                 TakingAlone::Held => {}
-                TakingAlone::FreeWithOthers => self.notify(rt, &mut seat),
+                TakingAlone::FreeWithOthers => {
+                    self.notify(rt, &mut seat, Place::PassOnListed);
+                }
             }
-            // AskStarved
-            if let Some(whose) = self.ask(rt, &mut seat, id, cx) {
+            if let Some(whose) = self.ask(rt, &mut seat, id, cx, Place::AskStarved) {
                 return Outcome::Waits(starves(seat, id, whose));
             }
             told = true;
@@ -377,11 +379,12 @@ impl<T> Words<T> {
     fn refuse<R: Wait>(&self, rt: &R, seat: Seat<T>, told: bool, refusal: Refusal) -> Refusal
         requires of { IsOf self.now seat }
         requires idle { (seat.holds ≡ false) × (seat.starved ≡ false) × (seat.owes ≡ false) × (seat.listed ≡ false) × (seat.fresh ≡ false) }
+        requires course { seat.course ≡ refusing told refusal }
         ensures { result ≡ refusal }
     {
         let mut seat = seat;
         if told {
-            self.notify(rt, &mut seat);
+            self.notify(rt, &mut seat, notifying(refusal));
         }
         seat.rise();
         refusal
@@ -393,11 +396,12 @@ impl<T> Words<T> {
     fn refuse_starved<R: Wait>(&self, rt: &R, seat: Seat<T>) -> Refusal
         requires of { IsOf self.now seat }
         requires owing { (seat.holds ≡ false) × (seat.starved ≡ true) × (seat.listed ≡ false) × (seat.fresh ≡ false) }
+        requires course { seat.course ≡ Do at.RefuseUncount }
         ensures { IsGivenUp result }
     {
         let mut seat = seat;
-        self.uncount(&mut seat);
-        self.notify(rt, &mut seat);
+        self.uncount(&mut seat, Place::RefuseUncount);
+        self.notify(rt, &mut seat, Place::RefuseNotifyMemory);
         seat.rise();
         Refusal::Memory
     }
@@ -405,7 +409,7 @@ impl<T> Words<T> {
 
 // What is kept of a starved party that waits. It doesn't matter any more when it first waited.
 fn starves<T>(seat: Seat<T>, id: EntryId, whose: Whose) -> Waiting<T>
-    requires { (seat.holds ≡ false) × (seat.starved ≡ true) × (seat.owes ≡ false) × (seat.listed ≡ true) × (seat.fresh ≡ false) }
+    requires { (seat.holds ≡ false) × (seat.starved ≡ true) × (seat.owes ≡ false) × (seat.listed ≡ true) × (seat.fresh ≡ false) × (seat.course ≡ pending true) }
     ensures { (result.seat ≡ seat) × (result.whose ≡ whose) × (result.is_starved ≡ true) }
 {
     Waiting {
@@ -417,34 +421,12 @@ fn starves<T>(seat: Seat<T>, id: EntryId, whose: Whose) -> Waiting<T>
     }
 }
 
-// The time, if the clock can be read.
-#[inline(always)]
-fn now<R: Clock>(rt: &R) -> Option<Instant> {
-    // Not by `ok`, and nothing is added: else the compiled code copies the whole, and waits until its parts have been written.
-    match Instant::now(rt) {
-        Ok(now) => now.checked_add(Duration::ZERO),
-        Err(_) => None,
-    }
-}
-
-// When a party first waited, which waits now.
-#[inline]
-fn first_of<R: Clock>(rt: &R, since: Option<Instant>) -> Option<Instant>
-    ensures { IsKept since result }
+// Where a party that gives up hands on what it was notified of.
+fn notifying(refusal: Refusal) -> Place
+    ensures { result ≡ notifying_of refusal }
 {
-    match since {
-        Some(since) => Some(since),
-        None => now(rt),
-    }
-}
-
-// More than 500 microseconds since then. A clock that can't be read says no.
-fn has_waited_long<R: Clock>(rt: &R, since: &Option<Instant>) -> bool {
-    match since {
-        Some(since) => match since.elapsed(rt) {
-            Ok(waited) => waited > Duration::from_micros(PATIENCE),
-            Err(_) => false,
-        },
-        None => false,
+    match refusal {
+        Refusal::Memory => Place::RefuseNotifyMemory,
+        _ => Place::RefuseNotifyStarved,
     }
 }

@@ -1,6 +1,7 @@
 //! Who waits, who has the lock, and how a poll went.
 
 ghost use Rattle.std.specs.Prelude.{◌≡◌, true, false};
+ghost use Rattle.mutex_core.specs.Courses.{IsOutside, holding, pending};
 ghost use Rattle.mutex_core.specs.Locks.{IsHolding};
 
 use crate::seat::Seat;
@@ -20,9 +21,11 @@ pub struct Vain<T> {
 }
 
 impl<T> Vain<T> {
-    /// Ends it.
+    /// Ends a try that was in vain.
     #[inline]
-    pub fn end(self) {
+    pub fn end(self)
+        requires { IsOutside self.seat.course }
+    {
         let Vain { seat, is_free: _ } = self;
         seat.rise();
     }
@@ -40,7 +43,7 @@ pub struct Waiting<T> {
     pub(crate) since: Option<Instant>,
     // Whether it is counted as starved.
     pub(crate) is_starved: bool,
-    ghost idle: { (seat.holds ≡ false) × (seat.starved ≡ is_starved) × (seat.owes ≡ false) × (seat.listed ≡ true) × (seat.fresh ≡ false) },
+    ghost idle: { (seat.holds ≡ false) × (seat.starved ≡ is_starved) × (seat.owes ≡ false) × (seat.listed ≡ true) × (seat.fresh ≡ false) × (seat.course ≡ pending is_starved) },
 }
 
 impl<T> Waiting<T> {
@@ -53,7 +56,7 @@ impl<T> Waiting<T> {
         since: Option<Instant>,
         is_starved: bool,
     ) -> Waiting<T>
-        requires { (seat.holds ≡ false) × (seat.starved ≡ is_starved) × (seat.owes ≡ false) × (seat.listed ≡ true) × (seat.fresh ≡ false) }
+        requires { (seat.holds ≡ false) × (seat.starved ≡ is_starved) × (seat.owes ≡ false) × (seat.listed ≡ true) × (seat.fresh ≡ false) × (seat.course ≡ pending is_starved) }
         ensures { (result.seat ≡ seat) × (result.whose ≡ whose) }
     {
         Waiting {
@@ -93,7 +96,7 @@ pub struct Held<T> {
     pub seat: Seat<T>,
     /// The right to the value.
     pub hold: Hold<T>,
-    ghost holds: { (seat.holds ≡ true) × (seat.starved ≡ false) × (seat.owes ≡ false) × (seat.listed ≡ false) × (seat.fresh ≡ false) },
+    ghost holds: { (seat.holds ≡ true) × (seat.starved ≡ false) × (seat.owes ≡ false) × (seat.listed ≡ false) × (seat.fresh ≡ false) × (seat.course ≡ holding) },
 }
 
 impl<T> Held<T> {

@@ -3,7 +3,9 @@
 ghost use Rattle.std.specs.Prelude.{◌≡◌, ℕ, ◌≤◌, ◌⊎◌, true, false, [], ◌∷◌, IfErr, IfOk, IsSome, OnOk, OnErr};
 ghost use Rattle.atomic_table.specs.Table.{rest};
 ghost use Rattle.lock_place.specs.Rested.{IsRight};
-ghost use Rattle.mutex_core.specs.Locks.{HasSlots, IsOf, entering, with_got, with_held, with_look, with_cleared, with_paid, with_count, with_count_owing, with_uncounted};
+ghost use Rattle.lock_program.specs.declared.mutex.Action.TheVariants as act;
+ghost use Rattle.lock_program.specs.declared.mutex.Found.TheVariants as finds;
+ghost use Rattle.mutex_core.specs.Locks.{HasSlots, IsAt, IsOf, entering, goes, with_got, with_held, with_look, with_cleared, with_paid, with_count, with_count_owing, with_uncounted};
 ghost use Rattle.mutex_core.specs.Outcomes.{IsRightOf};
 ghost use Rattle.words_mutex.specs.Seats.{cleared_of};
 ghost use Rattle.words_base.specs.Tries.{OnTaking, OnAlone, OnSetting};
@@ -14,7 +16,8 @@ use crate::list_steps::{Lister, Listing};
 use crate::seat::Seat;
 use atomic_table::Table;
 use futures::task::Source;
-use lock_place::{Hold, Place, Rested, Room, Spare, Ticket};
+use lock_place::{Hold, Place as ValuePlace, Rested, Room, Spare, Ticket};
+use lock_program::mutex::{Found, Place};
 use std::alloc::{AllocError, Global};
 use std::marker::Model;
 use std::sync::Wait;
@@ -35,7 +38,7 @@ pub const STARVED_LIMIT: u64 = 1_073_741_823;
 /// seat (`is_left`).
 pub struct Words<T> {
     pub(crate) table: Table<Cell<T>, View, Spare<T>, MutexRule, Global>,
-    pub(crate) place: Place<T, Global>,
+    pub(crate) place: ValuePlace<T, Global>,
     pub(crate) spare: Spare<T>,
     // A forgotten seat left the lock held, and the value has been lent past it. The lock stays held then, and the right that the seat
     // had is worth nothing.
@@ -100,7 +103,7 @@ impl<T> Words<T> {
         ensures is_left { IfOk result (λ words. words.is_left ≡ false) }
         ensures limit { IfOk result (λ words. words.limit ≡ limit) }
     {
-        let Ok((place, hold)) = Place::new(alloc, value) else {
+        let Ok((place, hold)) = ValuePlace::new(alloc, value) else {
             return Err(AllocError);
         };
         let (mut spare, ticket) = Spare::new(&place.room);
@@ -160,20 +163,29 @@ impl<T> Words<T> {
     pub fn sit(&self) -> Seat<T>
         ensures { result ≡ entering self.now }
     {
-        Seat {
-            inner: self.table.shared.load_new_seat::<Keep>(WORD).1,
-        }
+        Seat::new(self.table.shared.load_new_seat::<Keep>(WORD).1)
+    }
+
+    /// Finds a lock held that was left so, without a step.
+    #[inline]
+    pub fn find_left(&self, seat: &mut Seat<T>, at: Place)
+        requires course { IsAt at act.Take seat.old }
+        requires left { self.now.is_left ≡ true }
+        ensures { seat.new ≡ goes at (finds.Held false) seat.old }
+    {
+        seat.go(at, Found::Held { starving: false });
     }
 
     /// Takes the lock if it is free and nobody is starved: a look, and one exchange where it found so. A seat that finds the lock held
     /// owes nothing any more. Whatever it finds, it has looked.
     #[inline]
-    pub fn take(&self, seat: &mut Seat<T>) -> Taking<Hold<T>>
+    pub fn take(&self, seat: &mut Seat<T>, at: Place) -> Taking<Hold<T>>
         requires of { IsOf self.now seat.old }
+        requires course { IsAt at act.Take seat.old }
         requires left { self.now.is_left ≡ false }
         requires idle { seat.old.holds ≡ false }
         requires stands { seat.old.starved ≡ true → seat.old.listed ≡ true }
-        ensures { OnTaking result (λ hold. (seat.new ≡ with_got seat.old 0) × IsRightOf self.now hold) (seat.new ≡ with_held seat.old) ((seat.new ≡ with_look seat.old) ⊎ (seat.new ≡ with_held seat.old)) }
+        ensures { OnTaking result (λ hold. (seat.new ≡ goes at finds.Free (with_got seat.old 0)) × IsRightOf self.now hold) (seat.new ≡ goes at (finds.Held false) (with_held seat.old)) ((seat.new ≡ goes at finds.SomeStarved (with_look seat.old)) ⊎ (seat.new ≡ goes at finds.SomeStarved (with_held seat.old))) }
     {
         let shared = &self.table.shared;
         let seen = look(shared, &mut seat.inner);
@@ -183,104 +195,145 @@ impl<T> Words<T> {
             seen
         };
         if found == FREE {
-            return Taking::Got(take_right(shared, &self.spare, &mut seat.inner));
+            let hold = take_right(shared, &self.spare, &mut seat.inner);
+            seat.go(at, Found::Free);
+            return Taking::Got(hold);
         }
         if found == HELD {
+            seat.go(at, Found::Held { starving: false });
             Taking::Held
         } else {
+            seat.go(at, Found::SomeStarved);
             Taking::Starved
         }
     }
 
     /// Takes the lock if it is free and no other seat is starved: one exchange, by a starved seat with an entry. A seat that finds the lock
     /// held owes nothing any more. Whatever it finds, it has looked.
-    pub fn take_alone(&self, seat: &mut Seat<T>) -> TakingAlone<Hold<T>>
+    pub fn take_alone(&self, seat: &mut Seat<T>, at: Place) -> TakingAlone<Hold<T>>
         requires of { IsOf self.now seat.old }
+        requires course { IsAt at act.TakeAlone seat.old }
         requires idle { seat.old.holds ≡ false }
         requires left { self.now.is_left ≡ false }
         requires stands { (seat.old.starved ≡ true) × (seat.old.listed ≡ true) }
-        ensures { OnAlone result (λ hold. (seat.new ≡ with_got seat.old 1) × IsRightOf self.now hold) (seat.new ≡ with_held seat.old) (seat.new ≡ with_look seat.old) }
+        ensures { OnAlone result (λ hold. (seat.new ≡ goes at finds.Free (with_got seat.old 1)) × IsRightOf self.now hold) (seat.new ≡ goes at (finds.Held false) (with_held seat.old)) (seat.new ≡ goes at finds.SomeStarved (with_look seat.old)) }
     {
         let shared = &self.table.shared;
         let found = exchange_alone(shared, &mut seat.inner);
         if found == ALONE {
-            return TakingAlone::Got(take_right(shared, &self.spare, &mut seat.inner));
+            let hold = take_right(shared, &self.spare, &mut seat.inner);
+            seat.go(at, Found::Free);
+            return TakingAlone::Got(hold);
         }
         if found % COUNT == HELD {
+            seat.go(at, Found::Held { starving: false });
             TakingAlone::Held
         } else {
+            seat.go(at, Found::SomeStarved);
             TakingAlone::FreeWithOthers
         }
     }
 
     /// Makes the lock held, and takes it if it was free, whoever is starved: one step.
-    pub fn set(&self, seat: &mut Seat<T>) -> Setting<Hold<T>>
+    pub fn set(&self, seat: &mut Seat<T>, at: Place) -> Setting<Hold<T>>
         requires of { IsOf self.now seat.old }
+        requires course { IsAt at act.Set seat.old }
         requires idle { seat.old.holds ≡ false }
-        ensures { OnSetting result (λ hold. (seat.new ≡ with_got seat.old seat.new.passed) × IsRightOf self.now hold) (seat.new ≡ seat.old) }
+        ensures { OnSetting result (λ hold. (seat.new ≡ goes at finds.Free (with_got seat.old seat.new.passed)) × IsRightOf self.now hold) (seat.new ≡ goes at (finds.Held false) seat.old) }
     {
         if self.left.is_some() {
+            seat.go(at, Found::Held { starving: false });
             return Setting::WasSet;
         }
         let shared = &self.table.shared;
         if lift(shared, &mut seat.inner) % COUNT == HELD {
+            seat.go(at, Found::Held { starving: false });
             return Setting::WasSet;
         }
-        Setting::Got(take_right(shared, &self.spare, &mut seat.inner))
+        let hold = take_right(shared, &self.spare, &mut seat.inner);
+        seat.go(at, Found::Free);
+        Setting::Got(hold)
     }
 
     /// Counts a seat as starved that has an entry and has looked. It tries again where others came between. [`Full`] comes where as many
     /// are starved as may be (`limit`), and nothing has changed then.
-    pub fn count_listed<R: Wait>(&self, rt: &R, seat: &mut Seat<T>) -> Result<(), Full>
+    pub fn count_listed<R: Wait>(&self, rt: &R, seat: &mut Seat<T>, at: Place) -> Result<(), Full>
         requires of { IsOf self.now seat.old }
+        requires course { IsAt at act.Count seat.old }
         requires waits { (seat.old.starved ≡ false) × (seat.old.listed ≡ true) × (seat.old.fresh ≡ false) }
-        ensures counted { OnOk result (seat.new ≡ with_count seat.old) }
-        ensures not { OnErr result (seat.new ≡ seat.old) }
+        ensures counted { OnOk result (seat.new ≡ goes at finds.Done (with_count seat.old)) }
+        ensures not { OnErr result (seat.new ≡ goes at finds.AtLimit seat.old) }
         ensures limit { IfErr result (λ full. self.now.limit ≤ full.starved) }
     {
-        tally_listed(&self.table.shared, rt, &mut seat.inner, self.limit)
+        let counted = tally_listed(&self.table.shared, rt, &mut seat.inner, self.limit);
+        seat.go(at, counting(&counted));
+        counted
     }
 
     /// Counts a seat as starved, as [`Words::count_listed`]. The seat may have no entry, and owes a look then.
-    pub fn count<R: Wait>(&self, rt: &R, seat: &mut Seat<T>) -> Result<(), Full>
+    pub fn count<R: Wait>(&self, rt: &R, seat: &mut Seat<T>, at: Place) -> Result<(), Full>
         requires of { IsOf self.now seat.old }
+        requires course { IsAt at act.Count seat.old }
         requires one { seat.old.starved ≡ false }
-        ensures counted { OnOk result (seat.new ≡ with_count_owing seat.old) }
-        ensures not { OnErr result (seat.new ≡ seat.old) }
+        ensures counted { OnOk result (seat.new ≡ goes at finds.Done (with_count_owing seat.old)) }
+        ensures not { OnErr result (seat.new ≡ goes at finds.AtLimit seat.old) }
         ensures limit { IfErr result (λ full. self.now.limit ≤ full.starved) }
     {
-        tally(&self.table.shared, rt, &mut seat.inner, self.limit)
+        let counted = tally(&self.table.shared, rt, &mut seat.inner, self.limit);
+        seat.go(at, counting(&counted));
+        counted
     }
 
     /// Takes a seat's count off: one step.
-    pub fn uncount(&self, seat: &mut Seat<T>)
+    pub fn uncount(&self, seat: &mut Seat<T>, at: Place)
         requires of { IsOf self.now seat.old }
+        requires course { IsAt at act.Uncount seat.old }
         requires starved { seat.old.starved ≡ true }
-        ensures { seat.new ≡ with_uncounted seat.old }
+        ensures { seat.new ≡ goes at finds.Done (with_uncounted seat.old) }
     {
         uncount(&self.table.shared, &mut seat.inner);
+        seat.go(at, Found::Done);
     }
 
     /// Gives the lock back, and the right with it: one step. The seat owes a notification then.
     #[inline]
-    pub fn clear(&self, seat: &mut Seat<T>, hold: Hold<T>)
+    pub fn clear(&self, seat: &mut Seat<T>, hold: Hold<T>, at: Place)
         requires of { IsOf self.now seat.old }
+        requires course { IsAt at act.Clear seat.old }
         requires holds { seat.old.holds ≡ true }
         requires right { IsRightOf self.now hold }
-        ensures { seat.new ≡ with_cleared seat.old }
+        ensures { seat.new ≡ goes at finds.Done (with_cleared seat.old) }
     {
         give_back(&self.table.shared, &mut seat.inner, hold.park().rest());
+        seat.go(at, Found::Done);
     }
 
-    /// Returns whether the list may have entries: one load. If not, the seat owes nothing any more.
+    /// Returns whether the list may have entries: one load. If not, there is nobody to notify, so that was done, and the seat owes nothing any more.
     #[inline]
-    pub fn may_have_entries(&self, seat: &mut Seat<T>) -> bool
+    pub fn may_have_entries(&self, seat: &mut Seat<T>, at: Place) -> bool
         requires of { IsOf self.now seat.old }
+        requires course { IsAt at act.Notify seat.old }
         requires calm { seat.old.starved ≡ false }
         ensures some { result ≡ true → seat.new ≡ seat.old }
-        ensures none { result ≡ false → seat.new ≡ with_paid seat.old }
+        ensures none { result ≡ false → seat.new ≡ goes at finds.Done (with_paid seat.old) }
     {
-        peek(&self.table.shared, &mut seat.inner) % 8 >= ENTRIES
+        if peek(&self.table.shared, &mut seat.inner) % 8 >= ENTRIES {
+            return true;
+        }
+        seat.go(at, Found::Done);
+        false
+    }
+}
+
+// What a count finds.
+#[inline(always)]
+fn counting(counted: &Result<(), Full>) -> Found
+    ensures done { OnOk counted.now (result ≡ finds.Done) }
+    ensures full { OnErr counted.now (result ≡ finds.AtLimit) }
+{
+    match counted {
+        Ok(()) => Found::Done,
+        Err(_) => Found::AtLimit,
     }
 }
 
