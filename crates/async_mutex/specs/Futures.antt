@@ -12,6 +12,9 @@ use Rattle.async_mutex.specs.declared.stage.Stage.{Stage}
 use Rattle.async_mutex.specs.declared.stage.Stage.TheVariants as stages
 use Rattle.lock_program.specs.declared.refusal.Refusal.{Refusal}
 use Rattle.lock_program.specs.declared.refusal.Refusal.TheVariants.{Finished}
+use Rattle.lock_program.specs.declared.end.Next.TheVariants.{Do}
+use Rattle.lock_program.specs.declared.mutex.Place.TheVariants as at
+use Rattle.mutex_core.specs.Courses.{pending}
 use Rattle.mutex_core.specs.Locks.{IsOf, Seated}
 use Rattle.mutex_core.specs.Outcomes.{IsGivenUp, IsHeldOf}
 use Rattle.lock_queue.specs.Receipts.{IsKept}
@@ -50,10 +53,10 @@ module _ {O T R : Type 0} (lock_of : O → Mutex T R) where
   WaitsAt (stages.Waits owner) s = s ≡ (lock_of owner).words.source
   WaitsAt _ s = ⊥
 
-  -- Its entry is one of its mutex's list, and keeps a waker of the task that the context polls; and the task has registered with the
-  -- mutex's source.
+  -- Its entry is one of its mutex's list, and keeps a waker of the task that the context polls; its party stands where its program ends a
+  -- poll as pending; and the task has registered with the mutex's source.
   abbrev pub HasReceipt : Stage O → Context → Option Listed → Type 0
-  HasReceipt (stages.Waits owner) cx entry = IsSomeAnd entry (λ e. IsOf (lock_of owner).words e.seat × (e.seat.listed ≡ true) × IsKept cx e.keeps) × Covers cx (λ s. s ≡ (lock_of owner).words.source)
+  HasReceipt (stages.Waits owner) cx entry = IsSomeAnd entry (λ e. IsOf (lock_of owner).words e.seat × (e.seat.listed ≡ true) × (e.seat.course ≡ pending e.seat.starved) × IsKept cx e.keeps) × Covers cx (λ s. s ≡ (lock_of owner).words.source)
   HasReceipt _ cx entry = ⊥
 
   -- its party waits at its mutex between two polls
@@ -66,9 +69,9 @@ module _ {O T R : Type 0} (lock_of : O → Mutex T R) where
   GotAt (stages.Waits owner) held = IsHeldOf (lock_of owner).words held
   GotAt _ held = ⊥
 
-  -- it looked in vain at the lock that it waits for
+  -- it looked in vain at the lock that it waits for, and is about to join its list
   abbrev pub LooksInVain : Stage O → Vain T → Type 0
-  LooksInVain (stages.Waits owner) vain = IsOf (lock_of owner).words vain.seat
+  LooksInVain (stages.Waits owner) vain = IsOf (lock_of owner).words vain.seat × (vain.seat.course ≡ Do (at.Join false))
   LooksInVain _ vain = ⊥
 
   -- a first look got the lock, or was in vain; nobody looks where who has the mutex isn't there
@@ -102,3 +105,8 @@ IsTurn got was (Refused refusal) is = (was ≡ false) × (is ≡ false) × IsGiv
 abbrev pub CanRefuse : Bool → Refusal → Type 0
 CanRefuse true refusal = refusal ≡ Finished
 CanRefuse false refusal = IsGivenUp refusal
+
+-- a fact of a poll that was refused
+abbrev pub OnRefused : {G : Type 0} → Turn G → Type 0 → Type 0
+OnRefused (Refused refusal) fact = fact
+OnRefused _ fact = ⊤

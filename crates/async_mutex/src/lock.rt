@@ -4,7 +4,7 @@ ghost use Rattle.std.specs.Prelude.{◌≡◌, false, None};
 ghost use Rattle.futures.specs.Task.{Covers, Keeps};
 ghost use Rattle.async_mutex.specs.Stages.{IsOf, is_finished};
 ghost use Rattle.async_driver.specs.Turns.{OnPending};
-ghost use Rattle.async_mutex.specs.Futures.{HasReceipt, IsTurn, WaitsAt, future};
+ghost use Rattle.async_mutex.specs.Futures.{HasReceipt, IsTurn, OnRefused, WaitsAt, future};
 
 use crate::guard::Guard;
 use crate::mutex::Mutex;
@@ -61,7 +61,7 @@ impl<T, R: Wait + Clock, O: Owns<Value = T, Runtime = R>> LockFuture<T, R, O> {
     /// Polls once: ready with the guard, or pending.
     ///
     /// It is refused as [`Refusal::Memory`] if memory for its entry was refused, or if no share of the mutex could be had, and as
-    /// [`Refusal::Starved`] if as many waiters are starved as may be. Then the future is as when it was made, and may be polled
+    /// [`Refusal::Starved`] if as many waiters are starved as may be. Then it has no entry (`refused`), as when it was made, and may be polled
     /// again. Once it was ready it is refused as [`Refusal::Finished`], and nothing changes (`turn`).
     ///
     /// Pending, it has an entry in the mutex's list that keeps a waker of the task that polls (`receipt`). The task has registered
@@ -79,6 +79,7 @@ impl<T, R: Wait + Clock, O: Owns<Value = T, Runtime = R>> LockFuture<T, R, O> {
     pub fn poll(&mut self, cx: &mut Context<'_>) -> Turn<Guard<T, R, O>>
         ensures turn { IsTurn (λ guard. IsOf O.lock_of self.old.stage guard.mutex) (is_finished self.old.stage) result (is_finished self.new.stage) }
         ensures share { is_finished self.new.stage ≡ false → self.new.stage ≡ self.old.stage }
+        ensures refused { OnRefused result (self.new.entry ≡ None) }
         ensures receipt { OnPending result (HasReceipt O.lock_of self.old.stage cx.new self.new.entry) }
         ensures registered { OnPending result (Covers cx.new (WaitsAt O.lock_of self.old.stage)) }
         ensures kept { Keeps cx.old cx.new }

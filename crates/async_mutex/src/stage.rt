@@ -13,6 +13,7 @@ use crate::owns::Owns;
 use async_driver::{Turn, nothing, put};
 use futures::task::Context;
 use lock_program::Refusal;
+use lock_program::mutex::{LockCall, Place};
 use mutex_core::{Held, Outcome, Vain, Waiting};
 use std::mem;
 use std::sync::Wait;
@@ -57,7 +58,7 @@ pub(crate) fn first_look<T, R, O: Owns<Value = T, Runtime = R>>(stage: &Stage<O>
     ensures { Looks O.lock_of stage.now result }
 {
     match stage {
-        Stage::Waits(owner) => match owner.lock().words.first_look() {
+        Stage::Waits(owner) => match owner.lock().words.first_look(LockCall::Lock, Place::Enter) {
             Ok(held) => Look::Got(held),
             Err(vain) => Look::Vain(vain),
         },
