@@ -1,6 +1,6 @@
 //! A reader that may become the writer.
 
-ghost use Rattle.std.specs.Prelude.{◌≡◌, ◌≢◌, IfOk, IfErr};
+ghost use Rattle.std.specs.Prelude.{◌≡◌, ◌≢◌, IfOk, IfErr, Some};
 ghost use Rattle.lock_program.specs.declared.refusal.Refusal.{Refusal};
 ghost use Rattle.access_core.specs.Accesses.{with_found, with_writing};
 ghost use Rattle.rwlock_core.specs.Parties.{IsUpgradableOf};
@@ -141,7 +141,7 @@ impl<T, R: Releases, O: Owns<Value = T, Runtime = R>> UpgradableGuard<T, R, O> {
 
 impl<T, R: Wait, O: Owns<Value = T, Runtime = R>> UpgradableGuard<T, R, O> {
     /// Begins to write: from now on nobody begins to read. The future is ready once no other reader is left. Until then it lends
-    /// nothing.
+    /// nothing. It is the same seat, in the future and in the guard that it gives (`same`).
     ///
     /// ```
     /// let upgrade = RwLockUpgradableReadGuard::upgrade(upgradable);
@@ -150,7 +150,8 @@ impl<T, R: Wait, O: Owns<Value = T, Runtime = R>> UpgradableGuard<T, R, O> {
     /// ```
     #[inline]
     pub fn upgrade(guard: Self) -> UpgradeFuture<T, R, O>
-        ensures { IsOf O.lock_of result.stage guard.lock }
+        ensures lock { IsOf O.lock_of result.stage guard.lock }
+        ensures same { result.seat ≡ Some guard.seat.id }
     {
         let (owner, upgradable) = guard.into_party();
         let lock = owner.lock();
@@ -219,7 +220,7 @@ impl<
     O: Owns<Value = T, Runtime = R>,
 > UpgradableGuard<T, R, O> {
     /// Writes once nobody else reads, blocking the calling thread until then. It takes no memory where nobody else reads now. If it is
-    /// refused, which is for memory alone, the right is given up.
+    /// refused, which is for memory alone, the right is given up. It is the same seat (`same`), so nobody writes in between.
     /// Don't call it in an async context: it blocks the thread that runs the other tasks, and may deadlock.
     ///
     /// ```
@@ -228,6 +229,7 @@ impl<
     /// ```
     pub fn upgrade_blocking(guard: Self) -> Result<WriteGuard<T, R, O>, Refusal>
         ensures lock { IfOk result (λ writer. writer.lock ≡ guard.lock) }
+        ensures same { IfOk result (λ writer. writer.seat.id ≡ guard.seat.id) }
         ensures memory { IfErr result (λ refusal. refusal ≡ Refusal.Memory) }
     {
         let guard = match UpgradableGuard::try_upgrade(guard) {

@@ -1,14 +1,14 @@
 //! The future of an upgrade.
 
-ghost use Rattle.std.specs.Prelude.{◌≡◌, false, IfSome, None};
+ghost use Rattle.std.specs.Prelude.{◌≡◌, false, IfSome, None, Some};
 ghost use Rattle.futures.specs.Task.{Covers, Keeps};
 ghost use Rattle.async_driver.specs.Turns.{OnPending};
 ghost use Rattle.async_rwlock.specs.Stages.{At, HasReceiptAt, IsOf, IsTurn, OnRefused, WaitsAt, is_finished};
-ghost use Rattle.async_rwlock.specs.Upgrades.{OnUpgraded};
+ghost use Rattle.async_rwlock.specs.Upgrades.{IsSameRight, OnUpgraded, begun_seat};
 ghost use Rattle.mutex_core.specs.Outcomes.{IsHeldOf};
 ghost use Rattle.access_core.specs.Accesses.{IsOf as IsSeatAt};
 ghost use Rattle.rwlock_core.specs.Outcomes.{IsUpgradeRefusal};
-ghost use Rattle.rwlock_core.specs.Parties.{IsBegunOf, IsUpgradingOf};
+ghost use Rattle.rwlock_core.specs.Parties.{IsBegunOf, IsUpgradedBy, IsUpgradingOf};
 
 use crate::owns::Owns;
 use crate::stage::{Stage, no_share};
@@ -27,7 +27,7 @@ use std::{fmt, mem};
 /// once no reader is left. Until then it lends nothing. Dropping it gives up the right: readers and writers that wait are
 /// notified.
 ///
-/// Contracts see how far it is (`stage`), and what it has at the lock meanwhile (`waiting`).
+/// Contracts see how far it is (`stage`), what it has at the lock meanwhile (`waiting`), and which seat has the right (`seat`).
 pub struct UpgradeFuture<T, R: Wait, O: Owns<Value = T, Runtime = R>> {
     stage: Stage<O>,
     // There before the first poll, and where a poll was refused.
@@ -39,14 +39,15 @@ pub struct UpgradeFuture<T, R: Wait, O: Owns<Value = T, Runtime = R>> {
 
 impl<T, R: Wait, O: Owns<Value = T, Runtime = R>> Model for UpgradeFuture<T, R, O> {
     ghost use Rattle.std.specs.Prelude.{◌≡◌, IfSome, None};
-    ghost use Rattle.async_rwlock.specs.Stages.{At, Future, future, upgrades_entry};
+    ghost use Rattle.async_rwlock.specs.Stages.{At, upgrades_entry};
+    ghost use Rattle.async_rwlock.specs.Upgrades.{Upgrade, upgrading_seat};
     ghost use Rattle.mutex_core.specs.Outcomes.{IsHeldOf};
     ghost use Rattle.access_core.specs.Accesses.{IsOf as IsSeatAt};
     ghost use Rattle.rwlock_core.specs.Parties.{IsBegunOf};
 
-    ghost Value = { Future O };
+    ghost Value = { Upgrade O };
 
-    ghost view = { λ l. future l.stage (upgrades_entry l.waiting) };
+    ghost view = { λ l. record { stage = l.stage; waiting = upgrades_entry l.waiting; seat = upgrading_seat l.begun l.waiting } };
 
     ghost invariant = { λ l. IfSome l.begun (λ b. (l.waiting ≡ None) × At O.lock_of l.stage (λ raw. IsBegunOf raw b)) × IfSome l.waiting (λ w. At O.lock_of l.stage (λ raw. IsSeatAt raw.access w.0.seat × IsHeldOf raw.turn w.1)) };
 }
@@ -55,7 +56,8 @@ impl<T, R: Wait, O: Owns<Value = T, Runtime = R>> UpgradeFuture<T, R, O> {
     #[inline]
     pub(crate) fn new(owner: O, begun: Begun) -> UpgradeFuture<T, R, O>
         requires { IsBegunOf (O.lock_of owner).raw begun }
-        ensures { IsOf O.lock_of result.stage (O.lock_of owner) }
+        ensures lock { IsOf O.lock_of result.stage (O.lock_of owner) }
+        ensures same { result.seat ≡ Some (begun_seat begun) }
     {
         UpgradeFuture {
             stage: Stage::Waits(owner),
@@ -67,7 +69,7 @@ impl<T, R: Wait, O: Owns<Value = T, Runtime = R>> UpgradeFuture<T, R, O> {
 }
 
 impl<T, R: Wait + Clock, O: Owns<Value = T, Runtime = R>> UpgradeFuture<T, R, O> {
-    /// Polls once: ready with the guard, or pending.
+    /// Polls once: ready with the guard, or pending. It is the same seat throughout (`same`): at no time has it no right.
     ///
     /// It is refused as [`Refusal::Memory`](crate::Refusal::Memory) if memory for its entry was refused. Then it keeps the right to be
     /// next, and may be polled again (`refused`). Once it was ready it is refused as
@@ -79,6 +81,7 @@ impl<T, R: Wait + Clock, O: Owns<Value = T, Runtime = R>> UpgradeFuture<T, R, O>
     pub fn poll(&mut self, cx: &mut Context<'_>) -> Turn<WriteGuard<T, R, O>>
         ensures turn { IsTurn IsUpgradeRefusal (λ guard. IsOf O.lock_of self.old.stage guard.lock) (is_finished self.old.stage) result (is_finished self.new.stage) }
         ensures share { is_finished self.new.stage ≡ false → self.new.stage ≡ self.old.stage }
+        ensures same { IsSameRight result self.old.seat self.new.seat }
         ensures refused { OnRefused result (self.new.waiting ≡ None) }
         ensures receipt { OnPending result (HasReceiptAt O.lock_of self.old.stage cx.new self.new.waiting) }
         ensures registered { OnPending result (Covers cx.new (WaitsAt O.lock_of self.old.stage self.new.waiting)) }
@@ -115,7 +118,7 @@ impl<T, R: Wait + Clock, O: Owns<Value = T, Runtime = R>> Polled for UpgradeFutu
     ghost use Rattle.async_rwlock.specs.Stages.{CanRefuse, IsOf, is_finished};
     ghost use Rattle.rwlock_core.specs.Outcomes.{IsUpgradeRefusal};
 
-    ghost gives = { λ future guard. IsOf O.lock_of future.stage guard.lock };
+    ghost gives = { λ future guard. IsOf O.lock_of future.stage guard.lock × (future.seat ≡ Some guard.seat.id) };
 
     ghost refuses = { λ future. CanRefuse IsUpgradeRefusal (is_finished future.stage) };
 
@@ -133,6 +136,7 @@ fn first_poll<T, R: Wait, O: Owns<Value = T, Runtime = R>>(
 ) -> Upgraded
     requires { At O.lock_of stage.now (λ raw. IsUpgradingOf raw upgrading) }
     ensures outcome { OnUpgraded O.lock_of stage.now cx.new result }
+    ensures same { IsUpgradedBy upgrading.seat result }
     ensures kept { Keeps cx.old cx.new }
 {
     match stage {
@@ -154,6 +158,7 @@ fn later_poll<T, R: Wait, O: Owns<Value = T, Runtime = R>>(
 ) -> Upgraded
     requires { At O.lock_of stage.now (λ raw. IsSeatAt raw.access waiting.seat × IsHeldOf raw.turn turn) }
     ensures outcome { OnUpgraded O.lock_of stage.now cx.new result }
+    ensures same { IsUpgradedBy waiting.seat result }
     ensures kept { Keeps cx.old cx.new }
 {
     match stage {
@@ -202,7 +207,7 @@ fn give_back<T, R: Wait, O: Owns<Value = T, Runtime = R>>(
         None => {}
     }
     if let Some((waiting, turn)) = waiting {
-        lock.raw.cancel_awaiting(&lock.rt, waiting, turn);
+        lock.raw.cancel_awaiting(&lock.rt, waiting, turn, true);
     }
     drop(owner);
 }

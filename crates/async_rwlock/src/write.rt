@@ -4,10 +4,9 @@ ghost use Rattle.std.specs.Prelude.{◌≡◌, false, IfSome, None, Some};
 ghost use Rattle.futures.specs.Task.{Covers, Keeps};
 ghost use Rattle.async_driver.specs.Turns.{OnPending};
 ghost use Rattle.async_rwlock.specs.Stages.{At, HasReceiptAt, IsOf, IsTurn, Looks, OnPolled, OnRefused, OnWaits, WaitsAt, future, is_finished, writes_entry};
-ghost use Rattle.mutex_core.specs.Locks.{IsOf as IsTurnOf};
 ghost use Rattle.mutex_core.specs.Outcomes.{IsHeldOf};
 ghost use Rattle.rwlock_core.specs.Outcomes.{IsWriteRefusal};
-ghost use Rattle.rwlock_core.specs.Parties.{IsWriterOf, WaitsAt as WaitsAtLock};
+ghost use Rattle.rwlock_core.specs.Parties.{IsTaking, IsWriterOf, WaitsAt as WaitsAtLock};
 
 use crate::owns::Owns;
 use crate::stage::{Look, Stage, no_share};
@@ -120,12 +119,12 @@ impl<T, R: Wait + Clock, O: Owns<Value = T, Runtime = R>> Polled for WriteFuture
 fn first_look<T, R: Wait, O: Owns<Value = T, Runtime = R>>(
     stage: &Stage<O>,
 ) -> Look<Held<()>, Vain<()>>
-    ensures { Looks stage.now (λ turn. At O.lock_of stage.now (λ raw. IsHeldOf raw.turn turn)) (λ vain. At O.lock_of stage.now (λ raw. IsTurnOf raw.turn vain.seat)) result }
+    ensures { Looks stage.now (λ turn. At O.lock_of stage.now (λ raw. IsHeldOf raw.turn turn)) (λ vain. At O.lock_of stage.now (λ raw. IsTaking raw vain)) result }
 {
     match stage {
         Stage::Waits(owner) => {
             let lock = owner.lock();
-            match lock.raw.turn.first_look() {
+            match lock.raw.first_look() {
                 Ok(turn) => Look::Got(turn),
                 Err(vain) => Look::Vain(vain),
             }
@@ -162,7 +161,7 @@ fn first_poll<T, R: Wait + Clock, O: Owns<Value = T, Runtime = R>>(
     cx: &mut Context<'_>,
     vain: Vain<()>,
 ) -> Outcome<Writer, WaitsFor>
-    requires { At O.lock_of stage.now (λ raw. IsTurnOf raw.turn vain.seat) }
+    requires { At O.lock_of stage.now (λ raw. IsTaking raw vain) }
     ensures outcome { OnPolled (λ right. At O.lock_of stage.now (λ raw. IsWriterOf raw right)) (λ w. At O.lock_of stage.now (λ raw. WaitsAtLock raw w)) IsWriteRefusal result }
     ensures receipt { OnWaits result (λ w. HasReceiptAt O.lock_of stage.now cx.new (writes_entry (Some w)) × Covers cx.new (WaitsAt O.lock_of stage.now (writes_entry (Some w)))) }
     ensures kept { Keeps cx.old cx.new }

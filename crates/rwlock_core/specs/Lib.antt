@@ -1,3 +1,4 @@
+pub mod Courses
 pub mod Outcomes
 pub mod Parties
 pub mod Vain

@@ -1,5 +1,5 @@
 -- Which lock a party is of.
-use Rattle.std.specs.Prelude.{◌≡◌}
+use Rattle.std.specs.Prelude.{◌≡◌, false}
 use Rattle.futures.specs.declared.task.context.Context.{Context}
 use Rattle.lock_queue.specs.Receipts.{IsReceipt}
 use Rattle.mutex_core.specs.Locks as turn
@@ -15,6 +15,12 @@ use Rattle.rwlock_core.specs.declared.party.Begun.{Begun}
 use Rattle.rwlock_core.specs.declared.party.Begun.TheVariants.{Writes, Awaits}
 use Rattle.rwlock_core.specs.declared.party.Upgraded.{Upgraded}
 use Rattle.rwlock_core.specs.declared.party.Upgraded.TheVariants as upgraded
+use Rattle.lock_program.specs.declared.end.Next.TheVariants.{Do}
+use Rattle.lock_program.specs.declared.mutex.Place.TheVariants as turn_at
+use Rattle.mutex_core.specs.declared.turn.Held.{Held}
+use Rattle.mutex_core.specs.declared.turn.Vain.{Vain}
+use Rattle.rwlock_core.specs.declared.party.Awaited.{Awaited}
+use Rattle.rwlock_core.specs.declared.party.Awaited.TheVariants as awaited
 use Rattle.rwlock_core.specs.declared.rwlock.RawRwLock.{RawRwLock}
 
 module _ (raw : RawRwLock) where
@@ -57,3 +63,24 @@ IsSeatOf s t = (t.table ≡ s.table) × (t.id ≡ s.id)
 abbrev pub IsSameSeat : Seated → Begun → Type 0
 IsSameSeat s (Writes w) = IsSeatOf s w.seat
 IsSameSeat s (Awaits u) = IsSeatOf s u.seat
+
+-- What a write waits for that has awaited so that no reader is inside.
+abbrev pub WaitsAs : Awaited → Held Unit → WaitsFor → Type 0
+WaitsAs (awaited.Waits w) turn (Readers waiting held) = (waiting ≡ w) × (held ≡ turn)
+WaitsAs _ turn waits = ⊥
+
+-- What an upgrade has come to that has awaited so.
+abbrev pub UpgradesAs : Awaited → Held Unit → Upgraded → Type 0
+UpgradesAs (awaited.Writes s) turn (upgraded.Got w) = (w.seat ≡ s) × (w.turn ≡ turn)
+UpgradesAs (awaited.Waits w) turn (upgraded.Waits waiting held) = (waiting ≡ w) × (held ≡ turn)
+UpgradesAs (awaited.NoMemory s) turn (upgraded.NoMemory u) = (u.seat ≡ s) × (u.turn ≡ turn)
+UpgradesAs _ turn upgraded = ⊥
+
+abbrev pub IsUpgradedBy : Seated → Upgraded → Type 0
+IsUpgradedBy s (upgraded.Got w) = IsSeatOf s w.seat
+IsUpgradedBy s (upgraded.Waits w held) = IsSeatOf s w.seat
+IsUpgradedBy s (upgraded.NoMemory u) = IsSeatOf s u.seat
+
+-- It has looked at the turn in vain, as the first action of a poll.
+abbrev pub IsTaking : RawRwLock → Vain Unit → Type 0
+IsTaking raw vain = turn.IsOf raw.turn vain.seat × (vain.seat.course ≡ Do (turn_at.Join false))

@@ -5,9 +5,11 @@
 #![tactic(auto)]
 
 mod awaiting;
+mod course;
 mod party;
 mod read;
 mod rwlock;
+mod steps;
 mod upgrade;
 mod write;
 

@@ -1,34 +1,44 @@
 //! Whole calls of who reads, action by action as the lock's program has them.
 //!
-//! The comments name the places of the program's table, which are `lock_program`'s.
+//! Each action names its place in the table of `sync_program`, and asks that the call has come to it.
 
-ghost use Rattle.std.specs.Prelude.{◌≡◌, ◌≤◌, ◌%◌, ◌/◌, ◌⊎◌, MatchResult};
+ghost use Rattle.std.specs.Prelude.{true, ◌≡◌, ◌≤◌, ◌%◌, ◌/◌, ◌⊎◌, MatchResult};
 ghost use Rattle.futures.specs.Task.{Keeps};
 ghost use Rattle.access_core.specs.Accesses.{IsOf, IsIdle, IsReading};
+ghost use Rattle.lock_program.specs.declared.end.End.TheVariants as ends;
+ghost use Rattle.lock_program.specs.declared.end.Next.TheVariants as next;
+ghost use Rattle.sync_program.specs.ReadWrite.{refuse_read};
+ghost use Rattle.sync_program.specs.declared.rwlock.Place.TheVariants as at;
+ghost use Rattle.rwlock_core.specs.Courses.{next_in};
 ghost use Rattle.rwlock_core.specs.Outcomes.{OnOutcome, IsReadRefusal};
 ghost use Rattle.lock_queue.specs.Receipts.{IsReceipt};
 
+use crate::course::Course;
 use crate::party::{Outcome, Reader, WaitsToRead};
 use crate::rwlock::RawRwLock;
 use access_core::{Entering, Left, Seat};
 use futures::task::Context;
 use lock_event::Memory;
-use lock_program::Refusal;
+use lock_program::{End, Refusal};
 use std::sync::Wait;
+use sync_program::rwlock::{Place, RwLockCall, Wanted};
 
 impl RawRwLock {
     /// The first action of a first poll of a read: reads, if the writer's bit is clear and fewer read than may be. It waits for nobody. Where
-    /// it was in vain, [`RawRwLock::poll_read`] goes on with the seat.
+    /// it was in vain, [`RawRwLock::poll_read`] begins again with the seat.
     #[inline]
     pub fn begin_read(&self) -> Result<Reader, Seat>
         ensures { MatchResult result (λ reader. IsOf self.now.access reader.seat) (λ seat. IsOf self.now.access seat × IsIdle seat) }
     {
+        let at = Place::EnterRead { told: false };
+        let mut course = Course::begin(RwLockCall::Read, Place::Out, at);
         let (mut seat, seen) = self.access.sit_and_look();
-        if self.access.read_from(&mut seat, seen) {
-            Ok(Reader { seat })
-        } else {
-            Err(seat)
+        if self.enter_from(&mut seat, seen, &mut course, at) {
+            course.end(End::Got, Place::Reading);
+            return Ok(Reader { seat });
         }
+        course.begin_again(RwLockCall::Read, Place::Out, at);
+        Err(seat)
     }
 
     /// Reads at once, if the writer's bit is clear and fewer read than may be. In vain, the seat's last look shows why.
@@ -36,14 +46,25 @@ impl RawRwLock {
     pub fn try_read<R: Wait>(&self, rt: &R) -> Result<Reader, Seat>
         ensures { MatchResult result (λ reader. IsOf self.now.access reader.seat) (λ seat. IsOf self.now.access seat × IsIdle seat × ((seat.found % 2 ≡ 1) ⊎ (self.now.access.limit ≤ seat.found / 2))) }
     {
+        let mut course = Course::begin(RwLockCall::TryRead, Place::Out, Place::TryRead);
         let (mut seat, seen) = self.access.sit_and_look();
-        if self.access.read_from(&mut seat, seen) {
+        if self.enter_from(&mut seat, seen, &mut course, Place::TryRead) {
+            course.end(End::Granted, Place::Reading);
             return Ok(Reader { seat });
         }
-        match self.access.enter(rt, &mut seat) {
-            Entering::Reads => Ok(Reader { seat }),
-            Entering::Writer => Err(seat),
-            Entering::Full => Err(seat),
+        match self.enter(rt, &mut seat, &mut course, Place::TryRead) {
+            Entering::Reads => {
+                course.end(End::Granted, Place::Reading);
+                Ok(Reader { seat })
+            }
+            Entering::Writer => {
+                course.end(End::NotFree, Place::Out);
+                Err(seat)
+            }
+            Entering::Full => {
+                course.end(End::NotFree, Place::Out);
+                Err(seat)
+            }
         }
     }
 
@@ -62,52 +83,60 @@ impl RawRwLock {
         ensures kept { Keeps cx.old cx.new }
     {
         let mut seat = seat;
-        // EnterRead
-        match self.access.enter(rt, &mut seat) {
-            Entering::Reads => return Outcome::Got(Reader { seat }),
+        let at = Place::EnterRead { told: false };
+        let mut course = Course::begin(RwLockCall::Read, Place::Out, at);
+        match self.enter(rt, &mut seat, &mut course, at) {
+            Entering::Reads => return reads(seat, course),
             Entering::Full => return Outcome::Refused(self.refuse_read(
                 rt,
                 seat,
+                course,
                 false,
                 Refusal::Readers,
             )),
             Entering::Writer => {}
         }
-        // JoinNoWriter
-        let joined = match self.access.join_readers_waking(rt, &mut seat, cx) {
+        let at = Place::JoinNoWriter { told: false };
+        let joined = match self.join_readers_waking(rt, &mut seat, cx, &mut course, at) {
             Ok(joined) => joined,
             Err(Memory) => return Outcome::Refused(self.refuse_read(
                 rt,
                 seat,
+                course,
                 false,
                 Refusal::Memory,
             )),
         };
-        // LookNoWriter: whoever cleared the bit before it joined told nobody
-        match self.access.enter(rt, &mut seat) {
+        // Whoever cleared the bit before it joined told nobody.
+        let at = Place::LookNoWriter { told: false };
+        match self.enter(rt, &mut seat, &mut course, at) {
             Entering::Reads => {
-                // LeaveNoWriter
-                self.access.leave_readers(rt, &mut seat, joined.id);
-                return Outcome::Got(Reader { seat });
+                self.leave_readers(rt, &mut seat, joined.id, &mut course, Place::LeaveNoWriter);
+                return reads(seat, course);
             }
             Entering::Full => {
-                // RefuseLeave
-                self.access.leave_readers(rt, &mut seat, joined.id);
-                return Outcome::Refused(self.refuse_read(rt, seat, false, Refusal::Readers));
+                let at = Place::RefuseLeave { told: false };
+                self.leave_readers(rt, &mut seat, joined.id, &mut course, at);
+                return Outcome::Refused(self.refuse_read(
+                    rt,
+                    seat,
+                    course,
+                    false,
+                    Refusal::Readers,
+                ));
             }
             Entering::Writer => {}
         }
-        // AskNoWriter
-        if self.access.still_waits_readers(rt, &mut seat, &joined) {
+        if self.still_waits_readers(rt, &mut seat, &joined, &mut course, Place::AskNoWriter) {
+            course.end(End::Pending, Place::AskNoWriter);
             return Outcome::Waits(WaitsToRead {
                 seat,
                 id: joined.id,
                 whose: joined.whose,
             });
         }
-        // PassOn
-        self.access.notify_readers(rt, &mut seat);
-        self.read_on(rt, cx, seat)
+        self.notify_readers(rt, &mut seat, &mut course, Place::PassOn);
+        self.read_on(rt, cx, seat, course)
     }
 
     /// Polls a read that waits.
@@ -127,13 +156,15 @@ impl RawRwLock {
             id,
             whose: _,
         } = waiting;
-        // AskNoWriter
-        if let Some(whose) = self.access.ask_readers(rt, &mut seat, id, cx) {
+        let at = Place::AskNoWriter;
+        let mut course = Course::begin(RwLockCall::Poll, at, at);
+        if let Some(whose) = self.ask_readers(rt, &mut seat, id, cx, &mut course, at) {
+            course.end(End::Pending, at);
             return Outcome::Waits(WaitsToRead { seat, id, whose });
         }
-        // PassOn: all that wait may read
-        self.access.notify_readers(rt, &mut seat);
-        self.read_on(rt, cx, seat)
+        // All that wait may read.
+        self.notify_readers(rt, &mut seat, &mut course, Place::PassOn);
+        self.read_on(rt, cx, seat, course)
     }
 
     // From EnterRead on, of a party that was told and has passed that on: joins, looks and asks, until it reads, waits, or is refused.
@@ -143,55 +174,64 @@ impl RawRwLock {
         rt: &R,
         cx: &mut Context<'_>,
         seat: Seat,
+        course: Course,
     ) -> Outcome<Reader, WaitsToRead>
         requires of { IsOf self.now.access seat }
         requires idle { IsIdle seat }
+        requires course { next_in course ≡ next.Do (at.EnterRead true) }
         ensures outcome { OnOutcome result (λ reader. IsOf self.now.access reader.seat) (λ waiting. IsOf self.now.access waiting.seat × IsReceipt self.now.access.source cx.new waiting.whose) IsReadRefusal }
         ensures kept { Keeps cx.old cx.new }
     {
         let mut seat = seat;
+        let mut course = course;
         for _ in rt.forever() {
-            // EnterRead
-            match self.access.enter(rt, &mut seat) {
-                Entering::Reads => return Outcome::Got(Reader { seat }),
+            match self.enter(rt, &mut seat, &mut course, Place::EnterRead { told: true }) {
+                Entering::Reads => return reads(seat, course),
                 Entering::Full => return Outcome::Refused(self.refuse_read(
                     rt,
                     seat,
+                    course,
                     true,
                     Refusal::Readers,
                 )),
                 Entering::Writer => {}
             }
-            // JoinNoWriter
-            let id = match self.access.join_readers(rt, &mut seat) {
+            let at = Place::JoinNoWriter { told: true };
+            let id = match self.join_readers(rt, &mut seat, &mut course, at) {
                 Ok(id) => id,
                 Err(Memory) => return Outcome::Refused(self.refuse_read(
                     rt,
                     seat,
+                    course,
                     true,
                     Refusal::Memory,
                 )),
             };
-            // LookNoWriter, as after every join
-            match self.access.enter(rt, &mut seat) {
+            let at = Place::LookNoWriter { told: true };
+            match self.enter(rt, &mut seat, &mut course, at) {
                 Entering::Reads => {
-                    // LeaveNoWriter
-                    self.access.leave_readers(rt, &mut seat, id);
-                    return Outcome::Got(Reader { seat });
+                    self.leave_readers(rt, &mut seat, id, &mut course, Place::LeaveNoWriter);
+                    return reads(seat, course);
                 }
                 Entering::Full => {
-                    // RefuseLeave
-                    self.access.leave_readers(rt, &mut seat, id);
-                    return Outcome::Refused(self.refuse_read(rt, seat, true, Refusal::Readers));
+                    let at = Place::RefuseLeave { told: true };
+                    self.leave_readers(rt, &mut seat, id, &mut course, at);
+                    return Outcome::Refused(self.refuse_read(
+                        rt,
+                        seat,
+                        course,
+                        true,
+                        Refusal::Readers,
+                    ));
                 }
                 Entering::Writer => {}
             }
-            // AskNoWriter
-            if let Some(whose) = self.access.ask_readers(rt, &mut seat, id, cx) {
+            let at = Place::AskNoWriter;
+            if let Some(whose) = self.ask_readers(rt, &mut seat, id, cx, &mut course, at) {
+                course.end(End::Pending, at);
                 return Outcome::Waits(WaitsToRead { seat, id, whose });
             }
-            // PassOn
-            self.access.notify_readers(rt, &mut seat);
+            self.notify_readers(rt, &mut seat, &mut course, Place::PassOn);
         }
         unreachable!()
     }
@@ -199,16 +239,30 @@ impl RawRwLock {
     // Refuses a read whose seat has nothing: it notifies, if it took a notification during this poll.
     #[cold]
     #[inline(never)]
-    fn refuse_read<R: Wait>(&self, rt: &R, seat: Seat, told: bool, refusal: Refusal) -> Refusal
+    fn refuse_read<R: Wait>(
+        &self,
+        rt: &R,
+        seat: Seat,
+        course: Course,
+        told: bool,
+        refusal: Refusal,
+    ) -> Refusal
         requires of { IsOf self.now.access seat }
         requires idle { IsIdle seat }
+        requires course { next_in course ≡ refuse_read told refusal }
         ensures { result ≡ refusal }
     {
         let mut seat = seat;
+        let mut course = course;
         if told {
-            // RefuseNotify
-            self.access.notify_readers(rt, &mut seat);
+            self.notify_readers(rt, &mut seat, &mut course, Place::RefuseNotify { refusal });
         }
+        course.end(
+            End::Refused(refusal),
+            Place::Made {
+                wanted: Wanted::Read,
+            },
+        );
         seat.rise();
         refusal
     }
@@ -223,8 +277,10 @@ impl RawRwLock {
             id,
             whose: _,
         } = waiting;
-        // CancelRead
-        self.access.leave_readers(rt, &mut seat, id);
+        let at = Place::CancelRead;
+        let mut course = Course::begin(RwLockCall::Drop, Place::AskNoWriter, at);
+        self.leave_readers(rt, &mut seat, id, &mut course, at);
+        course.end(End::GivenBack, Place::Out);
         seat.rise();
     }
 
@@ -235,12 +291,31 @@ impl RawRwLock {
         requires reads { IsReading seat }
     {
         let mut seat = seat;
-        // DropRead, and DropReadNotify
-        match self.access.off(&mut seat) {
+        let at = Place::DropRead;
+        let mut course = Course::begin(RwLockCall::Drop, Place::Reading, at);
+        match self.off(&mut seat, &mut course, at) {
             Left::Readers => {}
-            Left::Nobody => {}
-            Left::Writer => self.access.notify_writer(rt, &mut seat),
+            Left::Nobody => {
+                let at = Place::DropReadNotify;
+                self.notify_writer(rt, &mut seat, Left::Nobody, &mut course, at);
+            }
+            Left::Writer => {
+                let at = Place::DropReadNotify;
+                self.notify_writer(rt, &mut seat, Left::Writer, &mut course, at);
+            }
         }
+        course.end(End::GivenBack, Place::Out);
         seat.rise();
     }
+}
+
+// A poll has got the right to read.
+#[inline(always)]
+fn reads(seat: Seat, course: Course) -> Outcome<Reader, WaitsToRead>
+    requires reads { IsReading seat }
+    requires course { next_in course ≡ next.End ends.Got at.Reading }
+    ensures { OnOutcome result (λ reader. reader.seat ≡ seat) (λ _. ⊥) (λ _. ⊥) }
+{
+    course.end(End::Got, Place::Reading);
+    Outcome::Got(Reader { seat })
 }

@@ -1,16 +1,24 @@
 //! Whole calls of who upgrades, action by action as the lock's program has them.
 
-ghost use Rattle.std.specs.Prelude.{◌≡◌, ◌≢◌, IfErr, IfOk, MatchResult};
+ghost use Rattle.std.specs.Prelude.{true, ◌≡◌, ◌≢◌, ⊤, IfErr, IfOk, MatchResult};
 ghost use Rattle.futures.specs.Task.{Keeps};
 ghost use Rattle.mutex_core.specs.Outcomes.{IsHeldOf};
-ghost use Rattle.access_core.specs.Accesses.{IsOf, with_found, with_writing};
-ghost use Rattle.rwlock_core.specs.Parties.{IsUpgradableOf, IsWriterOf, IsUpgradingOf, IsBegunOf, OnUpgraded, IsSameSeat};
+ghost use Rattle.access_core.specs.Accesses.{IsOf, IsMarking, IsWriting, with_found, with_writing};
+ghost use Rattle.lock_program.specs.declared.end.End.TheVariants as ends;
+ghost use Rattle.lock_program.specs.declared.end.Next.TheVariants as next;
+ghost use Rattle.sync_program.specs.declared.rwlock.Place.TheVariants as at;
+ghost use Rattle.rwlock_core.specs.Courses.{next_in, without_memory};
+ghost use Rattle.rwlock_core.specs.Outcomes.{OnAwaited};
+ghost use Rattle.rwlock_core.specs.Parties.{IsUpgradedBy, UpgradesAs, IsUpgradableOf, IsWriterOf, IsUpgradingOf, IsBegunOf, OnUpgraded, IsSameSeat};
 
+use crate::course::Course;
 use crate::party::{Awaited, Begun, Turn, Upgradable, Upgraded, Upgrading, WaitsToWrite, Writer};
 use crate::rwlock::RawRwLock;
 use access_core::Readers;
 use futures::task::Context;
+use lock_program::{End, Refusal};
 use std::sync::Wait;
+use sync_program::rwlock::{Ending, Place, RwLockCall};
 
 impl RawRwLock {
     /// Writes in place of reading, if nobody else reads: one step of the same seat, which has a right before and after. Else it reads on.
@@ -22,10 +30,13 @@ impl RawRwLock {
         ensures reads { IfErr result (λ reader. (reader.seat ≡ with_found reader.seat.found upgradable.seat) × (reader.seat.found ≢ 2)) }
     {
         let Upgradable { mut seat, turn } = upgradable;
-        // TryUpgrade
-        if self.access.try_upgrade(&mut seat) {
+        let at = Place::TryUpgrade;
+        let mut course = Course::begin(RwLockCall::TryUpgrade, Place::Upgradable, at);
+        if self.step_up(&mut seat, &mut course, at) {
+            course.end(End::Granted, Place::Writing);
             Ok(Writer { seat, turn })
         } else {
+            course.end(End::NotFree, Place::Upgradable);
             Err(Upgradable { seat, turn })
         }
     }
@@ -39,8 +50,11 @@ impl RawRwLock {
         ensures same { IsSameSeat upgradable.seat result }
     {
         let Upgradable { mut seat, turn } = upgradable;
-        // Upgrade
-        match self.access.upgrade(rt, &mut seat) {
+        let at = Place::Upgrade;
+        let mut course = Course::begin(RwLockCall::Upgrade, Place::Upgradable, at);
+        let readers = self.mark_reading(rt, &mut seat, &mut course, at);
+        course.end(End::Waiting, Place::LookUnlisted { upgrade: true });
+        match readers {
             Readers::NoneLeft => Begun::Writes(Writer { seat, turn }),
             Readers::SomeLeft => Begun::Awaits(Upgrading { seat, turn }),
         }
@@ -56,15 +70,14 @@ impl RawRwLock {
     ) -> Upgraded
         requires { IsUpgradingOf self.now upgrading }
         ensures outcome { OnUpgraded self.now cx.new result }
+        ensures same { IsUpgradedBy upgrading.seat result }
         ensures kept { Keeps cx.old cx.new }
     {
         let Upgrading { seat, turn } = upgrading;
-        // LookUnlisted
-        match self.await_upgrade(rt, cx, seat) {
-            Awaited::Writes(seat) => Upgraded::Got(Writer { seat, turn }),
-            Awaited::Waits(waiting) => Upgraded::Waits(waiting, turn),
-            Awaited::NoMemory(seat) => Upgraded::NoMemory(Upgrading { seat, turn }),
-        }
+        let at = Place::LookUnlisted { upgrade: true };
+        let mut course = Course::begin(RwLockCall::Poll, at, at);
+        let awaited = self.await_upgrade(rt, cx, seat, &mut course);
+        upgraded_so(awaited, turn, course)
     }
 
     /// Polls an upgrade that waits.
@@ -79,14 +92,13 @@ impl RawRwLock {
         requires seat { IsOf self.now.access waiting.seat }
         requires turn { IsHeldOf self.now.turn turn }
         ensures outcome { OnUpgraded self.now cx.new result }
+        ensures same { IsUpgradedBy waiting.seat result }
         ensures kept { Keeps cx.old cx.new }
     {
-        // AwaitNoReaders
-        match self.poll_awaiting(rt, cx, waiting) {
-            Awaited::Writes(seat) => Upgraded::Got(Writer { seat, turn }),
-            Awaited::Waits(waiting) => Upgraded::Waits(waiting, turn),
-            Awaited::NoMemory(seat) => Upgraded::NoMemory(Upgrading { seat, turn }),
-        }
+        let at = Place::AwaitNoReaders { upgrade: true };
+        let mut course = Course::begin(RwLockCall::Poll, at, at);
+        let awaited = self.poll_awaiting(rt, cx, waiting, &mut course, true);
+        upgraded_so(awaited, turn, course)
     }
 
     /// Drops an upgrade that stands in no list: the writer's bit and the turn are given back.
@@ -95,19 +107,49 @@ impl RawRwLock {
         requires { IsUpgradingOf self.now upgrading }
     {
         let Upgrading { seat, turn } = upgrading;
-        // Unmark, UnmarkNotify, ReleaseTurn
-        self.clear_mark(rt, seat);
-        self.turn.release(rt, turn);
+        let at = Place::Unmark { refused: false };
+        let mut course = Course::begin(RwLockCall::Drop, Place::LookUnlisted { upgrade: true }, at);
+        self.clear_mark(rt, seat, &mut course, at, false);
+        self.release_turn(rt, turn, &mut course, Ending::GivenBack);
+        course.end(End::GivenBack, Place::Out);
     }
 
     /// Drops an upgrade that waits: it leaves its list first, then clears the bit and gives the turn back.
     #[inline]
-    pub fn cancel_awaiting<R: Wait>(&self, rt: &R, waiting: WaitsToWrite, turn: Turn)
+    pub fn cancel_awaiting<R: Wait>(&self, rt: &R, waiting: WaitsToWrite, turn: Turn, upgrade: bool)
         requires seat { IsOf self.now.access waiting.seat }
         requires turn { IsHeldOf self.now.turn turn }
     {
-        // CancelAwait, Unmark, UnmarkNotify, ReleaseTurn
-        self.cancel_mark(rt, waiting);
-        self.turn.release(rt, turn);
+        let from = Place::AwaitNoReaders { upgrade };
+        let mut course = Course::begin(RwLockCall::Drop, from, Place::CancelAwait);
+        self.cancel_mark(rt, waiting, &mut course);
+        self.release_turn(rt, turn, &mut course, Ending::GivenBack);
+        course.end(End::GivenBack, Place::Out);
+    }
+}
+
+// What a poll of an upgrade comes to that has awaited so that no reader is inside.
+#[inline(always)]
+fn upgraded_so(awaited: Awaited, turn: Turn, course: Course) -> Upgraded
+    requires awaited { OnAwaited awaited IsWriting (λ _. ⊤) IsMarking }
+    requires course { OnAwaited awaited (λ _. next_in course ≡ next.End ends.Got at.Writing) (λ _. next_in course ≡ next.End ends.Pending (at.AwaitNoReaders true)) (λ _. next_in course ≡ without_memory true) }
+    ensures { UpgradesAs awaited turn result }
+{
+    match awaited {
+        Awaited::Writes(seat) => {
+            course.end(End::Got, Place::Writing);
+            Upgraded::Got(Writer { seat, turn })
+        }
+        Awaited::Waits(waiting) => {
+            course.end(End::Pending, Place::AwaitNoReaders { upgrade: true });
+            Upgraded::Waits(waiting, turn)
+        }
+        Awaited::NoMemory(seat) => {
+            course.end(
+                End::Refused(Refusal::Memory),
+                Place::LookUnlisted { upgrade: true },
+            );
+            Upgraded::NoMemory(Upgrading { seat, turn })
+        }
     }
 }

@@ -1,62 +1,71 @@
 //! Whole calls of who takes the turn, action by action as the lock's program has them.
 //!
-//! The comments name the places of the program's table, which are `lock_program`'s.
+//! Each action names its place in the table of `sync_program`, and asks that the call has come to it.
 
-ghost use Rattle.std.specs.Prelude.{◌≡◌, ◌≤◌, ◌/◌, MatchResult};
+ghost use Rattle.std.specs.Prelude.{false, ◌≡◌, MatchResult};
 ghost use Rattle.futures.specs.Task.{Keeps};
 ghost use Rattle.lock_queue.specs.Receipts.{IsReceipt};
 ghost use Rattle.mutex_core.specs.Locks.{IsOf as IsTurnOf};
 ghost use Rattle.mutex_core.specs.Outcomes.{IsHeldOf};
-ghost use Rattle.access_core.specs.Accesses.{IsOf, IsIdle, IsMarking, with_downgrade};
-ghost use Rattle.rwlock_core.specs.Outcomes.{OnOutcome, IsUpgradableRefusal, IsWriteRefusal};
-ghost use Rattle.rwlock_core.specs.Parties.{IsReaderOf, IsUpgradableOf, IsWriterOf, WaitsAt, HasReceipt};
+ghost use Rattle.access_core.specs.Accesses.{IsOf, IsMarking, IsWriting, with_downgrade};
+ghost use Rattle.lock_program.specs.declared.end.End.TheVariants as ends;
+ghost use Rattle.lock_program.specs.declared.end.Next.TheVariants as next;
+ghost use Rattle.sync_program.specs.declared.rwlock.Place.TheVariants as at;
+ghost use Rattle.rwlock_core.specs.Courses.{next_in, without_memory};
+ghost use Rattle.rwlock_core.specs.Outcomes.{OnAwaited, OnOutcome, IsUpgradableRefusal, IsWriteRefusal};
+ghost use Rattle.rwlock_core.specs.Parties.{IsTaking, WaitsAs, IsReaderOf, IsUpgradableOf, IsWriterOf, WaitsAt, HasReceipt};
 ghost use Rattle.rwlock_core.specs.Vain.{IsVainUpgradable, IsVainWrite};
 
+use crate::course::Course;
 use crate::party::{Awaited, InVain, Outcome, Reader, Turn, Upgradable, WaitsFor, Writer};
 use crate::rwlock::RawRwLock;
-use access_core::{Readers, Seat};
+use access_core::{Left, Readers, Seat};
 use futures::task::Context;
-use lock_program::Refusal;
+use lock_program::mutex::{LockCall, Place as TurnPlace};
+use lock_program::{End, Refusal};
 use mutex_core::{Outcome as TurnOutcome, Vain, Waiting};
 use std::sync::Wait;
 use std::time::Clock;
+use sync_program::rwlock::{Ending, Place, Purpose, RwLockCall, Wanted};
 
 impl RawRwLock {
+    /// Looks at the turn, and takes it if it is free and nobody is starved for it: the first action of a first poll that wants it.
+    #[inline]
+    pub fn first_look(&self) -> Result<Turn, Vain<()>>
+        ensures { MatchResult result (IsHeldOf self.now.turn) (IsTaking self.now) }
+    {
+        self.turn.first_look(LockCall::Lock, TurnPlace::Enter)
+    }
+
     /// Reads with the turn at once, if the turn is free, nobody is starved for it, and fewer read than may.
     #[inline]
     pub fn try_upgradable_read<R: Wait>(&self, rt: &R) -> Result<Upgradable, InVain>
         ensures { MatchResult result (IsUpgradableOf self.now) (IsVainUpgradable self.now) }
     {
-        // TryTurn
-        let turn = match self.turn.first_look() {
+        let purpose = Purpose::UpgradableRead;
+        let at = Place::TryTurn { purpose };
+        let mut course = Course::begin(RwLockCall::TryUpgradableRead, Place::Out, at);
+        let turn = match self.try_turn(&mut course, purpose) {
             Ok(turn) => turn,
-            Err(vain) => return Err(InVain::Turn(vain)),
-        };
-        // Add
-        match self.add_with(rt, turn) {
-            Ok(upgradable) => Ok(upgradable),
-            Err((seat, turn)) => {
-                // ReleaseTurn
-                self.turn.release(rt, turn);
-                Err(InVain::Inside(seat))
+            Err(vain) => {
+                course.end(End::NotFree, Place::Out);
+                return Err(InVain::Turn(vain));
             }
-        }
-    }
-
-    // Reads with the turn, if fewer read than may: first from what the new seat saw.
-    #[inline]
-    fn add_with<R: Wait>(&self, rt: &R, turn: Turn) -> Result<Upgradable, (Seat, Turn)>
-        requires { IsHeldOf self.now.turn turn }
-        ensures { MatchResult result (IsUpgradableOf self.now) (λ left. IsOf self.now.access left.0 × IsIdle left.0 × (self.now.access.limit ≤ left.0.found / 2) × IsHeldOf self.now.turn left.1) }
-    {
+        };
         let (mut seat, seen) = self.access.sit_and_look();
-        if self.access.read_from(&mut seat, seen) {
+        if self.add(
+            rt,
+            &mut seat,
+            seen,
+            &mut course,
+            Place::Add { trying: true },
+        ) {
+            course.end(End::Granted, Place::Upgradable);
             return Ok(Upgradable { seat, turn });
         }
-        if self.access.add(rt, &mut seat) {
-            return Ok(Upgradable { seat, turn });
-        }
-        Err((seat, turn))
+        self.release_turn(rt, turn, &mut course, Ending::NotFree { purpose });
+        course.end(End::NotFree, Place::Out);
+        Err(InVain::Inside(seat))
     }
 
     /// Goes on with an upgradable read that has the turn: it reads, or gives the turn back and is refused.
@@ -65,16 +74,22 @@ impl RawRwLock {
         requires { IsHeldOf self.now.turn turn }
         ensures { OnOutcome result (IsUpgradableOf self.now) (λ _. ⊥) IsUpgradableRefusal }
     {
-        // Add
-        match self.add_with(rt, turn) {
-            Ok(upgradable) => Outcome::Got(upgradable),
-            Err((seat, turn)) => {
-                seat.rise();
-                // ReleaseTurn
-                self.turn.release(rt, turn);
-                Outcome::Refused(Refusal::Readers)
-            }
+        let at = Place::Add { trying: false };
+        let mut course = Course::with_turn(&turn, at);
+        let (mut seat, seen) = self.access.sit_and_look();
+        if self.add(rt, &mut seat, seen, &mut course, at) {
+            course.end(End::Got, Place::Upgradable);
+            return Outcome::Got(Upgradable { seat, turn });
         }
+        seat.rise();
+        self.release_turn(rt, turn, &mut course, Ending::RefuseReaders);
+        course.end(
+            End::Refused(Refusal::Readers),
+            Place::Made {
+                wanted: Wanted::UpgradableRead,
+            },
+        );
+        Outcome::Refused(Refusal::Readers)
     }
 
     /// Polls an upgradable read for the first time, past a look at the turn in vain. It is refused for memory, for too many readers, or for
@@ -86,11 +101,10 @@ impl RawRwLock {
         cx: &mut Context<'_>,
         vain: Vain<()>,
     ) -> Outcome<Upgradable, Waiting<()>>
-        requires { IsTurnOf self.now.turn vain.seat }
+        requires { IsTaking self.now vain }
         ensures outcome { OnOutcome result (IsUpgradableOf self.now) (λ waiting. IsTurnOf self.now.turn waiting.seat × IsReceipt self.now.turn.source cx.new waiting.whose) IsUpgradableRefusal }
         ensures kept { Keeps cx.old cx.new }
     {
-        // EnterTurn, TakeTurn
         match self.turn.poll_first(rt, cx, vain) {
             TurnOutcome::Got(turn) => self.upgradable_with(rt, turn),
             TurnOutcome::Waits(waiting) => Outcome::Waits(waiting),
@@ -110,7 +124,6 @@ impl RawRwLock {
         ensures outcome { OnOutcome result (IsUpgradableOf self.now) (λ waiting. IsTurnOf self.now.turn waiting.seat × IsReceipt self.now.turn.source cx.new waiting.whose) IsUpgradableRefusal }
         ensures kept { Keeps cx.old cx.new }
     {
-        // WaitTurn, TakeTurn
         match self.turn.poll_later(rt, cx, waiting) {
             TurnOutcome::Got(turn) => self.upgradable_with(rt, turn),
             TurnOutcome::Waits(waiting) => Outcome::Waits(waiting),
@@ -123,18 +136,23 @@ impl RawRwLock {
     pub fn try_write<R: Wait>(&self, rt: &R) -> Result<Writer, InVain>
         ensures { MatchResult result (IsWriterOf self.now) (IsVainWrite self.now) }
     {
-        // TryTurn
-        let turn = match self.turn.first_look() {
+        let purpose = Purpose::Write;
+        let at = Place::TryTurn { purpose };
+        let mut course = Course::begin(RwLockCall::TryWrite, Place::Out, at);
+        let turn = match self.try_turn(&mut course, purpose) {
             Ok(turn) => turn,
-            Err(vain) => return Err(InVain::Turn(vain)),
+            Err(vain) => {
+                course.end(End::NotFree, Place::Out);
+                return Err(InVain::Turn(vain));
+            }
         };
         let mut seat = self.access.sit();
-        // TryWrite
-        if self.access.try_write(&mut seat) {
+        if self.mark_free(&mut seat, &mut course, Place::TryWrite) {
+            course.end(End::Granted, Place::Writing);
             return Ok(Writer { seat, turn });
         }
-        // ReleaseTurn
-        self.turn.release(rt, turn);
+        self.release_turn(rt, turn, &mut course, Ending::NotFree { purpose });
+        course.end(End::NotFree, Place::Out);
         Err(InVain::Inside(seat))
     }
 
@@ -150,29 +168,71 @@ impl RawRwLock {
         ensures outcome { OnOutcome result (IsWriterOf self.now) (λ waits. WaitsAt self.now waits × HasReceipt self.now cx.new waits) IsWriteRefusal }
         ensures kept { Keeps cx.old cx.new }
     {
+        let mut course = Course::with_turn(&turn, Place::Mark);
         let mut seat = self.access.sit();
-        // Mark
-        match self.access.mark_until(rt, &mut seat) {
-            Readers::NoneLeft => Outcome::Got(Writer { seat, turn }),
-            Readers::SomeLeft => match self.await_first(rt, cx, seat) {
-                Awaited::Writes(seat) => Outcome::Got(Writer { seat, turn }),
-                Awaited::Waits(waiting) => Outcome::Waits(WaitsFor::Readers(waiting, turn)),
-                Awaited::NoMemory(seat) => self.refuse_write(rt, seat, turn),
-            },
+        match self.mark(rt, &mut seat, &mut course, Place::Mark) {
+            Readers::NoneLeft => {
+                course.end(End::Got, Place::Writing);
+                Outcome::Got(Writer { seat, turn })
+            }
+            Readers::SomeLeft => {
+                let awaited = self.await_first(rt, cx, seat, &mut course, false);
+                self.awaited_so(rt, awaited, turn, course)
+            }
+        }
+    }
+
+    // What a write's poll comes to that has awaited so that no reader is inside.
+    #[inline]
+    fn awaited_so<R: Wait>(
+        &self,
+        rt: &R,
+        awaited: Awaited,
+        turn: Turn,
+        course: Course,
+    ) -> Outcome<Writer, WaitsFor>
+        requires awaited { OnAwaited awaited (λ seat. IsOf self.now.access seat × IsWriting seat) (λ waiting. IsOf self.now.access waiting.seat) (λ seat. IsOf self.now.access seat × IsMarking seat) }
+        requires turn { IsHeldOf self.now.turn turn }
+        requires course { OnAwaited awaited (λ _. next_in course ≡ next.End ends.Got at.Writing) (λ _. next_in course ≡ next.End ends.Pending (at.AwaitNoReaders false)) (λ _. next_in course ≡ without_memory false) }
+        ensures { OnOutcome result (IsWriterOf self.now) (WaitsAs awaited turn) IsWriteRefusal }
+    {
+        match awaited {
+            Awaited::Writes(seat) => {
+                course.end(End::Got, Place::Writing);
+                Outcome::Got(Writer { seat, turn })
+            }
+            Awaited::Waits(waiting) => {
+                course.end(End::Pending, Place::AwaitNoReaders { upgrade: false });
+                Outcome::Waits(WaitsFor::Readers(waiting, turn))
+            }
+            Awaited::NoMemory(seat) => self.refuse_write(rt, seat, turn, course),
         }
     }
 
     // Refuses a write for whose entry there was no memory: bit and turn are given back.
     #[cold]
     #[inline(never)]
-    fn refuse_write<R: Wait>(&self, rt: &R, seat: Seat, turn: Turn) -> Outcome<Writer, WaitsFor>
+    fn refuse_write<R: Wait>(
+        &self,
+        rt: &R,
+        seat: Seat,
+        turn: Turn,
+        course: Course,
+    ) -> Outcome<Writer, WaitsFor>
         requires seat { IsOf self.now.access seat × IsMarking seat }
         requires turn { IsHeldOf self.now.turn turn }
+        requires course { next_in course ≡ without_memory false }
         ensures { OnOutcome result (λ _. ⊥) (λ _. ⊥) IsWriteRefusal }
     {
-        // Unmark, UnmarkNotify, ReleaseTurn
-        self.clear_mark(rt, seat);
-        self.turn.release(rt, turn);
+        let mut course = course;
+        self.clear_mark(rt, seat, &mut course, Place::Unmark { refused: true }, true);
+        self.release_turn(rt, turn, &mut course, Ending::RefuseMemory);
+        course.end(
+            End::Refused(Refusal::Memory),
+            Place::Made {
+                wanted: Wanted::Write,
+            },
+        );
         Outcome::Refused(Refusal::Memory)
     }
 
@@ -184,11 +244,10 @@ impl RawRwLock {
         cx: &mut Context<'_>,
         vain: Vain<()>,
     ) -> Outcome<Writer, WaitsFor>
-        requires { IsTurnOf self.now.turn vain.seat }
+        requires { IsTaking self.now vain }
         ensures outcome { OnOutcome result (IsWriterOf self.now) (λ waits. WaitsAt self.now waits × HasReceipt self.now cx.new waits) IsWriteRefusal }
         ensures kept { Keeps cx.old cx.new }
     {
-        // EnterTurn, TakeTurn
         match self.turn.poll_first(rt, cx, vain) {
             TurnOutcome::Got(turn) => self.write_with(rt, cx, turn),
             TurnOutcome::Waits(waiting) => Outcome::Waits(WaitsFor::Turn(waiting)),
@@ -209,18 +268,17 @@ impl RawRwLock {
         ensures kept { Keeps cx.old cx.new }
     {
         match waits {
-            // WaitTurn, TakeTurn
             WaitsFor::Turn(waiting) => match self.turn.poll_later(rt, cx, waiting) {
                 TurnOutcome::Got(turn) => self.write_with(rt, cx, turn),
                 TurnOutcome::Waits(waiting) => Outcome::Waits(WaitsFor::Turn(waiting)),
                 TurnOutcome::Refused(refusal) => Outcome::Refused(refusal),
             },
-            // AwaitNoReaders
-            WaitsFor::Readers(waiting, turn) => match self.poll_awaiting(rt, cx, waiting) {
-                Awaited::Writes(seat) => Outcome::Got(Writer { seat, turn }),
-                Awaited::Waits(waiting) => Outcome::Waits(WaitsFor::Readers(waiting, turn)),
-                Awaited::NoMemory(seat) => self.refuse_write(rt, seat, turn),
-            },
+            WaitsFor::Readers(waiting, turn) => {
+                let at = Place::AwaitNoReaders { upgrade: false };
+                let mut course = Course::begin(RwLockCall::Poll, at, at);
+                let awaited = self.poll_awaiting(rt, cx, waiting, &mut course, false);
+                self.awaited_so(rt, awaited, turn, course)
+            }
         }
     }
 
@@ -230,10 +288,8 @@ impl RawRwLock {
         requires { WaitsAt self.now waits }
     {
         match waits {
-            // CancelTurn, CancellingTurn
             WaitsFor::Turn(waiting) => self.turn.cancel(rt, waiting),
-            // CancelAwait, Unmark, UnmarkNotify, ReleaseTurn
-            WaitsFor::Readers(waiting, turn) => self.cancel_awaiting(rt, waiting, turn),
+            WaitsFor::Readers(waiting, turn) => self.cancel_awaiting(rt, waiting, turn, false),
         }
     }
 
@@ -242,10 +298,23 @@ impl RawRwLock {
     pub fn release_upgradable<R: Wait>(&self, rt: &R, upgradable: Upgradable)
         requires { IsUpgradableOf self.now upgradable }
     {
-        let Upgradable { seat, turn } = upgradable;
-        // DropUpgradable, DropUpgradableNotify, ReleaseTurn
-        self.release_read(rt, seat);
-        self.turn.release(rt, turn);
+        let Upgradable { mut seat, turn } = upgradable;
+        let at = Place::DropUpgradable;
+        let mut course = Course::begin(RwLockCall::Drop, Place::Upgradable, at);
+        match self.off(&mut seat, &mut course, at) {
+            Left::Readers => {}
+            Left::Nobody => {
+                let at = Place::DropUpgradableNotify;
+                self.notify_writer(rt, &mut seat, Left::Nobody, &mut course, at);
+            }
+            Left::Writer => {
+                let at = Place::DropUpgradableNotify;
+                self.notify_writer(rt, &mut seat, Left::Writer, &mut course, at);
+            }
+        }
+        seat.rise();
+        self.release_turn(rt, turn, &mut course, Ending::GivenBack);
+        course.end(End::GivenBack, Place::Out);
     }
 
     /// Clears the writer's bit and notifies the first that waits to read. Then it gives the turn back, and notifies the first that waits for it.
@@ -254,9 +323,11 @@ impl RawRwLock {
         requires { IsWriterOf self.now writer }
     {
         let Writer { seat, turn } = writer;
-        // DropWrite, UnmarkNotify, ReleaseTurn
-        self.clear_mark(rt, seat);
-        self.turn.release(rt, turn);
+        let at = Place::DropWrite;
+        let mut course = Course::begin(RwLockCall::Drop, Place::Writing, at);
+        self.clear_mark(rt, seat, &mut course, at, false);
+        self.release_turn(rt, turn, &mut course, Ending::GivenBack);
+        course.end(End::GivenBack, Place::Out);
     }
 
     /// Gives the turn of an upgradable reader back, which goes on as a reader by the same seat.
@@ -267,8 +338,12 @@ impl RawRwLock {
         ensures same { result.seat ≡ upgradable.seat }
     {
         let Upgradable { seat, turn } = upgradable;
-        // ReleaseTurn
-        self.turn.release(rt, turn);
+        let at = Place::ReleaseTurn {
+            ending: Ending::Reading,
+        };
+        let mut course = Course::begin(RwLockCall::Downgrade, Place::Upgradable, at);
+        self.release_turn(rt, turn, &mut course, Ending::Reading);
+        course.end(End::GivenBack, Place::Reading);
         Reader { seat }
     }
 
@@ -280,29 +355,29 @@ impl RawRwLock {
         ensures same { result.seat ≡ with_downgrade writer.seat }
     {
         let Writer { mut seat, turn } = writer;
-        // Down, DownNotify
-        self.downgrade_seat(rt, &mut seat);
+        let at = Place::Down { keeps_turn: true };
+        let mut course = Course::begin(RwLockCall::DowngradeToUpgradable, Place::Writing, at);
+        self.downgrade_seat(rt, &mut seat, &mut course);
+        course.end(End::GivenBack, Place::Upgradable);
         Upgradable { seat, turn }
     }
 
     /// Reads in place of writing, by one step of the same seat, and gives the turn back. It notifies the first that waits for the turn, and
     /// then the first that waits to read.
     #[inline]
-    #[tactic(auto, using(crate::proofs::Downgrading::paid, crate::proofs::Downgrading::eased))]
+    #[tactic(auto, using(crate::proofs::Downgrading::paid))]
     pub fn downgrade_write<R: Wait>(&self, rt: &R, writer: Writer) -> Reader
         requires { IsWriterOf self.now writer }
         ensures of { IsReaderOf self.now result }
         ensures same { result.seat ≡ with_downgrade writer.seat }
     {
         let Writer { mut seat, turn } = writer;
-        // Down: the seat owes the readers then
-        self.access.down(&mut seat);
-        // ReleaseTurn
-        self.turn.release(rt, turn);
-        // DowngradeNotify
-        if self.access.may_have_entries(&mut seat) {
-            self.access.notify_readers(rt, &mut seat);
-        }
+        let at = Place::Down { keeps_turn: false };
+        let mut course = Course::begin(RwLockCall::Downgrade, Place::Writing, at);
+        self.step_down(&mut seat, &mut course, at);
+        self.release_turn(rt, turn, &mut course, Ending::NotifyReaders);
+        self.notify_readers_if_any(rt, &mut seat, &mut course, Place::DowngradeNotify);
+        course.end(End::GivenBack, Place::Reading);
         Reader { seat }
     }
 }
