@@ -66,7 +66,8 @@ impl<T, R: Releases, O: Owns<Value = T, Runtime = R>> WriteGuard<T, R, O> {
     #[inline]
     pub(crate) fn of_stage(stage: Stage<O>, writer: Writer) -> WriteGuard<T, R, O>
         requires { At O.lock_of stage (λ raw. IsWriterOf raw writer) }
-        ensures { IsOf O.lock_of stage result.lock }
+        ensures lock { IsOf O.lock_of stage result.lock }
+        ensures seat { result.seat ≡ writer.seat }
     {
         match stage {
             Stage::Waits(owner) => WriteGuard::new(owner, writer),
