@@ -1,3 +1,4 @@
+pub mod Courses
 pub mod Semaphores
 pub mod Entries
 pub mod Queues

@@ -2,6 +2,12 @@
 use Rattle.std.specs.Prelude.{◌≡◌, ℕ, ◌+◌, ◌-◌, ◌<◌, ◌&&◌, leb, Bool, true, false, refl}
 use Rattle.std.specs.Coded.{Coded, code_by, coded×, coded_ℕ, coded_bool}
 use Rattle.atomic_table.specs.Seated.{TableId, table_id_coded}
+use Rattle.lock_program.specs.declared.end.Next.TheVariants.{Do}
+use Rattle.semaphore_core.specs.Courses.{Course, course_coded, outside, IsHolding}
+use Rattle.sync_program.specs.Permits.{action_of, next_of}
+use Rattle.sync_program.specs.declared.permits.Action.{Action}
+use Rattle.sync_program.specs.declared.permits.Found.{Found}
+use Rattle.sync_program.specs.declared.permits.Place.{Place}
 use Rattle.words_permits.specs.declared.view.View.{View}
 
 -- Which table it is, and with how many permits it began.
@@ -19,7 +25,7 @@ semaphore_coded = code_by (TableId × (ℕ × ℕ)) (coded× table_id_coded (cod
 
 -- A seat: of which semaphore it is; the permits that it has and those that it has under way, what it found last of the available permits and of the
 -- limit, and what it has added and forgotten in all; whether it owes a notification, and has looked since; and whether it has an entry, and no look of it
--- found too few since it joined, the number of that entry, and for how many permits it waits.
+-- found too few since it joined, the number of that entry, and for how many permits it waits; and where it is in its program.
 pub record Seated : Type 0 where
   pub table : TableId
   pub permits : ℕ
@@ -34,16 +40,17 @@ pub record Seated : Type 0 where
   pub fresh : Bool
   pub entry : ℕ
   pub weight : ℕ
+  pub course : Course
 
 abbrev pub seated_coded : Coded Seated
-seated_coded = code_by (TableId × (ℕ × (ℕ × (ℕ × (ℕ × (ℕ × (ℕ × (Bool × (Bool × (Bool × (Bool × (ℕ × ℕ))))))))))))
-    (coded× table_id_coded (coded× coded_ℕ (coded× coded_ℕ (coded× coded_ℕ (coded× coded_ℕ (coded× coded_ℕ (coded× coded_ℕ (coded× coded_bool (coded× coded_bool (coded× coded_bool (coded× coded_bool (coded× coded_ℕ coded_ℕ))))))))))))
-    (λ s. (s.table, (s.permits, (s.under_way, (s.found, (s.limit, (s.added, (s.forgotten, (s.owes, (s.seen, (s.listed, (s.fresh, (s.entry, s.weight)))))))))))))
-    (λ p. record { table = p.0; permits = p.1.0; under_way = p.1.1.0; found = p.1.1.1.0; limit = p.1.1.1.1.0; added = p.1.1.1.1.1.0; forgotten = p.1.1.1.1.1.1.0; owes = p.1.1.1.1.1.1.1.0; seen = p.1.1.1.1.1.1.1.1.0; listed = p.1.1.1.1.1.1.1.1.1.0; fresh = p.1.1.1.1.1.1.1.1.1.1.0; entry = p.1.1.1.1.1.1.1.1.1.1.1.0; weight = p.1.1.1.1.1.1.1.1.1.1.1.1 })
+seated_coded = code_by (TableId × (ℕ × (ℕ × (ℕ × (ℕ × (ℕ × (ℕ × (Bool × (Bool × (Bool × (Bool × (ℕ × (ℕ × Course)))))))))))))
+    (coded× table_id_coded (coded× coded_ℕ (coded× coded_ℕ (coded× coded_ℕ (coded× coded_ℕ (coded× coded_ℕ (coded× coded_ℕ (coded× coded_bool (coded× coded_bool (coded× coded_bool (coded× coded_bool (coded× coded_ℕ (coded× coded_ℕ course_coded)))))))))))))
+    (λ s. (s.table, (s.permits, (s.under_way, (s.found, (s.limit, (s.added, (s.forgotten, (s.owes, (s.seen, (s.listed, (s.fresh, (s.entry, (s.weight, s.course))))))))))))))
+    (λ p. record { table = p.0; permits = p.1.0; under_way = p.1.1.0; found = p.1.1.1.0; limit = p.1.1.1.1.0; added = p.1.1.1.1.1.0; forgotten = p.1.1.1.1.1.1.0; owes = p.1.1.1.1.1.1.1.0; seen = p.1.1.1.1.1.1.1.1.0; listed = p.1.1.1.1.1.1.1.1.1.0; fresh = p.1.1.1.1.1.1.1.1.1.1.0; entry = p.1.1.1.1.1.1.1.1.1.1.1.0; weight = p.1.1.1.1.1.1.1.1.1.1.1.1.0; course = p.1.1.1.1.1.1.1.1.1.1.1.1.1 })
     (λ _. refl)
 
-abbrev pub seated : TableId → View → Seated
-seated table v = record { table = table; permits = v.permits; under_way = v.under_way; found = v.found; limit = v.limit; added = v.added; forgotten = v.forgotten; owes = v.owes; seen = v.seen; listed = v.listed; fresh = v.fresh; entry = v.entry; weight = v.weight }
+abbrev pub seated : TableId → View → Course → Seated
+seated table v course = record { table = table; permits = v.permits; under_way = v.under_way; found = v.found; limit = v.limit; added = v.added; forgotten = v.forgotten; owes = v.owes; seen = v.seen; listed = v.listed; fresh = v.fresh; entry = v.entry; weight = v.weight; course = course }
 
 -- The seat is one of the semaphore.
 abbrev pub IsOf : Semaphore → Seated → Type 0
@@ -51,7 +58,7 @@ IsOf s seat = seat.table ≡ s.word.table
 
 -- a seat that has nothing, and has done nothing
 abbrev pub entering : Semaphore → Seated
-entering s = record { table = s.word.table; permits = 0; under_way = 0; found = 0; limit = 0; added = 0; forgotten = 0; owes = false; seen = false; listed = false; fresh = false; entry = 0; weight = 0 }
+entering s = record { table = s.word.table; permits = 0; under_way = 0; found = 0; limit = 0; added = 0; forgotten = 0; owes = false; seen = false; listed = false; fresh = false; entry = 0; weight = 0; course = outside }
 
 -- It has looked, and found a: fewer than it waits for, it is fresh no more.
 abbrev pub with_look : ℕ → Seated → Seated
@@ -95,9 +102,26 @@ with_gone s = record s { listed = false; fresh = false }
 abbrev pub with_paid : Seated → Seated
 with_paid s = record s { owes = false }
 
+module _ (at : Place) where
+  -- its call has come to this place, whose action is this
+  abbrev pub IsAt : Action → Seated → Type 0
+  IsAt act s = (s.course ≡ Do at) × (action_of at ≡ act)
+
+  -- the action of this place found this
+  abbrev pub goes : Found → Seated → Seated
+  goes found s = record s { course = next_of at found }
+
+-- it begins a call, at this place
+abbrev pub with_begun : Place → Seated → Seated
+with_begun at s = record s { course = Do at }
+
 -- The seat has exactly so many permits of the semaphore, has no entry, and owes nothing.
 abbrev pub Has : Semaphore → ℕ → Seated → Type 0
 Has s k seat = (seat.table ≡ s.word.table) × (seat.permits ≡ k) × (seat.under_way ≡ 0) × (seat.owes ≡ false) × (seat.listed ≡ false) × (seat.fresh ≡ false)
+
+-- The same, outside every call: the last one got it these.
+abbrev pub Holds : Semaphore → ℕ → Seated → Type 0
+Holds s k seat = Has s k seat × IsHolding k seat.course
 
 -- The seat has nothing, and has neither added nor forgotten any.
 abbrev pub IsNew : Semaphore → Seated → Type 0

@@ -1,9 +1,13 @@
 //! Each action on the list.
+//!
+//! It names its place in the table of `sync_program`, and asks that the seat's call has come to it.
 
 ghost use Rattle.std.specs.Prelude.{◌≡◌, ◌<◌, true, false, IfErr, IfNone, IfOk, IfSome, MatchBool, OnErr};
 ghost use Rattle.futures.specs.Task.{Keeps};
 ghost use Rattle.lock_queue.specs.Receipts.{IsReceipt};
-ghost use Rattle.semaphore_core.specs.Semaphores.{IsOf, with_joined, with_told, with_gone, with_paid};
+ghost use Rattle.sync_program.specs.declared.permits.Action.TheVariants as act;
+ghost use Rattle.sync_program.specs.declared.permits.Found.TheVariants as finds;
+ghost use Rattle.semaphore_core.specs.Semaphores.{IsAt, IsOf, goes, with_joined, with_told, with_gone, with_paid};
 
 use crate::list_steps::{
     ask_again_in, ask_in, fit_in, give_asked, give_entered, give_left, join_in, join_waking_in,
@@ -16,6 +20,7 @@ use futures::task::Context;
 use lock_event::{EntryId, Memory};
 use lock_queue::Whose;
 use std::sync::Wait;
+use sync_program::permits::{Found, Place};
 use words_permits::steps::{LIST, NOTIFICATION, give_paid, give_same};
 use words_permits::{take_out, wake_next};
 
@@ -30,12 +35,19 @@ pub struct Joined {
 impl RawSemaphore {
     /// Joins the list at the back for this many permits, with no waker. The seat has not looked since then. [`Memory`] comes only if memory
     /// was refused, and nothing has changed then.
-    pub fn join<R: Wait>(&self, rt: &R, seat: &mut Seat, permits: u64) -> Result<EntryId, Memory>
+    pub fn join<R: Wait>(
+        &self,
+        rt: &R,
+        seat: &mut Seat,
+        permits: u64,
+        at: Place,
+    ) -> Result<EntryId, Memory>
         requires of { IsOf self.now seat.old }
+        requires course { IsAt at (act.Join permits) seat.old }
         requires away { seat.old.listed ≡ false }
         requires some { 0 < permits }
-        ensures joined { IfOk result (λ id. seat.new ≡ with_joined id.number permits seat.old) }
-        ensures refused { OnErr result (seat.new ≡ seat.old) }
+        ensures joined { IfOk result (λ id. seat.new ≡ goes at finds.Done (with_joined id.number permits seat.old)) }
+        ensures refused { OnErr result (seat.new ≡ goes at finds.NoMemory seat.old) }
     {
         let shared = &self.table.shared;
         let found = take_out(shared, rt, &mut seat.inner);
@@ -44,11 +56,13 @@ impl RawSemaphore {
             Ok(id) => {
                 let found = give_entered(shared, &mut seat.inner, id, permits, word);
                 wake_next(shared, found);
+                seat.go(at, Found::Done);
                 Ok(id)
             }
             Err(memory) => {
                 let found = give_same(shared, &mut seat.inner, word);
                 wake_next(shared, found);
+                seat.go(at, Found::NoMemory);
                 Err(memory)
             }
         }
@@ -61,12 +75,14 @@ impl RawSemaphore {
         seat: &mut Seat,
         permits: u64,
         cx: &mut Context<'_>,
+        at: Place,
     ) -> Result<Joined, Memory>
         requires of { IsOf self.now seat.old }
+        requires course { IsAt at (act.Join permits) seat.old }
         requires away { seat.old.listed ≡ false }
         requires some { 0 < permits }
-        ensures joined { IfOk result (λ joined. seat.new ≡ with_joined joined.id.number permits seat.old) }
-        ensures refused { OnErr result (seat.new ≡ seat.old) }
+        ensures joined { IfOk result (λ joined. seat.new ≡ goes at finds.Done (with_joined joined.id.number permits seat.old)) }
+        ensures refused { OnErr result (seat.new ≡ goes at finds.NoMemory seat.old) }
         ensures keeps { IfOk result (λ joined. IsReceipt self.now.source cx.new joined.whose) }
         ensures kept { Keeps cx.old cx.new }
     {
@@ -85,11 +101,13 @@ impl RawSemaphore {
             Ok((id, whose)) => {
                 let found = give_entered(shared, &mut seat.inner, id, permits, word);
                 wake_next(shared, found);
+                seat.go(at, Found::Done);
                 Ok(Joined { id, whose, word })
             }
             Err(memory) => {
                 let found = give_same(shared, &mut seat.inner, word);
                 wake_next(shared, found);
+                seat.go(at, Found::NoMemory);
                 Err(memory)
             }
         }
@@ -97,16 +115,18 @@ impl RawSemaphore {
 
     /// Takes the entry of this id out of the list, which is the seat's: whether it was notified. If so, the seat owes a look and a
     /// notification. The entry's own waker is dropped, by which the kit wakes its task once more.
-    pub fn remove<R: Wait>(&self, rt: &R, seat: &mut Seat, id: EntryId) -> bool
+    pub fn remove<R: Wait>(&self, rt: &R, seat: &mut Seat, id: EntryId, at: Place) -> bool
         requires of { IsOf self.now seat.old }
+        requires course { IsAt at act.Remove seat.old }
         requires own { (seat.old.listed ≡ true) × (seat.old.entry ≡ id.number) }
-        ensures { MatchBool result (seat.new ≡ with_told seat.old) (seat.new ≡ with_gone seat.old) }
+        ensures { MatchBool result (seat.new ≡ goes at finds.Yes (with_told seat.old)) (seat.new ≡ goes at finds.No (with_gone seat.old)) }
     {
         let shared = &self.table.shared;
         let found = take_out(shared, rt, &mut seat.inner);
         let (was_notified, kept, word) = remove_in(shared, &mut seat.inner, id, found);
         let found = give_left(shared, &mut seat.inner, id, was_notified, word);
         wake_next(shared, found);
+        seat.go(at, answer(was_notified));
         drop(kept);
         was_notified
     }
@@ -120,43 +140,55 @@ impl RawSemaphore {
         seat: &mut Seat,
         id: EntryId,
         cx: &mut Context<'_>,
+        at: Place,
     ) -> Option<Whose>
         requires of { IsOf self.now seat.old }
+        requires course { IsAt at act.Ask seat.old }
         requires own { (seat.old.listed ≡ true) × (seat.old.entry ≡ id.number) }
-        ensures told { IfNone result ((seat.new ≡ with_told seat.old) × (cx.new ≡ cx.old)) }
-        ensures waits { IfSome result (λ whose. (seat.new ≡ seat.old) × IsReceipt self.now.source cx.new whose) }
+        ensures told { IfNone result ((seat.new ≡ goes at finds.Yes (with_told seat.old)) × (cx.new ≡ cx.old)) }
+        ensures waits { IfSome result (λ whose. (seat.new ≡ goes at finds.No seat.old) × IsReceipt self.now.source cx.new whose) }
         ensures kept { Keeps cx.old cx.new }
     {
         let shared = &self.table.shared;
         let found = take_out(shared, rt, &mut seat.inner);
         let (heard, word) = ask_in(shared, &mut seat.inner, id, &self.source, cx, found);
-        give_asked(shared, &mut seat.inner, heard, word)
+        let kept = give_asked(shared, &mut seat.inner, heard, word);
+        seat.go(at, answer(kept.is_none()));
+        kept
     }
 
     // The same, of an entry that keeps the waker that it has: whether it waits.
     #[cold]
     #[inline(never)]
-    fn ask_again<R: Wait>(&self, rt: &R, seat: &mut Seat, id: EntryId) -> bool
+    fn ask_again<R: Wait>(&self, rt: &R, seat: &mut Seat, id: EntryId, at: Place) -> bool
         requires of { IsOf self.now seat.old }
+        requires course { IsAt at act.Ask seat.old }
         requires own { (seat.old.listed ≡ true) × (seat.old.entry ≡ id.number) }
-        ensures told { result ≡ false → seat.new ≡ with_told seat.old }
-        ensures waits { result ≡ true → seat.new ≡ seat.old }
+        ensures told { result ≡ false → seat.new ≡ goes at finds.Yes (with_told seat.old) }
+        ensures waits { result ≡ true → seat.new ≡ goes at finds.No seat.old }
     {
         let shared = &self.table.shared;
         let found = take_out(shared, rt, &mut seat.inner);
         let (heard, word) = ask_again_in(shared, &mut seat.inner, id, found);
-        give_asked(shared, &mut seat.inner, heard, word).is_some()
+        let waits = give_asked(shared, &mut seat.inner, heard, word).is_some();
+        seat.go(at, answer(!waits));
+        waits
     }
 
     /// Whether an entry waits that has joined with a waker: one load, where the list was not notified since. Else it asks for its
     /// notification, as [`RawSemaphore::ask`] does.
-    pub fn still_waits<R: Wait>(&self, rt: &R, seat: &mut Seat, joined: &Joined) -> bool
+    pub fn still_waits<R: Wait>(&self, rt: &R, seat: &mut Seat, joined: &Joined, at: Place) -> bool
         requires of { IsOf self.now seat.old }
+        requires course { IsAt at act.Ask seat.old }
         requires own { (seat.old.listed ≡ true) × (seat.old.entry ≡ joined.now.id.number) }
-        ensures told { result ≡ false → seat.new ≡ with_told seat.old }
-        ensures waits { result ≡ true → seat.new ≡ seat.old }
+        ensures told { result ≡ false → seat.new ≡ goes at finds.Yes (with_told seat.old) }
+        ensures waits { result ≡ true → seat.new ≡ goes at finds.No seat.old }
     {
-        self.is_still(joined.word) || self.ask_again(rt, seat, joined.id)
+        if self.is_still(joined.word) {
+            seat.go(at, Found::No);
+            return true;
+        }
+        self.ask_again(rt, seat, joined.id, at)
     }
 
     // Whether the list was not notified since its word was this.
@@ -168,13 +200,14 @@ impl RawSemaphore {
     /// Notifies the first waiter for whom as many permits are enough as the seat found last, if nobody is notified and there is such a
     /// one, and calls its waker. The seat owes nothing any more.
     #[inline]
-    pub fn fit<R: Wait>(&self, rt: &R, seat: &mut Seat, available: u64)
+    pub fn fit<R: Wait>(&self, rt: &R, seat: &mut Seat, available: u64, at: Place)
         requires of { IsOf self.now seat.old }
+        requires course { IsAt at (act.Fit available) seat.old }
         requires found { (available ≡ seat.old.found) × (seat.old.seen ≡ true) }
-        ensures { seat.new ≡ with_paid seat.old }
+        ensures { seat.new ≡ goes at finds.Done (with_paid seat.old) }
     {
-        if self.may_have_entries(seat) {
-            self.fit_listed(rt, seat, available);
+        if self.may_have_entries(seat, available, at) {
+            self.fit_listed(rt, seat, available, at);
         }
     }
 
@@ -202,16 +235,27 @@ impl RawSemaphore {
 
     // The same as `fit`, of a list that may have entries.
     #[inline(never)]
-    pub(crate) fn fit_listed<R: Wait>(&self, rt: &R, seat: &mut Seat, available: u64)
+    pub(crate) fn fit_listed<R: Wait>(&self, rt: &R, seat: &mut Seat, available: u64, at: Place)
         requires of { IsOf self.now seat.old }
+        requires course { IsAt at (act.Fit available) seat.old }
         requires found { (available ≡ seat.old.found) × (seat.old.seen ≡ true) }
-        ensures { seat.new ≡ with_paid seat.old }
+        ensures { seat.new ≡ goes at finds.Done (with_paid seat.old) }
     {
         let shared = &self.table.shared;
         let found = take_out(shared, rt, &mut seat.inner);
         let (due, word) = fit_in(shared, &mut seat.inner, available, found);
         let found = give_paid(shared, &mut seat.inner, available, word);
         wake_next(shared, found);
+        seat.go(at, Found::Done);
         drop(due.pay());
     }
+}
+
+// What an entry finds that leaves or asks: whether it was notified.
+#[inline(always)]
+fn answer(is_told: bool) -> Found
+    ensures told { is_told ≡ true → result ≡ finds.Yes }
+    ensures not { is_told ≡ false → result ≡ finds.No }
+{
+    if is_told { Found::Yes } else { Found::No }
 }

@@ -1,11 +1,17 @@
 //! The calls of a semaphore that aren't polls, action by action as its program has them.
 //!
-//! The comments name the places of the program's table, which are `sync_program`'s.
+//! Each action names its place in the table of `sync_program`, and asks that the call has come to it.
 
 ghost use Rattle.std.specs.Prelude.{◌≡◌, ℕ, true, IfErr, IfOk, IfSome, MatchBool};
 ghost use Rattle.lock_program.specs.declared.refusal.Refusal.TheVariants as refusals;
-ghost use Rattle.semaphore_core.specs.Outcomes.{OnTried, Owes};
-ghost use Rattle.semaphore_core.specs.Semaphores.{Has, HasAdded, HasUnderWay, IsNew, IsPastLimit, IsShort, with_lowered};
+ghost use Rattle.semaphore_core.specs.Courses.{IsStart, outside};
+ghost use Rattle.semaphore_core.specs.Outcomes.{IsJoining, IsLooking, IsTrying, IsVain, OnFirst, OnLooked, OnTried, Owes};
+ghost use Rattle.semaphore_core.specs.Semaphores.{Has, HasAdded, HasUnderWay, Holds, IsAt, IsNew, IsPastLimit, IsShort, goes, with_lowered};
+ghost use Rattle.lock_program.specs.declared.end.Next.TheVariants.{Do};
+ghost use Rattle.sync_program.specs.Permits.{action_of, next_of};
+ghost use Rattle.sync_program.specs.declared.permits.Action.TheVariants as act;
+ghost use Rattle.sync_program.specs.declared.permits.Found.TheVariants as finds;
+ghost use Rattle.sync_program.specs.declared.permits.Place.TheVariants as places;
 
 use crate::raw::RawSemaphore;
 use crate::receipts::{Added, Given, Lowered};
@@ -13,20 +19,52 @@ use crate::seat::Seat;
 use crate::turn::{Notifies, Tried};
 use lock_program::Refusal;
 use std::sync::Wait;
+use sync_program::permits::{Place, SemaphoreCall};
 use words_permits::{Raising, Taking};
 
 impl RawSemaphore {
     /// Takes this many permits at once, if as many are available. It waits for nobody: one look, and one exchange.
     ///
-    /// It is the one action of a try, and the first of a first poll. By the contract the seat that it returns has exactly these permits,
-    /// and it is in vain only where its look found fewer.
+    /// It is the one action of a try. By the contract the seat that it returns has exactly these permits, and it is in vain only where its
+    /// look found fewer.
     #[inline]
     pub fn try_take(&self, permits: u64) -> Tried
         ensures { OnTried self.now permits result }
     {
-        // Try, or Take
+        self.take_first(
+            SemaphoreCall::TryAcquire(permits),
+            permits,
+            Place::Try(permits),
+        )
+    }
+
+    /// Takes this many permits at once, as [`RawSemaphore::try_take`] does, as the first action of a first poll: where that is in vain
+    /// [`RawSemaphore::poll_first`] goes on.
+    #[inline]
+    pub fn first_look(&self, permits: u64) -> Tried
+        ensures { OnLooked self.now permits result }
+    {
+        self.take_first(
+            SemaphoreCall::Acquire(permits),
+            permits,
+            Place::Take {
+                permits,
+                listed: false,
+                told: false,
+            },
+        )
+    }
+
+    // The first action of a call, which takes this many permits at this place: one look, and one exchange.
+    #[inline(always)]
+    fn take_first(&self, call: SemaphoreCall, permits: u64, at: Place) -> Tried
+        requires course { IsStart call at outside }
+        requires action { action_of at ≡ act.Take permits }
+        ensures { OnFirst self.now permits at result }
+    {
         let (mut seat, found) = self.sit_and_look();
-        match self.take_from(&mut seat, found, permits) {
+        seat.begin(call, at);
+        match self.take_from(&mut seat, found, permits, at) {
             Taking::Left(_) => Tried::Got(seat),
             Taking::Short(_) => Tried::Short(seat),
             Taking::Changed => Tried::Changed(seat),
@@ -36,7 +74,7 @@ impl RawSemaphore {
     /// Ends a try that is in vain: its last look found fewer permits than it is for.
     #[inline]
     pub fn give_up(&self, seat: Seat, permits: u64)
-        requires { IsShort self.now permits seat }
+        requires { IsVain self.now permits seat }
     {
         let _ = permits;
         seat.rise();
@@ -48,11 +86,11 @@ impl RawSemaphore {
     #[cold]
     #[inline(never)]
     pub fn try_again<R: Wait>(&self, rt: &R, seat: Seat, permits: u64) -> Option<Seat>
-        requires { Has self.now 0 seat }
-        ensures { IfSome result (Has self.now permits) }
+        requires { IsTrying self.now permits seat }
+        ensures { IfSome result (Holds self.now permits) }
     {
         let mut seat = seat;
-        if self.take_on(rt, &mut seat, permits) {
+        if self.take_on(rt, &mut seat, permits, Place::Try(permits)) {
             return Some(seat);
         }
         self.give_up(seat, permits);
@@ -64,24 +102,31 @@ impl RawSemaphore {
     #[cold]
     #[inline(never)]
     pub fn look_on<R: Wait>(&self, rt: &R, seat: Seat, permits: u64) -> Result<Seat, Seat>
-        requires { Has self.now 0 seat }
-        ensures got { IfOk result (Has self.now permits) }
-        ensures short { IfErr result (IsShort self.now permits) }
+        requires { IsLooking self.now permits seat }
+        ensures got { IfOk result (Holds self.now permits) }
+        ensures short { IfErr result (IsJoining self.now permits) }
     {
         let mut seat = seat;
-        let has_got = self.take_on(rt, &mut seat, permits);
+        let at = Place::Take {
+            permits,
+            listed: false,
+            told: false,
+        };
+        let has_got = self.take_on(rt, &mut seat, permits, at);
         if has_got { Ok(seat) } else { Err(seat) }
     }
 
     // Takes this many permits, if as many are available, however often the word changes meanwhile: in vain only where its last look
     // found fewer.
     #[inline]
-    fn take_on<R: Wait>(&self, rt: &R, seat: &mut Seat, permits: u64) -> bool
-        requires { Has self.now 0 seat.old }
-        ensures { MatchBool result (Has self.now permits seat.new) (IsShort self.now permits seat.new) }
+    fn take_on<R: Wait>(&self, rt: &R, seat: &mut Seat, permits: u64, at: Place) -> bool
+        requires nothing { Has self.now 0 seat.old }
+        requires course { IsAt at (act.Take permits) seat.old }
+        ensures taken { MatchBool result (Has self.now permits seat.new) (IsShort self.now permits seat.new) }
+        ensures course { MatchBool result (seat.new.course ≡ next_of at (finds.Left seat.new.found)) (seat.new.course ≡ next_of at (finds.Short seat.new.found)) }
     {
         for _ in rt.forever() {
-            match self.take(seat, permits) {
+            match self.take(seat, permits, at) {
                 Taking::Left(_) => return true,
                 Taking::Short(_) => return false,
                 Taking::Changed => {}
@@ -94,14 +139,15 @@ impl RawSemaphore {
     /// [`RawSemaphore::notify`] has to go on.
     #[inline]
     pub fn give(&self, seat: Seat, permits: u64) -> Result<Given, Notifies>
-        requires { Has self.now permits seat }
+        requires { Holds self.now permits seat }
         ensures given { IfOk result (λ given. given.permits ≡ permits) }
         ensures notifies { IfErr result (λ notifies. (notifies.given.permits ≡ permits) × Owes self.now notifies) }
     {
-        // GiveBack, and FitGivenBack where nobody may wait
         let mut seat = seat;
-        let given = self.give_back(&mut seat, permits);
-        if self.may_have_entries(&mut seat) {
+        seat.begin(SemaphoreCall::Drop, Place::GiveBack(permits));
+        let given = self.give_back(&mut seat, permits, Place::GiveBack(permits));
+        let available = given.available();
+        if self.may_have_entries(&mut seat, available, Place::FitGivenBack(available)) {
             return Err(Notifies { seat, given });
         }
         seat.rise();
@@ -114,9 +160,9 @@ impl RawSemaphore {
         requires { Owes self.now notifies }
         ensures { result ≡ notifies.given }
     {
-        // FitGivenBack
         let Notifies { mut seat, given } = notifies;
-        self.fit_listed(rt, &mut seat, given.available());
+        let available = given.available();
+        self.fit_listed(rt, &mut seat, available, Place::FitGivenBack(available));
         seat.rise();
         given
     }
@@ -124,13 +170,13 @@ impl RawSemaphore {
     /// Ends a guard's permits for good: the limit is lowered by as many, which its receipt says. It waits for nobody. By the contract the
     /// seat has done nothing else since (`seat`).
     pub fn forget(&self, seat: Seat, permits: u64) -> Lowered
-        requires { Has self.now permits seat }
+        requires { Holds self.now permits seat }
         ensures permits { result.permits ≡ permits }
-        ensures seat { result.ended ≡ with_lowered permits seat }
+        ensures seat { result.ended ≡ goes (places.Lower permits) finds.Done (with_lowered permits seat) }
     {
-        // Lower
         let mut seat = seat;
-        self.lower(&mut seat, permits);
+        seat.begin(SemaphoreCall::Forget, Place::Lower(permits));
+        self.lower(&mut seat, permits, Place::Lower(permits));
         Lowered {
             permits,
             ended: seat.end(),
@@ -146,15 +192,13 @@ impl RawSemaphore {
         ensures added { IfOk result (λ added. (added.permits ≡ permits) × HasAdded self.now permits added.ended) }
         ensures refused { IfErr result (λ refusal. refusal ≡ refusals.Permits) }
     {
-        // Raise
         let mut seat = self.sit();
+        seat.begin(SemaphoreCall::AddPermits(permits), Place::Raise(permits));
         if !self.raise_on(rt, &mut seat, permits) {
             return Err(self.refuse(seat, permits));
         }
-        // GiveAdded
-        let available = self.give_new(&mut seat, permits);
-        // FitAdded
-        self.fit(rt, &mut seat, available);
+        let available = self.give_new(&mut seat, permits, Place::GiveAdded(permits));
+        self.fit(rt, &mut seat, available, Place::FitAdded(available));
         Ok(Added {
             permits,
             available,
@@ -164,7 +208,8 @@ impl RawSemaphore {
 
     // Ends an addition that is refused: its last look found a limit that would pass its greatest value.
     fn refuse(&self, seat: Seat, permits: u64) -> Refusal
-        requires { IsPastLimit self.now permits seat }
+        requires limit { IsPastLimit self.now permits seat }
+        requires course { seat.course ≡ next_of (places.Raise permits) finds.PastLimit }
         ensures { result ≡ refusals.Permits }
     {
         let _ = permits;
@@ -175,12 +220,14 @@ impl RawSemaphore {
     // Raises the limit by this many, if its greatest value allows it, however often the word changes meanwhile: it is refused only
     // where its last look found that it doesn't.
     fn raise_on<R: Wait>(&self, rt: &R, seat: &mut Seat, permits: u64) -> bool
-        requires { IsNew self.now seat.old }
+        requires new { IsNew self.now seat.old }
+        requires course { seat.old.course ≡ Do (places.Raise permits) }
         ensures raised { MatchBool result (HasUnderWay self.now permits seat.new) (IsPastLimit self.now permits seat.new) }
+        ensures course { MatchBool result (seat.new.course ≡ Do (places.GiveAdded permits)) (seat.new.course ≡ next_of (places.Raise permits) finds.PastLimit) }
         ensures added { result ≡ true → HasAdded self.now permits seat.new }
     {
         for _ in rt.forever() {
-            match self.raise(seat, permits) {
+            match self.raise(seat, permits, Place::Raise(permits)) {
                 Raising::Raised => return true,
                 Raising::PastLimit => return false,
                 Raising::Changed => {}

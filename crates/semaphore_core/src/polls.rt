@@ -1,11 +1,16 @@
 //! Polls of a future of a semaphore, and what a dropped one gives back, action by action as the semaphore's program has them.
 //!
-//! The comments name the places of the program's table, which are `sync_program`'s.
+//! Each action names its place in the table of `sync_program`, and asks that the call has come to it.
 
-ghost use Rattle.std.specs.Prelude.{◌≡◌, true, false, IfErr, IfOk};
+ghost use Rattle.std.specs.Prelude.{◌≡◌, ◌<◌, true, false, None, IfErr, IfNone, IfOk, IfSome, Some};
 ghost use Rattle.futures.specs.Task.{Keeps};
-ghost use Rattle.semaphore_core.specs.Outcomes.{OnOutcome, WaitsFor};
-ghost use Rattle.semaphore_core.specs.Semaphores.{Has, IsOf, IsShort};
+ghost use Rattle.lock_program.specs.declared.end.Next.TheVariants.{Do};
+ghost use Rattle.semaphore_core.specs.Courses.{IsHolding};
+ghost use Rattle.semaphore_core.specs.Outcomes.{IsJoining, IsLook, OnOutcome, WaitsFor};
+ghost use Rattle.semaphore_core.specs.Semaphores.{Holds, IsAt, IsOf};
+ghost use Rattle.sync_program.specs.Permits.{told_more};
+ghost use Rattle.sync_program.specs.declared.permits.Action.TheVariants as act;
+ghost use Rattle.sync_program.specs.declared.permits.Place.TheVariants as places;
 
 use crate::raw::RawSemaphore;
 use crate::seat::Seat;
@@ -14,6 +19,7 @@ use futures::task::Context;
 use lock_event::{EntryId, Memory};
 use lock_program::Refusal;
 use std::sync::Wait;
+use sync_program::permits::{Place, SemaphoreCall};
 use words_permits::Taking;
 
 impl RawSemaphore {
@@ -26,13 +32,16 @@ impl RawSemaphore {
         permits: u64,
         seat: Seat,
     ) -> Outcome
-        requires { IsShort self.now permits seat }
+        requires { IsJoining self.now permits seat }
         ensures outcome { OnOutcome self.now permits cx.new result }
         ensures kept { Keeps cx.old cx.new }
     {
         let mut seat = seat;
-        // Join
-        let joined = match self.join_waking(rt, &mut seat, permits, cx) {
+        let join = Place::Join {
+            permits,
+            told: None,
+        };
+        let joined = match self.join_waking(rt, &mut seat, permits, cx, join) {
             Ok(joined) => joined,
             Err(Memory) => {
                 seat.rise();
@@ -40,14 +49,22 @@ impl RawSemaphore {
             }
         };
         let id = joined.id;
-        // Take: whoever gave permits before it joined told nobody
-        match self.take(&mut seat, permits) {
+        // Whoever gave permits before it joined told nobody.
+        let look = Place::Take {
+            permits,
+            listed: true,
+            told: false,
+        };
+        match self.take(&mut seat, permits, look) {
             Taking::Left(_) => return Outcome::Got(self.leave_with(rt, permits, seat, id)),
             Taking::Short(_) => {}
-            Taking::Changed => return self.look_listed(rt, cx, permits, seat, id),
+            Taking::Changed => return self.look_listed(rt, cx, permits, seat, id, look),
         }
-        // Ask
-        if self.still_waits(rt, &mut seat, &joined) {
+        let ask = Place::Ask {
+            permits,
+            told: None,
+        };
+        if self.still_waits(rt, &mut seat, &joined, ask) {
             let whose = joined.whose;
             return Outcome::Waits(Waiting { seat, id, whose });
         }
@@ -71,15 +88,16 @@ impl RawSemaphore {
             id,
             whose: _,
         } = waiting;
-        // Retake
-        match self.take(&mut seat, permits) {
+        let at = Place::Retake(permits);
+        seat.begin(SemaphoreCall::Poll, at);
+        match self.take(&mut seat, permits, at) {
             Taking::Left(_) => Outcome::Got(self.leave_with(rt, permits, seat, id)),
             Taking::Short(_) => self.ask_listed(rt, cx, permits, seat, id),
-            Taking::Changed => self.look_listed(rt, cx, permits, seat, id),
+            Taking::Changed => self.look_listed(rt, cx, permits, seat, id, at),
         }
     }
 
-    // Retake, of a party that stands in the list, until the word stands still.
+    // Looks, of a party that stands in the list, until the word stands still.
     #[cold]
     #[inline(never)]
     fn look_listed<R: Wait>(
@@ -89,15 +107,18 @@ impl RawSemaphore {
         permits: u64,
         seat: Seat,
         id: EntryId,
+        at: Place,
     ) -> Outcome
         requires of { IsOf self.now seat }
+        requires course { IsAt at (act.Take permits) seat }
+        requires look { IsLook permits at }
         requires waits { (seat.permits ≡ 0) × (seat.under_way ≡ 0) × (seat.owes ≡ false) × (seat.listed ≡ true) × (seat.entry ≡ id.number) × (seat.weight ≡ permits) }
         ensures outcome { OnOutcome self.now permits cx.new result }
         ensures kept { Keeps cx.old cx.new }
     {
         let mut seat = seat;
         for _ in rt.forever() {
-            match self.take(&mut seat, permits) {
+            match self.take(&mut seat, permits, at) {
                 Taking::Left(_) => return Outcome::Got(self.leave_with(rt, permits, seat, id)),
                 Taking::Short(_) => return self.ask_listed(rt, cx, permits, seat, id),
                 Taking::Changed => {}
@@ -106,7 +127,7 @@ impl RawSemaphore {
         unreachable!()
     }
 
-    // Ask, of a party that found too few since it joined.
+    // Asks, of a party that found too few since it joined.
     #[inline]
     fn ask_listed<R: Wait>(
         &self,
@@ -117,90 +138,85 @@ impl RawSemaphore {
         id: EntryId,
     ) -> Outcome
         requires of { IsOf self.now seat }
+        requires course { seat.course ≡ Do (places.Ask permits None) }
         requires waits { (seat.permits ≡ 0) × (seat.under_way ≡ 0) × (seat.owes ≡ false) × (seat.listed ≡ true) × (seat.fresh ≡ false) × (seat.entry ≡ id.number) × (seat.weight ≡ permits) }
         ensures outcome { OnOutcome self.now permits cx.new result }
         ensures kept { Keeps cx.old cx.new }
     {
         let mut seat = seat;
-        // Ask
-        match self.ask(rt, &mut seat, id, cx) {
+        let at = Place::Ask {
+            permits,
+            told: None,
+        };
+        match self.ask(rt, &mut seat, id, cx, at) {
             Some(whose) => Outcome::Waits(Waiting { seat, id, whose }),
             None => self.go_on_told(rt, cx, permits, seat),
         }
     }
 
-    // Remove, of a party that got its permits while it stands in the list and was not told before: if its entry was notified, it notifies
+    // Leaves the list, of a party that got its permits while it stands there and was not told before: if its entry was notified, it notifies
     // the first for whom those that are left are enough. The seat comes back.
     #[inline(always)]
     fn leave_with<R: Wait>(&self, rt: &R, permits: u64, seat: Seat, id: EntryId) -> Seat
         requires of { IsOf self.now seat }
+        requires course { seat.course ≡ Do (places.Remove permits None) }
         requires has { (seat.permits ≡ permits) × (seat.under_way ≡ 0) × (seat.owes ≡ false) × (seat.listed ≡ true) × (seat.entry ≡ id.number) }
-        ensures { Has self.now permits result }
+        ensures { Holds self.now permits result }
     {
-        let _ = permits;
         let mut seat = seat;
-        // Remove
-        if self.remove(rt, &mut seat, id) {
-            self.hand_on(rt, &mut seat);
+        let at = Place::Remove {
+            permits,
+            more: None,
+        };
+        if self.remove(rt, &mut seat, id, at) {
+            self.hand_on(rt, &mut seat, permits);
         }
         seat
     }
 
-    // Load and HandOn, or CancelLoad and FitGivenBack: it notifies the first for whom the permits that are available now are enough.
+    // Notifies the first for whom the permits that are available now are enough, of a party that got so many and was notified.
     #[inline]
-    fn hand_on<R: Wait>(&self, rt: &R, seat: &mut Seat)
+    fn hand_on<R: Wait>(&self, rt: &R, seat: &mut Seat, permits: u64)
         requires of { IsOf self.now seat.old }
+        requires course { seat.old.course ≡ Do (places.Load permits) }
         requires away { (seat.old.listed ≡ false) × (seat.old.fresh ≡ false) }
         ensures of { IsOf self.now seat.new }
         ensures same { (seat.new.permits ≡ seat.old.permits) × (seat.new.under_way ≡ seat.old.under_way) × (seat.new.listed ≡ false) × (seat.new.fresh ≡ false) }
         ensures paid { seat.new.owes ≡ false }
+        ensures course { IsHolding permits seat.new.course }
     {
-        // Load
-        let available = self.load(seat);
-        // Fit
-        self.fit(rt, seat, available);
+        let available = self.load(seat, Place::Load(permits));
+        self.fit(rt, seat, available, Place::HandOn { permits, available });
     }
 
-    // Take, of a party that was told, and is out of the list: it hands on what is left, or joins again.
+    // Goes on with a party that was told, and is out of the list: it takes its permits and hands on what is left, or joins again.
     #[inline(never)]
     fn go_on_told<R: Wait>(&self, rt: &R, cx: &mut Context<'_>, permits: u64, seat: Seat) -> Outcome
         requires of { IsOf self.now seat }
+        requires course { seat.course ≡ Do (places.Take permits false true) }
         requires told { (seat.permits ≡ 0) × (seat.under_way ≡ 0) × (seat.listed ≡ false) × (seat.fresh ≡ false) }
         ensures outcome { OnOutcome self.now permits cx.new result }
         ensures kept { Keeps cx.old cx.new }
     {
         let mut seat = seat;
+        let look = Place::Take {
+            permits,
+            listed: false,
+            told: true,
+        };
         for _ in rt.forever() {
-            // Take, told
-            match self.take(&mut seat, permits) {
+            match self.take(&mut seat, permits, look) {
                 Taking::Left(left) => {
-                    // HandOn
-                    if left > 0 {
-                        self.fit(rt, &mut seat, left);
+                    if let Some(available) = some_of(left) {
+                        let at = Place::HandOn { permits, available };
+                        self.fit(rt, &mut seat, available, at);
                     }
                     return Outcome::Got(seat);
                 }
                 Taking::Short(available) => {
-                    // Join
-                    let Ok(id) = self.join(rt, &mut seat, permits) else {
-                        // RefuseFit
-                        self.fit(rt, &mut seat, available);
-                        seat.rise();
-                        return Outcome::Refused(Refusal::Memory);
-                    };
-                    // Take, told and listed
-                    match self.look_told(rt, permits, &mut seat) {
-                        Ok(left) => {
-                            return Outcome::Got(self.leave_told(rt, permits, seat, id, left));
-                        }
-                        Err(available) => {
-                            // Ask, told
-                            if let Some(whose) = self.ask(rt, &mut seat, id, cx) {
-                                // PassOn
-                                self.fit(rt, &mut seat, available);
-                                return Outcome::Waits(Waiting { seat, id, whose });
-                            }
-                        }
+                    match self.join_told(rt, cx, permits, seat, available) {
+                        Ok(outcome) => return outcome,
+                        Err(told) => seat = told,
                     }
                 }
                 Taking::Changed => {}
@@ -209,19 +225,70 @@ impl RawSemaphore {
         unreachable!()
     }
 
-    // Take, of a party that was told and has joined again, until the word stands still: how many are left once it has its permits, or how
+    // Joins again, of a party that was told and found too few: how its poll went, or its seat, which was told once more.
+    #[inline(always)]
+    fn join_told<R: Wait>(
+        &self,
+        rt: &R,
+        cx: &mut Context<'_>,
+        permits: u64,
+        seat: Seat,
+        available: u64,
+    ) -> Result<Outcome, Seat>
+        requires of { IsOf self.now seat }
+        requires course { seat.course ≡ Do (places.Join permits (Some available)) }
+        requires told { (seat.permits ≡ 0) × (seat.under_way ≡ 0) × (seat.listed ≡ false) × (seat.fresh ≡ false) }
+        requires found { (available ≡ seat.found) × (seat.seen ≡ true) × (available < permits) }
+        ensures outcome { IfOk result (OnOutcome self.now permits cx.new) }
+        ensures again { IfErr result (λ told. IsOf self.now told × (told.permits ≡ 0) × (told.under_way ≡ 0) × (told.listed ≡ false) × (told.fresh ≡ false) × (told.course ≡ Do (places.Take permits false true))) }
+        ensures unheard { IfErr result (λ _. cx.new ≡ cx.old) }
+        ensures kept { Keeps cx.old cx.new }
+    {
+        let mut seat = seat;
+        let told = Some(available);
+        let join = Place::Join { permits, told };
+        let Ok(id) = self.join(rt, &mut seat, permits, join) else {
+            let at = Place::RefuseFit { permits, available };
+            self.fit(rt, &mut seat, available, at);
+            seat.rise();
+            return Ok(Outcome::Refused(Refusal::Memory));
+        };
+        let available = match self.look_told(rt, permits, &mut seat) {
+            Ok(left) => {
+                return Ok(Outcome::Got(self.leave_told(rt, permits, seat, id, left)));
+            }
+            Err(available) => available,
+        };
+        let told = Some(available);
+        let Some(whose) = self.ask(rt, &mut seat, id, cx, Place::Ask { permits, told }) else {
+            return Err(seat);
+        };
+        let at = Place::PassOn { permits, available };
+        self.fit(rt, &mut seat, available, at);
+        Ok(Outcome::Waits(Waiting { seat, id, whose }))
+    }
+
+    // Looks, of a party that was told and has joined again, until the word stands still: how many are left once it has its permits, or how
     // many it found.
     #[inline]
     fn look_told<R: Wait>(&self, rt: &R, permits: u64, seat: &mut Seat) -> Result<u64, u64>
         requires of { IsOf self.now seat.old }
+        requires course { seat.old.course ≡ Do (places.Take permits true true) }
         requires waits { (seat.old.permits ≡ 0) × (seat.old.under_way ≡ 0) × (seat.old.listed ≡ true) × (seat.old.weight ≡ permits) }
         ensures of { IsOf self.now seat.new }
         ensures same { (seat.new.under_way ≡ 0) × (seat.new.listed ≡ true) × (seat.new.entry ≡ seat.old.entry) × (seat.new.weight ≡ permits) × (seat.new.seen ≡ true) }
         ensures got { IfOk result (λ left. (seat.new.permits ≡ permits) × (left ≡ seat.new.found) × (left ≡ 0 → seat.new.owes ≡ false)) }
         ensures short { IfErr result (λ a. (seat.new.permits ≡ 0) × (a ≡ seat.new.found) × (seat.new.fresh ≡ false)) }
+        ensures leaves { IfOk result (λ left. seat.new.course ≡ Do (places.Remove permits (told_more true left))) }
+        ensures asks { IfErr result (λ a. seat.new.course ≡ Do (places.Ask permits (Some a))) }
     {
+        let at = Place::Take {
+            permits,
+            listed: true,
+            told: true,
+        };
         for _ in rt.forever() {
-            match self.take(seat, permits) {
+            match self.take(seat, permits, at) {
                 Taking::Left(left) => return Ok(left),
                 Taking::Short(available) => return Err(available),
                 Taking::Changed => {}
@@ -230,23 +297,27 @@ impl RawSemaphore {
         unreachable!()
     }
 
-    // Remove, of a party that was told, has joined again and got its permits: it hands on those that are left, or looks anew if its entry
-    // was notified.
+    // Leaves the list, of a party that was told, has joined again and got its permits: it hands on those that are left, or looks anew if its
+    // entry was notified.
     #[inline]
     fn leave_told<R: Wait>(&self, rt: &R, permits: u64, seat: Seat, id: EntryId, left: u64) -> Seat
         requires of { IsOf self.now seat }
+        requires course { seat.course ≡ Do (places.Remove permits (told_more true left)) }
         requires has { (seat.permits ≡ permits) × (seat.under_way ≡ 0) × (seat.listed ≡ true) × (seat.entry ≡ id.number) }
         requires found { (left ≡ seat.found) × (seat.seen ≡ true) × (left ≡ 0 → seat.owes ≡ false) }
-        ensures { Has self.now permits result }
+        ensures { Holds self.now permits result }
     {
-        let _ = permits;
         let mut seat = seat;
-        // Remove, told
-        if self.remove(rt, &mut seat, id) {
-            self.hand_on(rt, &mut seat);
-        } else if left > 0 {
-            // HandOn, of what it left
-            self.fit(rt, &mut seat, left);
+        let more = some_of(left);
+        if self.remove(rt, &mut seat, id, Place::Remove { permits, more }) {
+            self.hand_on(rt, &mut seat, permits);
+        } else if let Some(available) = more {
+            self.fit(
+                rt,
+                &mut seat,
+                available,
+                Place::HandOn { permits, available },
+            );
         }
         seat
     }
@@ -261,10 +332,21 @@ impl RawSemaphore {
             id,
             whose: _,
         } = waiting;
-        // CancelRemove
-        if self.remove(rt, &mut seat, id) {
-            self.hand_on(rt, &mut seat);
+        seat.begin(SemaphoreCall::Drop, Place::CancelRemove);
+        if self.remove(rt, &mut seat, id, Place::CancelRemove) {
+            let available = self.load(&mut seat, Place::CancelLoad);
+            self.fit(rt, &mut seat, available, Place::FitGivenBack(available));
         }
         seat.rise();
     }
+}
+
+// How many are left for the next one, if some are.
+#[inline(always)]
+fn some_of(left: u64) -> Option<u64>
+    ensures more { result ≡ told_more true left }
+    ensures some { IfSome result (λ available. available ≡ left) }
+    ensures none { IfNone result (left ≡ 0) }
+{
+    if left > 0 { Some(left) } else { None }
 }

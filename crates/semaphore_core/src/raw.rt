@@ -1,7 +1,11 @@
 //! A semaphore without its runtime, and each action on its two numbers.
+//!
+//! An action names its place in the table of `sync_program`, and asks that the seat's call has come to it.
 
 ghost use Rattle.std.specs.Prelude.{◌≡◌, ℕ, ◌+◌, ◌<◌, ◌≤◌, ⊤, true, false, IfOk};
-ghost use Rattle.semaphore_core.specs.Semaphores.{IsOf, entering, with_look, with_taken, with_given, with_given_new, with_lowered, with_limit, with_raised, with_paid};
+ghost use Rattle.semaphore_core.specs.Semaphores.{IsAt, IsOf, entering, goes, with_look, with_taken, with_given, with_given_new, with_lowered, with_limit, with_raised, with_paid};
+ghost use Rattle.sync_program.specs.declared.permits.Action.TheVariants as act;
+ghost use Rattle.sync_program.specs.declared.permits.Found.TheVariants as finds;
 ghost use Rattle.words_permits.specs.Tries.{OnTaking, OnRaising};
 
 use crate::list_steps::Listing;
@@ -12,6 +16,7 @@ use atomic_table::Table;
 use futures::task::Source;
 use std::alloc::{AllocError, Global};
 use std::marker::Model;
+use sync_program::permits::{Found, Place};
 use words_permits::steps::{AVAILABLE, ENTRIES, give, give_new, look, lower, peek, raise, take};
 use words_permits::{Keep, PermitRule, Raising, Sees, Taking, View};
 
@@ -72,9 +77,7 @@ impl RawSemaphore {
         ensures { result ≡ entering self.now }
     {
         let shared: &Listing = &self.table.shared;
-        Seat {
-            inner: shared.load_new_seat::<Keep>(AVAILABLE).1,
-        }
+        Seat::new(shared.load_new_seat::<Keep>(AVAILABLE).1)
     }
 
     /// Returns a new seat as [`RawSemaphore::sit`] does, with how many permits its one load found available.
@@ -84,7 +87,7 @@ impl RawSemaphore {
     {
         let shared: &Listing = &self.table.shared;
         let (found, inner) = shared.load_new_seat::<Sees>(AVAILABLE);
-        (Seat { inner }, found)
+        (Seat::new(inner), found)
     }
 
     /// Returns how many permits were available at some moment of the call. It waits for nobody.
@@ -95,39 +98,47 @@ impl RawSemaphore {
 
     /// Sees how many permits are available: one step.
     #[inline]
-    pub fn load(&self, seat: &mut Seat) -> u64
+    pub fn load(&self, seat: &mut Seat, at: Place) -> u64
         requires of { IsOf self.now seat.old }
-        ensures { seat.new ≡ with_look result seat.old }
+        requires course { IsAt at act.Load seat.old }
+        ensures { seat.new ≡ goes at (finds.Available result) (with_look result seat.old) }
     {
-        look(&self.table.shared, &mut seat.inner)
+        let available = look(&self.table.shared, &mut seat.inner);
+        seat.go(at, Found::Available(available));
+        available
     }
 
     /// Takes this many permits if as many are available: one look, and one exchange. A seat for whose entry the look found too few is
-    /// fresh no more (`stale`), and one that took the last permit owes nothing (`ends`).
+    /// fresh no more (`stale`), and one that took the last permit owes nothing (`ends`). Where the word changed meanwhile the call stays at its
+    /// place.
     #[inline]
-    pub fn take(&self, seat: &mut Seat, permits: u64) -> Taking
+    pub fn take(&self, seat: &mut Seat, permits: u64, at: Place) -> Taking
         requires of { IsOf self.now seat.old }
-        ensures step { OnTaking result (λ a. seat.new ≡ with_taken permits a (with_look (a + permits) seat.old)) (λ a. (a < permits) × (seat.new ≡ with_look a seat.old)) (seat.new ≡ with_look seat.new.found seat.old) }
+        requires course { IsAt at (act.Take permits) seat.old }
+        ensures step { OnTaking result (λ a. seat.new ≡ goes at (finds.Left a) (with_taken permits a (with_look (a + permits) seat.old))) (λ a. (a < permits) × (seat.new ≡ goes at (finds.Short a) (with_look a seat.old))) (seat.new ≡ with_look seat.new.found seat.old) }
         ensures stale { OnTaking result (λ _. ⊤) (λ _. permits ≤ seat.old.weight → seat.new.fresh ≡ false) ⊤ }
         ensures ends { OnTaking result (λ a. a ≡ 0 → seat.new.owes ≡ false) (λ _. ⊤) ⊤ }
     {
-        let found = self.load(seat);
-        self.take_from(seat, found, permits)
+        let found = look(&self.table.shared, &mut seat.inner);
+        self.take_from(seat, found, permits, at)
     }
 
     /// Takes this many permits, if as many were available when the seat looked last, and if as many are still: one exchange, with no look
     /// of its own.
     #[inline]
-    pub fn take_from(&self, seat: &mut Seat, found: u64, permits: u64) -> Taking
+    pub fn take_from(&self, seat: &mut Seat, found: u64, permits: u64, at: Place) -> Taking
         requires of { IsOf self.now seat.old }
+        requires course { IsAt at (act.Take permits) seat.old }
         requires found { found ≡ seat.old.found }
-        ensures step { OnTaking result (λ a. (found ≡ a + permits) × (seat.new ≡ with_taken permits a seat.old)) (λ a. (a < permits) × (a ≡ found) × (seat.new ≡ seat.old)) (seat.new ≡ seat.old) }
+        ensures step { OnTaking result (λ a. (found ≡ a + permits) × (seat.new ≡ goes at (finds.Left a) (with_taken permits a seat.old))) (λ a. (a < permits) × (a ≡ found) × (seat.new ≡ goes at (finds.Short a) seat.old)) (seat.new ≡ seat.old) }
     {
         if found < permits {
+            seat.go(at, Found::Short(found));
             return Taking::Short(found);
         }
         let left = found - permits;
         if take(&self.table.shared, &mut seat.inner, found, left) == found {
+            seat.go(at, Found::Left(left));
             Taking::Left(left)
         } else {
             Taking::Changed
@@ -136,54 +147,76 @@ impl RawSemaphore {
 
     /// Gives this many of the seat's permits back: one step. The seat owes a notification then.
     #[inline]
-    pub fn give_back(&self, seat: &mut Seat, permits: u64) -> Given
+    pub fn give_back(&self, seat: &mut Seat, permits: u64, at: Place) -> Given
         requires of { IsOf self.now seat.old }
+        requires course { IsAt at (act.GiveBack permits) seat.old }
         requires has { permits ≤ seat.old.permits }
-        ensures step { seat.new ≡ with_given permits result.available seat.old }
+        ensures step { seat.new ≡ goes at (finds.Available result.available) (with_given permits result.available seat.old) }
         ensures given { result.permits ≡ permits }
     {
         let available = give(&self.table.shared, &mut seat.inner, permits);
+        seat.go(at, Found::Available(available));
         Given { permits, available }
     }
 
     /// Gives this many new permits that the seat has under way: one step, which answers how many are then available. The seat owes a
     /// notification then.
     #[inline]
-    pub fn give_new(&self, seat: &mut Seat, permits: u64) -> u64
+    pub fn give_new(&self, seat: &mut Seat, permits: u64, at: Place) -> u64
         requires of { IsOf self.now seat.old }
+        requires course { IsAt at (act.Give permits) seat.old }
         requires has { permits ≤ seat.old.under_way }
-        ensures { seat.new ≡ with_given_new permits result seat.old }
+        ensures { seat.new ≡ goes at (finds.Available result) (with_given_new permits result seat.old) }
     {
-        give_new(&self.table.shared, &mut seat.inner, permits)
+        let available = give_new(&self.table.shared, &mut seat.inner, permits);
+        seat.go(at, Found::Available(available));
+        available
     }
 
     /// Raises the limit by this many permits if it stays a number of 64 bits: one try, after a look. The seat has the new permits under
-    /// way. It is refused only where its look found that the limit would pass its greatest value.
-    pub fn raise(&self, seat: &mut Seat, permits: u64) -> Raising
+    /// way. It is refused only where its look found that the limit would pass its greatest value. Where the word changed meanwhile the call
+    /// stays at its place.
+    pub fn raise(&self, seat: &mut Seat, permits: u64, at: Place) -> Raising
         requires of { IsOf self.now seat.old }
-        ensures { OnRaising result (seat.new ≡ with_raised permits seat.new.limit seat.old) ((18446744073709551615 < seat.new.limit + permits) × (seat.new ≡ with_limit seat.new.limit seat.old)) (seat.new ≡ with_limit seat.new.limit seat.old) }
+        requires course { IsAt at (act.Raise permits) seat.old }
+        ensures { OnRaising result (seat.new ≡ goes at finds.Done (with_raised permits seat.new.limit seat.old)) ((18446744073709551615 < seat.new.limit + permits) × (seat.new ≡ goes at finds.PastLimit (with_limit seat.new.limit seat.old))) (seat.new ≡ with_limit seat.new.limit seat.old) }
     {
-        raise(&self.table.shared, &mut seat.inner, permits)
+        let raising = raise(&self.table.shared, &mut seat.inner, permits);
+        match raising {
+            Raising::Raised => seat.go(at, Found::Done),
+            Raising::PastLimit => seat.go(at, Found::PastLimit),
+            Raising::Changed => {}
+        }
+        raising
     }
 
     /// Lowers the limit by this many of the seat's permits, which never come back: one step.
     #[inline]
-    pub fn lower(&self, seat: &mut Seat, permits: u64)
+    pub fn lower(&self, seat: &mut Seat, permits: u64, at: Place)
         requires of { IsOf self.now seat.old }
+        requires course { IsAt at (act.Lower permits) seat.old }
         requires has { permits ≤ seat.old.permits }
-        ensures { seat.new ≡ with_lowered permits seat.old }
+        ensures { seat.new ≡ goes at finds.Done (with_lowered permits seat.old) }
     {
         lower(&self.table.shared, &mut seat.inner, permits);
+        seat.go(at, Found::Done);
     }
 
-    /// Returns whether the list may have entries: one load. If not, the seat owes nothing any more.
+    /// Returns whether the list may have entries, for a seat that has to notify of so many permits: one load. If not, there is nobody to
+    /// notify, so that was done, and the seat owes nothing any more.
     #[inline]
-    pub fn may_have_entries(&self, seat: &mut Seat) -> bool
+    pub fn may_have_entries(&self, seat: &mut Seat, available: u64, at: Place) -> bool
         requires of { IsOf self.now seat.old }
+        requires course { IsAt at (act.Fit available) seat.old }
         ensures some { result ≡ true → seat.new ≡ seat.old }
-        ensures none { result ≡ false → seat.new ≡ with_paid seat.old }
+        ensures none { result ≡ false → seat.new ≡ goes at finds.Done (with_paid seat.old) }
     {
-        peek(&self.table.shared, &mut seat.inner) % 8 >= ENTRIES
+        let _ = available;
+        if peek(&self.table.shared, &mut seat.inner) % 8 >= ENTRIES {
+            return true;
+        }
+        seat.go(at, Found::Done);
+        false
     }
 }
 

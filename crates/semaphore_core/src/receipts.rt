@@ -1,6 +1,7 @@
 //! What shows that permits were given, added or forgotten.
 
 ghost use Rattle.std.specs.Prelude.{◌≡◌, ◌≤◌};
+ghost use Rattle.semaphore_core.specs.Courses.{granted, outside};
 
 use crate::seat::Ended;
 
@@ -23,14 +24,14 @@ impl Given {
 }
 
 /// A receipt: by steps of one seat, which has ended, the limit was raised by so many permits, and these were made available. It is made
-/// of that seat alone.
+/// of that seat alone, once an addition has come to its end.
 #[derive(Drop)]
 pub struct Added {
     pub(crate) permits: u64,
     // How many were available then.
     pub(crate) available: u64,
     pub(crate) ended: Ended,
-    ghost shown: { (ended.added ≡ permits) × (ended.forgotten ≡ 0) },
+    ghost shown: { (ended.added ≡ permits) × (ended.forgotten ≡ 0) × (ended.course ≡ granted) },
 }
 
 impl Added {
@@ -48,5 +49,5 @@ impl Added {
 pub struct Lowered {
     pub(crate) permits: u64,
     pub(crate) ended: Ended,
-    ghost shown: { permits ≤ ended.forgotten },
+    ghost shown: { (permits ≤ ended.forgotten) × (ended.course ≡ outside) },
 }

@@ -1,19 +1,27 @@
 //! What a party steps with.
 
-ghost use Rattle.std.specs.Prelude.{◌≡◌, false};
+ghost use Rattle.std.specs.Prelude.{◌≡◌, false, []};
+ghost use Rattle.semaphore_core.specs.Courses.{IsOutside, IsStart, outside};
+ghost use Rattle.semaphore_core.specs.Semaphores.{goes, seated, with_begun};
 
 use crate::queue::Queue;
 use atomic_table::Seat as TableSeat;
+use lock_program::{End, Next};
 use std::marker::Model;
+use std::snapshot::Snapshot;
+use sync_program::permits::{Found, Place, Position, SemaphoreCall, decide};
 use words_permits::View;
 
 /// A party's place at a semaphore, with which it steps on the semaphore's words. It has no bytes, and borrows nothing.
 ///
 /// Contracts see: the semaphore, how many permits the seat has and how many are under way, what it found last of the available permits and
-/// of the limit, what it has added and forgotten in all, whether it owes a notification and has looked since, and its entry in the list. It has no
-/// `Drop`: only [`Seat::rise`] and [`Seat::end`] end it, once it has given back what it has, and owes nothing.
+/// of the limit, what it has added and forgotten in all, whether it owes a notification and has looked since, its entry in the list, and where
+/// it is in its program (`course`). It has no `Drop`: only [`Seat::rise`] and [`Seat::end`] end it, once it is outside every call, has given
+/// back what it has, and owes nothing.
 pub struct Seat {
     pub(crate) inner: TableSeat<Queue, View>,
+    // Where it is in its program: no bytes.
+    course: Snapshot<Next<Place, Position>>,
 }
 
 impl Model for Seat {
@@ -26,39 +34,72 @@ impl Model for Seat {
     ghost use Rattle.std.specs.Prelude.{◌≡◌, false, []};
     ghost use Rattle.semaphore_core.specs.Semaphores.{seated};
 
-    ghost view = { λ s. seated s.inner.table_id s.inner.me.0 };
+    ghost view = { λ s. seated s.inner.table_id s.inner.me.0 s.course.value };
 
     ghost invariant = { λ s. (s.inner.me.1 ≡ []) × (s.inner.me.0.has_list ≡ false) × (s.inner.me.0.waiters ≡ []) × (s.inner.me.0.marked ≡ 0) };
 }
 
 impl Seat {
-    /// Ends a seat that has no permits and nothing under way, no entry in the list, and owes nothing.
+    // A seat outside every call, with nothing.
+    #[inline(always)]
+    pub(crate) fn new(inner: TableSeat<Queue, View>) -> Seat
+        requires { (inner.me.1 ≡ []) × (inner.me.0.has_list ≡ false) × (inner.me.0.waiters ≡ []) × (inner.me.0.marked ≡ 0) }
+        ensures { result ≡ seated inner.table_id inner.me.0 outside }
+    {
+        Seat {
+            inner,
+            course: Snapshot::of(&Next::End(End::GivenBack, Position::Out)),
+        }
+    }
+
+    /// Begins a call, at this place.
+    #[inline(always)]
+    pub fn begin(&mut self, call: SemaphoreCall, at: Place)
+        requires { IsStart call at self.old.course }
+        ensures { self.new ≡ with_begun at self.old }
+    {
+        let _ = call;
+        self.course = Snapshot::of(&Next::Do(at));
+    }
+
+    // The action of this place was done, and found this.
+    #[inline(always)]
+    pub(crate) fn go(&mut self, at: Place, found: Found)
+        ensures { self.new ≡ goes at found self.old }
+    {
+        self.course = Snapshot::of(&decide(at, found));
+    }
+
+    /// Ends a seat that is outside every call, has no permits and nothing under way, no entry in the list, and owes nothing.
     #[inline]
     pub fn rise(self)
+        requires course { IsOutside self.course }
         requires has { (self.permits ≡ 0) × (self.under_way ≡ 0) × (self.listed ≡ false) × (self.fresh ≡ false) }
         requires owes { self.owes ≡ false }
     {
-        let Self { inner } = self;
+        let Self { inner, course: _ } = self;
         drop(inner);
     }
 
     /// Ends it as [`Seat::rise`] does, and shows what it has done.
     #[inline]
     pub fn end(self) -> Ended
+        requires course { IsOutside self.course }
         requires has { (self.permits ≡ 0) × (self.under_way ≡ 0) × (self.listed ≡ false) × (self.fresh ≡ false) }
         requires owes { self.owes ≡ false }
         ensures { result ≡ self }
     {
-        let Self { inner } = self;
-        Ended { inner }
+        let Self { inner, course } = self;
+        Ended { inner, course }
     }
 }
 
-/// A seat that has ended, which has nothing and owes nothing. [`Seat::end`] alone makes it.
+/// A seat that has ended, which is outside every call, has nothing and owes nothing. [`Seat::end`] alone makes it.
 ///
 /// Contracts see what a seat's see: so what it has added and forgotten in all.
 pub struct Ended {
     inner: TableSeat<Queue, View>,
+    course: Snapshot<Next<Place, Position>>,
 }
 
 impl Model for Ended {
@@ -69,17 +110,18 @@ impl Model for Ended {
     ghost coded = { seated_coded };
 
     ghost use Rattle.std.specs.Prelude.{◌≡◌, false};
+    ghost use Rattle.semaphore_core.specs.Courses.{IsOutside};
     ghost use Rattle.semaphore_core.specs.Semaphores.{seated};
 
-    ghost view = { λ e. seated e.inner.table_id e.inner.me.0 };
+    ghost view = { λ e. seated e.inner.table_id e.inner.me.0 e.course.value };
 
-    ghost invariant = { λ e. (e.inner.me.0.permits ≡ 0) × (e.inner.me.0.under_way ≡ 0) × (e.inner.me.0.listed ≡ false) × (e.inner.me.0.owes ≡ false) };
+    ghost invariant = { λ e. IsOutside e.course.value × (e.inner.me.0.permits ≡ 0) × (e.inner.me.0.under_way ≡ 0) × (e.inner.me.0.listed ≡ false) × (e.inner.me.0.owes ≡ false) };
 }
 
 impl Drop for Ended {
     #[inline]
     fn drop(self) {
-        let Self { inner } = self;
+        let Self { inner, course: _ } = self;
         drop(inner);
     }
 }

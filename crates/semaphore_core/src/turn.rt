@@ -1,6 +1,7 @@
 //! Who waits, who has still to notify, and how a try and a poll went.
 
 ghost use Rattle.std.specs.Prelude.{◌≡◌, true, false};
+ghost use Rattle.semaphore_core.specs.Courses.{pending};
 
 use crate::receipts::Given;
 use crate::seat::Seat;
@@ -8,7 +9,8 @@ use lock_event::EntryId;
 use lock_program::Refusal;
 use lock_queue::Whose;
 
-/// A party that waits between two polls: its seat has no permits and owes nothing, and its entry stands in the list. It has no `Drop`: a
+/// A party that waits between two polls: its seat has no permits and owes nothing, its entry stands in the list, and its last poll was pending for as many
+/// permits as the entry waits for. It has no `Drop`: a
 /// poll goes on with it, or a cancel ends it.
 ///
 /// Contracts see its seat, and whose waker its entry keeps (`whose`).
@@ -16,14 +18,14 @@ pub struct Waiting {
     pub(crate) seat: Seat,
     pub(crate) id: EntryId,
     pub(crate) whose: Whose,
-    ghost idle: { (seat.permits ≡ 0) × (seat.under_way ≡ 0) × (seat.owes ≡ false) × (seat.listed ≡ true) × (seat.fresh ≡ false) × (seat.entry ≡ id.number) },
+    ghost idle: { (seat.permits ≡ 0) × (seat.under_way ≡ 0) × (seat.owes ≡ false) × (seat.listed ≡ true) × (seat.fresh ≡ false) × (seat.entry ≡ id.number) × (seat.course ≡ pending seat.weight) },
 }
 
 impl Waiting {
     /// Puts together whoever waits by this seat, whose entry has this id, and keeps a waker so. It is for tests, which carry out a poll one
     /// action at a time.
     pub fn of(seat: Seat, id: EntryId, whose: Whose) -> Waiting
-        requires { (seat.permits ≡ 0) × (seat.under_way ≡ 0) × (seat.owes ≡ false) × (seat.listed ≡ true) × (seat.fresh ≡ false) × (seat.entry ≡ id.number) }
+        requires { (seat.permits ≡ 0) × (seat.under_way ≡ 0) × (seat.owes ≡ false) × (seat.listed ≡ true) × (seat.fresh ≡ false) × (seat.entry ≡ id.number) × (seat.course ≡ pending seat.weight) }
         ensures { (result.seat ≡ seat) × (result.id ≡ id) × (result.whose ≡ whose) }
     {
         Waiting { seat, id, whose }
@@ -38,7 +40,7 @@ impl Waiting {
     }
 }
 
-/// What a first try to take permits came to.
+/// What a try to take permits came to, or a first look of a poll.
 pub enum Tried {
     /// The permits, by this seat, which has exactly these.
     Got(Seat),
