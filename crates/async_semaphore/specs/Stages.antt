@@ -9,9 +9,9 @@ use Rattle.async_semaphore.specs.declared.stage.Stage.TheVariants.{Unowned, Wait
 use Rattle.futures.specs.declared.task.context.Context.{Context}
 use Rattle.lock_program.specs.declared.refusal.Refusal.{Refusal}
 use Rattle.lock_program.specs.declared.refusal.Refusal.TheVariants.{Memory, Finished}
-use Rattle.semaphore_core.specs.Outcomes.{WaitsFor}
+use Rattle.semaphore_core.specs.Outcomes.{WaitsFor, IsJoining, IsLooking}
 use Rattle.lock_queue.specs.Receipts.{IsReceipt}
-use Rattle.semaphore_core.specs.Semaphores.{Seated, Has, IsShort}
+use Rattle.semaphore_core.specs.Semaphores.{Seated, Holds}
 use Rattle.semaphore_core.specs.declared.turn.Outcome.{Outcome}
 use Rattle.semaphore_core.specs.declared.turn.Outcome.TheVariants as outcome
 use Rattle.semaphore_core.specs.declared.turn.Tried.{Tried}
@@ -69,19 +69,24 @@ HasReceiptAt semaphore_of _ k cx waiting = ⊥
 
 -- a seat got the permits that it is for
 abbrev pub GotAt : {O R : Type 0} → (O → Semaphore R) → Stage O → ℕ → Seated → Type 0
-GotAt semaphore_of (Waits owner) k seat = Has (semaphore_of owner).raw k seat
+GotAt semaphore_of (Waits owner) k seat = Holds (semaphore_of owner).raw k seat
 GotAt semaphore_of _ k seat = ⊥
 
--- a seat of a first try found fewer permits than it is for
+-- a seat of a first look found fewer permits than it is for, and is to join
 abbrev pub ShortAt : {O R : Type 0} → (O → Semaphore R) → Stage O → ℕ → Seated → Type 0
-ShortAt semaphore_of (Waits owner) k seat = IsShort (semaphore_of owner).raw k seat
+ShortAt semaphore_of (Waits owner) k seat = IsJoining (semaphore_of owner).raw k seat
 ShortAt semaphore_of _ k seat = ⊥
 
--- what a first try came to: the permits that it is for, or a seat without any, which found fewer or whose word changed
+-- a seat of a first look, whose word changed meanwhile, is still to take what it is for
+abbrev pub ChangedAt : {O R : Type 0} → (O → Semaphore R) → Stage O → ℕ → Seated → Type 0
+ChangedAt semaphore_of (Waits owner) k seat = IsLooking (semaphore_of owner).raw k seat
+ChangedAt semaphore_of _ k seat = ⊥
+
+-- what a first look came to: the permits that it is for, or a seat without any, which found fewer or whose word changed
 abbrev pub OnTriedAt : {O R : Type 0} → (O → Semaphore R) → Stage O → ℕ → Tried → Type 0
 OnTriedAt semaphore_of stage k (tried.Got seat) = GotAt semaphore_of stage k seat
 OnTriedAt semaphore_of stage k (tried.Short seat) = ShortAt semaphore_of stage k seat
-OnTriedAt semaphore_of stage k (tried.Changed seat) = GotAt semaphore_of stage 0 seat
+OnTriedAt semaphore_of stage k (tried.Changed seat) = ChangedAt semaphore_of stage k seat
 
 -- how a poll by who has the semaphore went
 abbrev pub OnPolled : {O R : Type 0} → (O → Semaphore R) → Stage O → ℕ → Context → Outcome → Type 0

@@ -1,7 +1,7 @@
 //! Permits that a task has.
 
 ghost use Rattle.std.specs.Prelude.{◌≡◌};
-ghost use Rattle.semaphore_core.specs.Semaphores.{Has, with_lowered};
+ghost use Rattle.semaphore_core.specs.Semaphores.{Holds, with_forgotten};
 
 use crate::owns::Owns;
 use crate::releases::Releases;
@@ -12,8 +12,8 @@ use std::marker::{Model, PhantomData};
 /// Permits of a semaphore. Dropping it gives them back, and notifies the first waiter for whom those that are then available
 /// are enough.
 ///
-/// Its type keeps that its seat has exactly as many permits as it says, so a drop gives back neither more nor fewer. Contracts see
-/// the semaphore, how many permits it has, and the seat with what it knows of itself.
+/// Its type keeps that its seat has exactly as many permits as it says, so a drop gives back neither more nor fewer; and that the seat's
+/// last call got it these. Contracts see the semaphore, how many permits it has, and the seat with what it knows of itself.
 pub struct PermitGuard<R: Releases, O: Owns<Runtime = R>> {
     owner: O,
     seat: Seat,
@@ -23,19 +23,19 @@ pub struct PermitGuard<R: Releases, O: Owns<Runtime = R>> {
 
 impl<R: Releases, O: Owns<Runtime = R>> Model for PermitGuard<R, O> {
     ghost use Rattle.async_semaphore.specs.Guards.{Held};
-    ghost use Rattle.semaphore_core.specs.Semaphores.{Has};
+    ghost use Rattle.semaphore_core.specs.Semaphores.{Holds};
 
     ghost Value = { Held R };
 
     ghost view = { λ g. record { semaphore = O.semaphore_of g.owner; permits = g.permits; seat = g.seat } };
 
-    ghost invariant = { λ g. Has (O.semaphore_of g.owner).raw g.permits g.seat };
+    ghost invariant = { λ g. Holds (O.semaphore_of g.owner).raw g.permits g.seat };
 }
 
 impl<R: Releases, O: Owns<Runtime = R>> PermitGuard<R, O> {
     #[inline]
     pub(crate) fn new(owner: O, seat: Seat, permits: u64) -> PermitGuard<R, O>
-        requires { Has (O.semaphore_of owner).raw permits seat }
+        requires { Holds (O.semaphore_of owner).raw permits seat }
         ensures permits { (result.semaphore ≡ O.semaphore_of owner) × (result.permits ≡ permits) }
         ensures seat { result.seat ≡ seat }
     {
@@ -69,7 +69,7 @@ impl<R: Releases, O: Owns<Runtime = R>> PermitGuard<R, O> {
     /// ```
     pub fn forget(self) -> Lowered
         ensures permits { result.permits ≡ self.permits }
-        ensures seat { result.ended ≡ with_lowered self.permits self.seat }
+        ensures seat { result.ended ≡ with_forgotten self.permits self.seat }
     {
         let Self {
             owner,

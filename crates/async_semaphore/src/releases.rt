@@ -1,8 +1,8 @@
 //! What a guard and a try ask of the runtime.
 
 ghost use Rattle.std.specs.Prelude.{◌≡◌, IfSome};
-ghost use Rattle.semaphore_core.specs.Outcomes.{Owes};
-ghost use Rattle.semaphore_core.specs.Semaphores.{Has};
+ghost use Rattle.semaphore_core.specs.Outcomes.{IsTrying, Owes};
+ghost use Rattle.semaphore_core.specs.Semaphores.{Holds};
 
 use semaphore_core::{Given, Notifies, RawSemaphore, Seat};
 use std::sync::Wait;
@@ -13,8 +13,8 @@ use std::sync::Wait;
 pub trait Releases {
     /// Goes on with a try whose word changed meanwhile, until it stands still.
     fn try_again(&self, semaphore: &RawSemaphore, seat: Seat, permits: u64) -> Option<Seat>
-        requires { Has semaphore.now 0 seat }
-        ensures { IfSome result (Has semaphore.now permits) };
+        requires { IsTrying semaphore.now permits seat }
+        ensures { IfSome result (Holds semaphore.now permits) };
 
     /// Notifies the first waiter for whom the permits that were given are enough, under the list's short lock.
     fn notify(&self, semaphore: &RawSemaphore, notifies: Notifies) -> Given

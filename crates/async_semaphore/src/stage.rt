@@ -37,14 +37,14 @@ pub(crate) fn first<R, O: Owns<Runtime = R>>(share: Option<O>) -> Stage<O>
     }
 }
 
-/// A first try for the permits, by who has the semaphore, if that is still here.
+/// The first look of a poll for the permits, by who has the semaphore, if that is still here.
 #[inline]
 pub(crate) fn take<R, O: Owns<Runtime = R>>(stage: &Stage<O>, permits: u64) -> Option<Tried>
     ensures tried { IfSome result (OnTriedAt O.semaphore_of stage.now permits) }
     ensures none { IfNone result (HasNoShare stage.now) }
 {
     match stage {
-        Stage::Waits(owner) => Some(owner.semaphore().raw.try_take(permits)),
+        Stage::Waits(owner) => Some(owner.semaphore().raw.first_look(permits)),
         Stage::Unowned | Stage::Finished => None,
     }
 }

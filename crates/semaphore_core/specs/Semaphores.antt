@@ -80,6 +80,10 @@ with_given_new k a s = record s { under_way = s.under_way - k; found = a; seen =
 abbrev pub with_lowered : ℕ → Seated → Seated
 with_lowered k s = record s { permits = s.permits - k; forgotten = s.forgotten + k }
 
+-- the same, by a call that has ended
+abbrev pub with_forgotten : ℕ → Seated → Seated
+with_forgotten k s = record (with_lowered k s) { course = outside }
+
 -- it has found the limit n
 abbrev pub with_limit : ℕ → Seated → Seated
 with_limit n s = record s { limit = n }

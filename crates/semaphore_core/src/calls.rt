@@ -6,7 +6,7 @@ ghost use Rattle.std.specs.Prelude.{◌≡◌, ℕ, true, IfErr, IfOk, IfSome, M
 ghost use Rattle.lock_program.specs.declared.refusal.Refusal.TheVariants as refusals;
 ghost use Rattle.semaphore_core.specs.Courses.{IsStart, outside};
 ghost use Rattle.semaphore_core.specs.Outcomes.{IsJoining, IsLooking, IsTrying, IsVain, OnFirst, OnLooked, OnTried, Owes};
-ghost use Rattle.semaphore_core.specs.Semaphores.{Has, HasAdded, HasUnderWay, Holds, IsAt, IsNew, IsPastLimit, IsShort, goes, with_lowered};
+ghost use Rattle.semaphore_core.specs.Semaphores.{Has, HasAdded, HasUnderWay, Holds, IsAt, IsNew, IsPastLimit, IsShort, with_forgotten};
 ghost use Rattle.lock_program.specs.declared.end.Next.TheVariants.{Do};
 ghost use Rattle.sync_program.specs.Permits.{action_of, next_of};
 ghost use Rattle.sync_program.specs.declared.permits.Action.TheVariants as act;
@@ -172,7 +172,7 @@ impl RawSemaphore {
     pub fn forget(&self, seat: Seat, permits: u64) -> Lowered
         requires { Holds self.now permits seat }
         ensures permits { result.permits ≡ permits }
-        ensures seat { result.ended ≡ goes (places.Lower permits) finds.Done (with_lowered permits seat) }
+        ensures seat { result.ended ≡ with_forgotten permits seat }
     {
         let mut seat = seat;
         seat.begin(SemaphoreCall::Forget, Place::Lower(permits));

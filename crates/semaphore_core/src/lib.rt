@@ -22,5 +22,6 @@ pub use queue::Queue;
 pub use raw::RawSemaphore;
 pub use receipts::{Added, Given, Lowered};
 pub use seat::{Ended, Seat};
+pub use sync_program::permits::{Place, SemaphoreCall};
 pub use turn::{Notifies, Outcome, Tried, Waiting};
 pub use words_permits::{Content, PermitRule, Raising, Taking, View, no_lost_wakeup};
