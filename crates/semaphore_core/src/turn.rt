@@ -9,9 +9,8 @@ use lock_event::EntryId;
 use lock_program::Refusal;
 use lock_queue::Whose;
 
-/// A party that waits between two polls: its seat has no permits and owes nothing, its entry stands in the list, and its last poll was pending for as many
-/// permits as the entry waits for. It has no `Drop`: a
-/// poll goes on with it, or a cancel ends it.
+/// A party that waits between two polls: its seat has no permits and owes nothing, its entry stands in the list, and its last poll was
+/// pending for as many permits as the entry is for. It has no `Drop`: a poll goes on with it, or a cancel ends it.
 ///
 /// Contracts see its seat, and whose waker its entry keeps (`whose`).
 pub struct Waiting {
