@@ -9,6 +9,7 @@ use futures::task::{Context, Poll};
 use futures::{Future, ready};
 use std::convert::Infallible;
 use std::mem;
+use sync_program::once_cell::Maker as MakerKind;
 
 /// A closure that answers a future of a value or a failure.
 #[derive(Drop)]
@@ -31,6 +32,11 @@ impl<T, E, F: FnOnce() -> Fut, Fut: Future<Output = Result<T, E>>> Maker<T, E> f
     ghost needs = { TryNeeds Fut.needs };
 
     ghost gives = { TryGives F.post Fut.gives };
+
+    #[inline(always)]
+    fn kind() -> MakerKind<()> {
+        MakerKind::Closure
+    }
 
     fn make(&mut self, cx: &mut Context<'_>, right: Right) -> Poll<Result<T, E>> {
         match mem::replace(self, Trying::Asked) {
@@ -73,6 +79,11 @@ impl<T, F: FnOnce() -> Fut, Fut: Future<Output = T>> Maker<T, Infallible> for Ma
     ghost needs = { MakeNeeds Fut.needs };
 
     ghost gives = { MakeGives F.post Fut.gives };
+
+    #[inline(always)]
+    fn kind() -> MakerKind<()> {
+        MakerKind::Closure
+    }
 
     fn make(&mut self, cx: &mut Context<'_>, right: Right) -> Poll<Result<T, Infallible>> {
         match mem::replace(self, Making::Asked) {
@@ -136,6 +147,11 @@ impl<T: Drop> Maker<T, Infallible> for Given<T> {
     ghost needs = { λ _ _. ⊥ };
 
     ghost gives = { λ given made. IsOkAnd made (λ v. given.value ≡ Some v) };
+
+    #[inline(always)]
+    fn kind() -> MakerKind<()> {
+        MakerKind::Given(())
+    }
 
     fn make(&mut self, cx: &mut Context<'_>, right: Right) -> Poll<Result<T, Infallible>> {
         let _ = cx;

@@ -2,7 +2,12 @@
 use Rattle.std.specs.Prelude.{◌≡◌, ℕ, ◌&&◌, not, Bool, true, false, ⊤, refl}
 use Rattle.std.specs.Coded.{Coded, code_by, coded×, coded_ℕ, coded_bool}
 use Rattle.atomic_table.specs.Seated.{TableId, table_id_coded}
+use Rattle.lock_program.specs.declared.end.Next.TheVariants.{Do}
+use Rattle.sync_program.specs.OnceCell.{action_of, next_of}
+use Rattle.sync_program.specs.declared.once_cell.Action.{Action}
+use Rattle.sync_program.specs.declared.once_cell.Found.{Found}
 use Rattle.words_cell.specs.declared.view.View.{View}
+use Rattle.cell_core.specs.Courses.{Course, PlaceHere, course_coded, outside, IsNotifying}
 use Rattle.cell_core.specs.declared.state.State.{State}
 use Rattle.cell_core.specs.declared.state.State.TheVariants.{Empty, Making, Full}
 
@@ -21,7 +26,7 @@ abbrev pub cell_coded : Coded Cell
 cell_coded = code_by (TableId × (Bool × (ℕ × ℕ))) (coded× table_id_coded (coded× coded_bool (coded× coded_ℕ coded_ℕ))) (λ c. (c.word.table, (c.word.start, (c.word.store, c.source)))) (λ p. record { word = record { table = p.0; start = p.1.0; store = p.1.1.0 }; source = p.1.1.1 }) (λ _. refl)
 
 -- A seat: of which table it is; whether it makes, and what it owes; in which list it has an entry, of which number, and whether it has not looked since it
--- joined, or found the cell full; what its last look found, and how often it has emptied the full cell.
+-- joined, or found the cell full; what its last look found, and how often it has emptied the full cell; and where it is in its program.
 pub record Seated : Type 0 where
   pub table : TableId
   pub makes : Bool
@@ -34,16 +39,17 @@ pub record Seated : Type 0 where
   pub entry : ℕ
   pub found : ℕ
   pub taken : ℕ
+  pub course : Course
 
 abbrev pub seated_coded : Coded Seated
-seated_coded = code_by (TableId × (Bool × (Bool × (Bool × (Bool × (Bool × (Bool × (Bool × (ℕ × (ℕ × ℕ))))))))))
-    (coded× table_id_coded (coded× coded_bool (coded× coded_bool (coded× coded_bool (coded× coded_bool (coded× coded_bool (coded× coded_bool (coded× coded_bool (coded× coded_ℕ (coded× coded_ℕ coded_ℕ))))))))))
-    (λ s. (s.table, (s.makes, (s.owes, (s.owes_active, (s.owes_passive, (s.in_active, (s.in_passive, (s.fresh, (s.entry, (s.found, s.taken)))))))))))
-    (λ p. record { table = p.0; makes = p.1.0; owes = p.1.1.0; owes_active = p.1.1.1.0; owes_passive = p.1.1.1.1.0; in_active = p.1.1.1.1.1.0; in_passive = p.1.1.1.1.1.1.0; fresh = p.1.1.1.1.1.1.1.0; entry = p.1.1.1.1.1.1.1.1.0; found = p.1.1.1.1.1.1.1.1.1.0; taken = p.1.1.1.1.1.1.1.1.1.1 })
+seated_coded = code_by (TableId × (Bool × (Bool × (Bool × (Bool × (Bool × (Bool × (Bool × (ℕ × (ℕ × (ℕ × Course)))))))))))
+    (coded× table_id_coded (coded× coded_bool (coded× coded_bool (coded× coded_bool (coded× coded_bool (coded× coded_bool (coded× coded_bool (coded× coded_bool (coded× coded_ℕ (coded× coded_ℕ (coded× coded_ℕ course_coded)))))))))))
+    (λ s. (s.table, (s.makes, (s.owes, (s.owes_active, (s.owes_passive, (s.in_active, (s.in_passive, (s.fresh, (s.entry, (s.found, (s.taken, s.course))))))))))))
+    (λ p. record { table = p.0; makes = p.1.0; owes = p.1.1.0; owes_active = p.1.1.1.0; owes_passive = p.1.1.1.1.0; in_active = p.1.1.1.1.1.0; in_passive = p.1.1.1.1.1.1.0; fresh = p.1.1.1.1.1.1.1.0; entry = p.1.1.1.1.1.1.1.1.0; found = p.1.1.1.1.1.1.1.1.1.0; taken = p.1.1.1.1.1.1.1.1.1.1.0; course = p.1.1.1.1.1.1.1.1.1.1.1 })
     (λ _. refl)
 
-abbrev pub seated : TableId → View → Seated
-seated table v = record { table = table; makes = v.makes; owes = v.owes; owes_active = v.owes_active; owes_passive = v.owes_passive; in_active = v.in_active; in_passive = v.in_passive; fresh = v.fresh; entry = v.entry; found = v.found; taken = v.taken }
+abbrev pub seated : TableId → View → Course → Seated
+seated table v course = record { table = table; makes = v.makes; owes = v.owes; owes_active = v.owes_active; owes_passive = v.owes_passive; in_active = v.in_active; in_passive = v.in_passive; fresh = v.fresh; entry = v.entry; found = v.found; taken = v.taken; course = course }
 
 -- The seat is one of the cell.
 abbrev pub IsOf : Cell → Seated → Type 0
@@ -51,7 +57,7 @@ IsOf cell seat = seat.table ≡ cell.word.table
 
 -- a seat with nothing
 abbrev pub entering : Cell → Seated
-entering cell = record { table = cell.word.table; makes = false; owes = false; owes_active = false; owes_passive = false; in_active = false; in_passive = false; fresh = false; entry = 0; found = 0; taken = 0 }
+entering cell = record { table = cell.word.table; makes = false; owes = false; owes_active = false; owes_passive = false; in_active = false; in_passive = false; fresh = false; entry = 0; found = 0; taken = 0; course = outside }
 
 -- what a look, a claim and each other step makes of a seat
 abbrev pub with_seen : ℕ → Seated → Seated
@@ -98,6 +104,23 @@ with_paid_active s = record s { owes = false; owes_active = false }
 
 abbrev pub with_paid_passive : Seated → Seated
 with_paid_passive s = record s { owes_passive = false }
+
+module _ (at : PlaceHere) where
+  -- its call has come to this place, whose action is this
+  abbrev pub IsAt : Action (Unit {0}) → Seated → Type 0
+  IsAt act s = (s.course ≡ Do at) × (action_of at ≡ act)
+
+  -- its call has come to this place, where it notifies
+  abbrev pub IsToNotify : Seated → Type 0
+  IsToNotify s = (s.course ≡ Do at) × IsNotifying (action_of at)
+
+  -- the action of this place found this
+  abbrev pub goes : Found (Unit {0}) → Seated → Seated
+  goes found s = record s { course = next_of at found }
+
+-- it begins a call, at this place
+abbrev pub with_begun : PlaceHere → Seated → Seated
+with_begun at s = record s { course = Do at }
 
 -- it owes nothing
 abbrev pub OwesNothing : Seated → Type 0

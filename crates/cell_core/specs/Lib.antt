@@ -1,4 +1,5 @@
 pub mod Contents
+pub mod Courses
 pub mod Cells
 pub mod Purposes
 pub mod Outcomes

@@ -3,7 +3,8 @@ use Rattle.std.specs.Prelude.{◌≡◌, ℕ, ⊤, Result, Ok, Err, Option, Some
 use Rattle.futures.specs.Task.{Covers}
 use Rattle.futures.specs.declared.task.context.Context.{Context}
 use Rattle.cell_core.specs.Cells.{Cell, IsOf}
-use Rattle.cell_core.specs.Purposes.{IsSetting, IsAwaited, OnSets}
+use Rattle.cell_core.specs.Courses.{making, waiting_to_make}
+use Rattle.cell_core.specs.Purposes.{IsSetting, IsAwaited, OnSets, maker_of}
 use Rattle.lock_queue.specs.Receipts.{IsReceipt}
 use Rattle.cell_core.specs.declared.maker.Purpose.{Purpose}
 use Rattle.cell_core.specs.declared.turn.Outcome.{Outcome}
@@ -18,10 +19,11 @@ abbrev pub RestsAt : Cell → Resting → Type 0
 RestsAt cell (Waits w) = IsOf cell w.seat
 RestsAt cell (Makes p) = IsOf cell p.seat
 
--- What a party keeps is of this cell, with this maker: one in the list was never asked; one that makes may be asked again.
+-- What a party keeps is of this cell, with this maker: one in the list was never asked; one that makes may be asked again. Each is pending where its
+-- next poll goes on.
 abbrev pub RestsSo : {M : Type 0} → Purpose → (M → Type 0) → Cell → M → Resting → Type 0
-RestsSo u new cell m (Waits w) = IsOf cell w.seat × new m
-RestsSo u new cell m (Makes p) = IsOf cell p.seat × IsAwaited u
+RestsSo u new cell m (Waits w) = IsOf cell w.seat × (w.seat.course ≡ waiting_to_make (maker_of u)) × new m
+RestsSo u new cell m (Makes p) = IsOf cell p.seat × (p.seat.course ≡ making (maker_of u)) × IsAwaited u
 
 -- What a pending poll leaves: one in the list has a receipt, and its maker is the one that it had. Of one that makes, its maker's own poll has registered,
 -- and promises what it did before.

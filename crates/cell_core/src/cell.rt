@@ -1,7 +1,10 @@
 //! A once-cell without its runtime: its words, its lists and its value, and each single action on them.
 
 ghost use Rattle.std.specs.Prelude.{◌≡◌, ◌+◌, true, false, IfNone, IfOk, IfSome};
-ghost use Rattle.cell_core.specs.Cells.{IsOf, OnState, entering, with_seen, with_full, with_claim, with_miss, with_late, with_filled, with_emptied, with_ease};
+ghost use Rattle.cell_core.specs.Cells.{IsAt, IsOf, IsToNotify, OnState, entering, goes, with_seen, with_full, with_claim, with_miss, with_late, with_filled, with_emptied, with_ease};
+ghost use Rattle.cell_core.specs.Courses.{IsOutside};
+ghost use Rattle.sync_program.specs.declared.once_cell.Action.TheVariants as act;
+ghost use Rattle.sync_program.specs.declared.once_cell.Found.TheVariants as finds;
 
 use crate::lists::Lists;
 use crate::seat::Seat;
@@ -12,6 +15,7 @@ use futures::task::Source;
 use std::alloc::{AllocError, Global};
 use std::marker::Model;
 use std::sync::{OnceToken, Wait};
+use sync_program::once_cell::{Found, Place};
 use words_cell::steps::{
     EMPTY, ENTRIES, FULL, LIST, MAKING, WORD, claim, empty, fill, look, peek, take,
 };
@@ -181,10 +185,11 @@ impl<T> RawCell<T> {
 
     /// Returns what the cell was at some moment of the call: one load, which waits for nobody.
     pub fn state(&self) -> State {
-        let mut seat = self.sit();
-        let state = self.look(&mut seat);
-        seat.rise();
-        state
+        match self.words.table.shared.peek(WORD) {
+            EMPTY => State::Empty,
+            MAKING => State::Making,
+            _ => State::Full,
+        }
     }
 
     /// Returns the value to be written.
@@ -222,90 +227,126 @@ impl<T> RawCell<T> {
     pub fn sit(&self) -> Seat
         ensures { result ≡ entering self.now }
     {
-        Seat {
-            inner: self.words.table.shared.load_new_seat::<Keep>(WORD).1,
-        }
+        Seat::new(self.words.table.shared.load_new_seat::<Keep>(WORD).1)
     }
 
     /// Looks at the cell, by a seat that doesn't wait to make: one load.
     #[inline]
-    pub fn look(&self, seat: &mut Seat) -> State
+    pub fn look(&self, seat: &mut Seat, at: Place<()>) -> State
         requires of { IsOf self.now seat.old }
+        requires course { IsAt at act.Look seat.old }
         requires away { seat.old.in_active ≡ false }
-        ensures { OnState result (seat.new ≡ with_seen 0 seat.old) (seat.new ≡ with_seen 1 seat.old) (seat.new ≡ with_full seat.old) }
+        ensures { OnState result (seat.new ≡ goes at finds.Empty (with_seen 0 seat.old)) (seat.new ≡ goes at finds.BeingMade (with_seen 1 seat.old)) (seat.new ≡ goes at (finds.Full tt) (with_full seat.old)) }
     {
         match look(&self.words.table.shared, &mut seat.inner) {
-            EMPTY => State::Empty,
-            MAKING => State::Making,
-            _ => State::Full,
+            EMPTY => {
+                seat.go(at, Found::Empty);
+                State::Empty
+            }
+            MAKING => {
+                seat.go(at, Found::BeingMade);
+                State::Making
+            }
+            _ => {
+                seat.go(at, Found::Full(()));
+                State::Full
+            }
         }
     }
 
     /// Takes the right to make the value, if the cell is empty: one exchange. Returns what the cell was before.
     #[inline]
-    pub fn claim(&self, seat: &mut Seat) -> State
+    pub fn claim(&self, seat: &mut Seat, at: Place<()>) -> State
         requires of { IsOf self.now seat.old }
-        ensures { OnState result (seat.new ≡ with_claim seat.old) (seat.new ≡ with_miss seat.old) (seat.new ≡ with_late seat.old) }
+        requires course { IsAt at act.Claim seat.old }
+        ensures { OnState result (seat.new ≡ goes at finds.Empty (with_claim seat.old)) (seat.new ≡ goes at finds.BeingMade (with_miss seat.old)) (seat.new ≡ goes at (finds.Full tt) (with_late seat.old)) }
     {
         match claim(&self.words.table.shared, &mut seat.inner) {
-            EMPTY => State::Empty,
-            FULL => State::Full,
-            _ => State::Making,
+            EMPTY => {
+                seat.go(at, Found::Empty);
+                State::Empty
+            }
+            FULL => {
+                seat.go(at, Found::Full(()));
+                State::Full
+            }
+            _ => {
+                seat.go(at, Found::BeingMade);
+                State::Making
+            }
         }
     }
 
     /// Puts a value in, by the seat that has the right to make: what shows the cell's value, and this value back where another
-    /// stands there already.
+    /// stands there already. It is the first half of the action by which a value enters the cell, and [`RawCell::fill`] is the other.
     ///
     /// Nobody else puts one in meanwhile, since one seat at most has that right. So the call doesn't wait for another thread.
-    pub fn put<R: Wait>(&self, rt: &R, seat: &Seat, value: T) -> (OnceToken<'_, T>, Option<T>)
+    pub fn put<R: Wait>(
+        &self,
+        rt: &R,
+        seat: &Seat,
+        value: T,
+        at: Place<()>,
+    ) -> (OnceToken<'_, T>, Option<T>)
         requires of { IsOf self.now seat.now }
+        requires course { IsAt at (act.Fill tt) seat.now }
         requires makes { seat.now.makes ≡ true }
         ensures shown { result.0.of ≡ self.now.word.store }
         ensures set { IfNone result.1 (result.0.value ≡ value) }
         ensures back { IfSome result.1 (λ back. back ≡ value) }
     {
-        self.stored.put(rt, seat.right(), value)
+        self.stored.put(rt, seat.right(at), value)
     }
 
     /// Makes the cell full, by the seat that has the right to make: one step. Its value has been set before, as the token shows.
     /// The seat owes a notification of all in both lists.
-    pub fn fill(&self, seat: &mut Seat, set: &OnceToken<'_, T>)
+    pub fn fill(&self, seat: &mut Seat, set: &OnceToken<'_, T>, at: Place<()>)
         requires of { IsOf self.now seat.old }
+        requires course { IsAt at (act.Fill tt) seat.old }
         requires makes { seat.old.makes ≡ true }
         requires set { set.now.of ≡ self.now.word.store }
-        ensures { seat.new ≡ with_filled seat.old }
+        ensures { seat.new ≡ goes at finds.Done (with_filled seat.old) }
     {
         let _ = set;
         fill(&self.words.table.shared, &mut seat.inner);
+        seat.go(at, Found::Done);
     }
 
     /// Makes the cell empty again, by the seat that has the right to make: one step. The seat owes a notification of one that would
     /// make the value.
-    pub fn empty(&self, seat: &mut Seat)
+    pub fn empty(&self, seat: &mut Seat, at: Place<()>)
         requires of { IsOf self.now seat.old }
+        requires course { IsAt at act.Empty seat.old }
         requires makes { seat.old.makes ≡ true }
-        ensures { seat.new ≡ with_emptied seat.old }
+        ensures { seat.new ≡ goes at finds.Done (with_emptied seat.old) }
     {
         empty(&self.words.table.shared, &mut seat.inner);
+        seat.go(at, Found::Done);
     }
 
-    /// Makes a full cell empty, for whoever takes its value out: one exchange. Returns whether it was full.
+    /// Makes a full cell empty, for whoever takes its value out: one exchange, outside every call of a program. Returns whether it was full.
     pub fn empty_full(&self, seat: &mut Seat) -> bool
         requires of { IsOf self.now seat.old }
+        requires course { IsOutside seat.old.course }
         ensures took { result ≡ true → seat.new ≡ record seat.old { found = 2; taken = seat.old.taken + 1 } }
         ensures not { result ≡ false → seat.new ≡ record seat.old { found = seat.new.found } }
     {
         take(&self.words.table.shared, &mut seat.inner) == FULL
     }
 
-    /// Returns whether one of the lists may have entries: one load. If not, the seat owes nothing any more.
+    /// Returns whether one of the lists may have entries: one load. If not, there is nobody to notify, so that was done, and the seat owes
+    /// nothing any more.
     #[inline]
-    pub fn may_have_entries(&self, seat: &mut Seat) -> bool
+    pub fn may_have_entries(&self, seat: &mut Seat, at: Place<()>) -> bool
         requires of { IsOf self.now seat.old }
+        requires course { IsToNotify at seat.old }
         ensures some { result ≡ true → seat.new ≡ seat.old }
-        ensures none { result ≡ false → seat.new ≡ with_ease seat.old }
+        ensures none { result ≡ false → seat.new ≡ goes at finds.Done (with_ease seat.old) }
     {
-        peek(&self.words.table.shared, &mut seat.inner) % 8 >= ENTRIES
+        if peek(&self.words.table.shared, &mut seat.inner) % 8 >= ENTRIES {
+            return true;
+        }
+        seat.go(at, Found::Done);
+        false
     }
 }

@@ -1,13 +1,17 @@
 //! What makes the value of a cell.
 
-ghost use Rattle.std.specs.Prelude.{◌≡◌, ℕ, Result};
+ghost use Rattle.std.specs.Prelude.{◌≡◌, ℕ, Result, true};
 ghost use Rattle.futures.specs.Task.{Covers, Keeps};
 ghost use Rattle.futures.specs.Poll.{IfReady, OnPending};
-ghost use Rattle.cell_core.specs.Purposes.{IsAwaited};
+ghost use Rattle.sync_program.specs.declared.once_cell.Action.TheVariants as act;
+ghost use Rattle.cell_core.specs.Cells.{IsAt, goes};
+ghost use Rattle.cell_core.specs.Courses.{asked_of};
+ghost use Rattle.cell_core.specs.Purposes.{IsAwaited, maker_of};
 
-use crate::seat::Right;
+use crate::seat::{Right, Seat};
 use futures::task::{Context, Poll};
 use std::marker::Model;
+use sync_program::once_cell::{Found, Maker as MakerKind, Place};
 
 /// What a party is there for that would make the value. No value of it is made: contracts name it.
 pub enum Purpose {
@@ -36,6 +40,10 @@ pub trait Maker<T, E>: Drop {
     /// What the maker may give.
     ghost gives: { Self → Result T E → Type 0 };
 
+    /// Returns what makes the value, as the program's places say.
+    fn kind() -> MakerKind<()>
+        ensures { result ≡ maker_of purpose };
+
     /// One poll of the maker, against the right to make.
     fn make(&mut self, cx: &mut Context<'_>, right: Right) -> Poll<Result<T, E>>
         requires { can_make self.old }
@@ -44,6 +52,43 @@ pub trait Maker<T, E>: Drop {
         ensures same { OnPending result ((made : Result T E) → gives self.new made → gives self.old made) }
         ensures registered { OnPending result (Covers cx.new (needs self.new)) }
         ensures kept { Keeps cx.old cx.new };
+}
+
+impl Seat {
+    /// Asks a maker once, against the seat's right to make, as [`Maker::make`].
+    #[inline]
+    pub fn ask_maker<T, E, M: Maker<T, E>>(
+        &mut self,
+        cx: &mut Context<'_>,
+        maker: &mut M,
+        at: Place<()>,
+    ) -> Poll<Result<T, E>>
+        requires course { IsAt at (act.Make (maker_of M.purpose)) self.old }
+        requires makes { self.old.makes ≡ true }
+        requires ready { M.can_make maker.old }
+        ensures asked { self.new ≡ goes at (asked_of result) self.old }
+        ensures made { IfReady result (M.gives maker.old) }
+        ensures again { OnPending result (IsAwaited M.purpose × M.can_make maker.new) }
+        ensures same { OnPending result ((made : Result T E) → M.gives maker.new made → M.gives maker.old made) }
+        ensures registered { OnPending result (Covers cx.new (M.needs maker.new)) }
+        ensures kept { Keeps cx.old cx.new }
+    {
+        let polled = maker.make(cx, self.right(at));
+        self.go(at, asking(&polled));
+        polled
+    }
+}
+
+// What an action that asks a maker found.
+#[inline(always)]
+fn asking<T, E>(polled: &Poll<Result<T, E>>) -> Found<()>
+    ensures { result ≡ asked_of polled.now }
+{
+    match polled {
+        Poll::Pending => Found::NotYet,
+        Poll::Ready(Ok(_)) => Found::Made(()),
+        Poll::Ready(Err(_)) => Found::Failed,
+    }
 }
 
 /// What may be done against the right to make alone: a closure that makes a value, or that value.

@@ -1,11 +1,15 @@
 //! Whole calls of a party that would make the value, action by action as its program has them.
 //!
-//! The comments name the places of the program's table, which are `sync_program`'s.
+//! Each action names its place in the table of `sync_program`, and asks that the call has come to it.
 
 ghost use Rattle.std.specs.Prelude.{◌≡◌, Ok, IfErr, IfNone, IfOk, IfSome, true, false};
 ghost use Rattle.futures.specs.Task.{Keeps};
 ghost use Rattle.cell_core.specs.Cells.{IsOf, IsIdle, IsMaking, IsBetween};
+ghost use Rattle.cell_core.specs.Courses.{IsEmptying, IsFilling, IsReady, claiming_from, first_poll, refusing_to_make, waiting_to_make};
 ghost use Rattle.cell_core.specs.Outcomes.{OnOutcome, RestsAt, RestsSo};
+ghost use Rattle.cell_core.specs.Purposes.{maker_of};
+ghost use Rattle.lock_program.specs.declared.end.Next.TheVariants.{Do};
+ghost use Rattle.sync_program.specs.declared.once_cell.Place.TheVariants as at;
 
 use crate::cell::RawCell;
 use crate::maker::Maker;
@@ -13,8 +17,8 @@ use crate::seat::Seat;
 use crate::state::State;
 use crate::turn::{Making, Outcome, Resting, WaitingToMake};
 use futures::task::{Context, Poll};
-use lock_event::Memory;
 use std::sync::{OnceToken, Wait};
+use sync_program::once_cell::{CellCall, ListName, Maker as MakerKind, Place};
 
 impl<T> RawCell<T> {
     /// Polls a party for the first time, or past a refusal, with this maker, which was never asked.
@@ -29,9 +33,13 @@ impl<T> RawCell<T> {
         ensures outcome { OnOutcome M.purpose M.is_new M.can_make M.gives M.needs maker self.now cx.new result }
         ensures kept { Keeps cx.old cx.new }
     {
+        let at = Place::Claim {
+            maker: M::kind(),
+            told: false,
+        };
         let mut seat = self.sit();
-        // Claim
-        match self.claim(&mut seat) {
+        seat.begin(first_call(M::kind()), at);
+        match self.claim(&mut seat, at) {
             State::Empty => self.make(rt, cx, seat, maker),
             State::Making => self.wait_to_make(rt, cx, seat, maker, false),
             State::Full => Outcome::Kept(maker, self.found(rt, seat)),
@@ -54,13 +62,14 @@ impl<T> RawCell<T> {
         match resting {
             Resting::Waits(waiting) => self.poll_waiting(rt, cx, maker, waiting),
             Resting::Makes(making) => {
-                let Making { seat } = making;
+                let Making { mut seat } = making;
+                seat.begin(CellCall::Poll, Place::Make(M::kind()));
                 self.make(rt, cx, seat, maker)
             }
         }
     }
 
-    // AskActive
+    // Polls a party that waits in the list, with its maker.
     fn poll_waiting<'a, E: Drop, M: Maker<T, E>, R: Wait>(
         &'a self,
         rt: &R,
@@ -69,6 +78,7 @@ impl<T> RawCell<T> {
         waiting: WaitingToMake,
     ) -> Outcome<'a, T, E, M>
         requires of { IsOf self.now waiting.seat }
+        requires course { waiting.seat.course ≡ waiting_to_make (maker_of M.purpose) }
         requires new { M.is_new maker }
         requires ready { M.can_make maker }
         ensures outcome { OnOutcome M.purpose M.is_new M.can_make M.gives M.needs maker self.now cx.new result }
@@ -79,13 +89,15 @@ impl<T> RawCell<T> {
             id,
             whose: _,
         } = waiting;
-        if let Some(whose) = self.ask_active(rt, &mut seat, id, cx) {
+        let at = Place::AskActive(M::kind());
+        seat.begin(CellCall::Poll, at);
+        if let Some(whose) = self.ask_active(rt, &mut seat, id, cx, at) {
             return Outcome::Pending(maker, Resting::Waits(WaitingToMake { seat, id, whose }));
         }
         self.wait_to_make(rt, cx, seat, maker, true)
     }
 
-    // From Claim on, if it was told, or from JoinActive on: joins, claims and asks, until it makes, or the cell is full, or it waits.
+    // Claims first if it was told; joins, claims and asks, until it makes, or the cell is full, or it waits.
     fn wait_to_make<'a, E: Drop, M: Maker<T, E>, R: Wait>(
         &'a self,
         rt: &R,
@@ -96,6 +108,7 @@ impl<T> RawCell<T> {
     ) -> Outcome<'a, T, E, M>
         requires of { IsOf self.now seat }
         requires between { IsBetween told seat }
+        requires course { seat.course ≡ Do (claiming_from (maker_of M.purpose) told) }
         requires new { M.is_new maker }
         requires ready { M.can_make maker }
         ensures outcome { OnOutcome M.purpose M.is_new M.can_make M.gives M.needs maker self.now cx.new result }
@@ -103,39 +116,35 @@ impl<T> RawCell<T> {
     {
         let mut seat = seat;
         let mut told = told;
+        let kind = M::kind();
         for _ in rt.forever() {
             if told {
-                // Claim
-                match self.claim(&mut seat) {
+                match self.claim(&mut seat, Place::Claim { maker: kind, told }) {
                     State::Empty => return self.make(rt, cx, seat, maker),
                     State::Making => {}
                     State::Full => return Outcome::Kept(maker, self.found(rt, seat)),
                 }
             }
-            // JoinActive
-            let id = match self.join_active(rt, &mut seat) {
-                Ok(id) => id,
-                Err(Memory) => {
-                    self.refuse(rt, seat, told);
-                    return Outcome::Refused(maker);
-                }
+            let at = Place::JoinActive { maker: kind, told };
+            let Ok(id) = self.join_active(rt, &mut seat, at) else {
+                self.refuse(rt, seat, kind, told);
+                return Outcome::Refused(maker);
             };
-            // ClaimListed: whoever ended before it joined told nobody
-            match self.claim(&mut seat) {
+            // Whoever ended before it joined told nobody.
+            match self.claim(&mut seat, Place::ClaimListed(kind)) {
                 State::Empty => {
-                    // LeaveToMake
-                    self.leave_active(rt, &mut seat, id);
+                    self.leave_active(rt, &mut seat, id, Place::LeaveToMake(kind));
                     return self.make(rt, cx, seat, maker);
                 }
                 State::Making => {}
                 State::Full => {
-                    // LeaveFull
-                    self.leave_active(rt, &mut seat, id);
+                    let value = ();
+                    let at = Place::LeaveFull { maker: kind, value };
+                    self.leave_active(rt, &mut seat, id, at);
                     return Outcome::Kept(maker, self.found(rt, seat));
                 }
             }
-            // AskActive
-            if let Some(whose) = self.ask_active(rt, &mut seat, id, cx) {
+            if let Some(whose) = self.ask_active(rt, &mut seat, id, cx, Place::AskActive(kind)) {
                 return Outcome::Pending(maker, Resting::Waits(WaitingToMake { seat, id, whose }));
             }
             told = true;
@@ -143,9 +152,10 @@ impl<T> RawCell<T> {
         unreachable!()
     }
 
-    // The cell's value, of a party that found it full.
+    // The cell's value, of a party that found it full, and is ready.
     pub(crate) fn found<'a, R: Wait>(&'a self, rt: &R, seat: Seat) -> &'a T
         requires of { IsOf self.now seat }
+        requires course { IsReady seat.course }
         requires full { IsIdle seat × (seat.found ≡ 2) }
     {
         let value = self.lend(rt, &seat);
@@ -156,19 +166,19 @@ impl<T> RawCell<T> {
     // Refuses a party for whose entry there was no memory: it notifies, if it took a notification during this poll.
     #[cold]
     #[inline(never)]
-    fn refuse<R: Wait>(&self, rt: &R, seat: Seat, told: bool)
+    fn refuse<R: Wait>(&self, rt: &R, seat: Seat, kind: MakerKind<()>, told: bool)
         requires of { IsOf self.now seat }
         requires between { IsBetween told seat }
+        requires course { seat.course ≡ refusing_to_make kind told }
     {
         let mut seat = seat;
-        // RefuseActive
         if told {
-            self.notify_active(rt, &mut seat);
+            self.notify_active(rt, &mut seat, Place::RefuseActive(kind));
         }
         seat.rise();
     }
 
-    // Make, of a party that has the right, and what comes after.
+    // Asks the maker of a party that has the right to make, and does what comes after.
     fn make<'a, E: Drop, M: Maker<T, E>, R: Wait>(
         &'a self,
         rt: &R,
@@ -178,16 +188,25 @@ impl<T> RawCell<T> {
     ) -> Outcome<'a, T, E, M>
         requires of { IsOf self.now seat }
         requires makes { IsMaking seat }
+        requires course { seat.course ≡ Do (at.Make (maker_of M.purpose)) }
         requires ready { M.can_make maker }
         ensures outcome { OnOutcome M.purpose M.is_new M.can_make M.gives M.needs maker self.now cx.new result }
         ensures kept { Keeps cx.old cx.new }
     {
+        let mut seat = seat;
         let mut maker = maker;
-        match maker.make(cx, seat.right()) {
+        match seat.ask_maker(cx, &mut maker, Place::Make(M::kind())) {
             Poll::Pending => Outcome::Pending(maker, Resting::Makes(Making { seat })),
             Poll::Ready(Ok(value)) => {
                 drop(maker);
-                let (shown, back) = self.enter(rt, seat, value);
+                let (shown, back) = self.enter(
+                    rt,
+                    seat,
+                    value,
+                    Place::Fill(()),
+                    Place::NotifyActive(()),
+                    Place::NotifyPassive(()),
+                );
                 let value = self.value(&shown);
                 match back {
                     None => Outcome::Value(value),
@@ -196,45 +215,54 @@ impl<T> RawCell<T> {
             }
             Poll::Ready(Err(fault)) => {
                 drop(maker);
-                self.give_up(rt, seat);
+                self.give_up(rt, seat, Place::Fail, Place::FailNotify);
                 Outcome::Failed(fault)
             }
         }
     }
 
-    // Fill, and what follows: a value enters the cell, and then the word says so, by the seat that makes. Should a value
-    // stand there already, that one stays, and this one comes back.
-    fn enter<'a, R: Wait>(&'a self, rt: &R, seat: Seat, value: T) -> (OnceToken<'a, T>, Option<T>)
+    // A value enters the cell, and then the word says so, by the seat that makes; and both lists are notified, each at its place. Should a
+    // value stand there already, that one stays, and this one comes back.
+    fn enter<'a, R: Wait>(
+        &'a self,
+        rt: &R,
+        seat: Seat,
+        value: T,
+        fill: Place<()>,
+        active: Place<()>,
+        passive: Place<()>,
+    ) -> (OnceToken<'a, T>, Option<T>)
         requires of { IsOf self.now seat }
         requires makes { IsMaking seat }
+        requires course { seat.course ≡ Do fill }
+        requires places { IsFilling fill active passive }
         ensures shown { (result.0.of ≡ self.now.word.store) × IfNone result.1 (result.0.value ≡ value) }
         ensures back { IfSome result.1 (λ back. back ≡ value) }
     {
         let mut seat = seat;
-        let (shown, back) = self.put(rt, &seat, value);
-        self.fill(&mut seat, &shown);
-        // NotifyActive
-        if self.may_have_entries(&mut seat) {
-            self.notify_all_active(rt, &mut seat);
+        let (shown, back) = self.put(rt, &seat, value, fill);
+        self.fill(&mut seat, &shown, fill);
+        if self.may_have_entries(&mut seat, active) {
+            self.notify_all_active(rt, &mut seat, active);
         }
-        // NotifyPassive
-        if self.may_have_entries(&mut seat) {
-            self.notify_all_passive(rt, &mut seat);
+        if self.may_have_entries(&mut seat, passive) {
+            self.notify_all_passive(rt, &mut seat, passive);
         }
         seat.rise();
         (shown, back)
     }
 
-    // Fail, or a cancel, and what follows: the cell is empty again, by the seat that makes.
-    fn give_up<R: Wait>(&self, rt: &R, seat: Seat)
+    // The cell is empty again, by the seat that makes, whose maker failed or is dropped; and one that would make is notified.
+    fn give_up<R: Wait>(&self, rt: &R, seat: Seat, empty: Place<()>, notify: Place<()>)
         requires of { IsOf self.now seat }
         requires makes { IsMaking seat }
+        requires course { seat.course ≡ Do empty }
+        requires places { IsEmptying empty notify }
     {
         let mut seat = seat;
-        self.empty(&mut seat);
-        // FailNotify, or CancelNotify
-        if self.may_have_entries(&mut seat) {
-            self.notify_active(rt, &mut seat);
+        self.empty(&mut seat, empty);
+        if self.may_have_entries(&mut seat, notify) {
+            self.notify_active(rt, &mut seat, notify);
         }
         seat.rise();
     }
@@ -250,14 +278,15 @@ impl<T> RawCell<T> {
                     id,
                     whose: _,
                 } = waiting;
-                // CancelLeave
-                self.leave_active(rt, &mut seat, id);
+                let at = Place::CancelLeave(ListName::Active);
+                seat.begin(CellCall::Drop, at);
+                self.leave_active(rt, &mut seat, id, at);
                 seat.rise();
             }
             Resting::Makes(making) => {
-                let Making { seat } = making;
-                // CancelMake
-                self.give_up(rt, seat);
+                let Making { mut seat } = making;
+                seat.begin(CellCall::Drop, Place::CancelMake);
+                self.give_up(rt, seat, Place::CancelMake, Place::CancelNotify);
             }
         }
     }
@@ -269,10 +298,17 @@ impl<T> RawCell<T> {
         ensures back { IfErr result (λ back. back ≡ value) }
     {
         let mut seat = self.sit();
-        // Try
-        match self.claim(&mut seat) {
+        seat.begin(CellCall::TrySet(()), Place::Try(()));
+        match self.claim(&mut seat, Place::Try(())) {
             State::Empty => {
-                let (shown, back) = self.enter(rt, seat, value);
+                let (shown, back) = self.enter(
+                    rt,
+                    seat,
+                    value,
+                    Place::TryFill(()),
+                    Place::TryNotifyActive(()),
+                    Place::TryNotifyPassive(()),
+                );
                 match back {
                     None => Ok(shown),
                     Some(value) => Err(value),
@@ -293,5 +329,16 @@ impl<T> RawCell<T> {
             Ok(_) => Ok(()),
             Err(back) => Err(back),
         }
+    }
+}
+
+// The first call of a party with such a maker.
+#[inline(always)]
+fn first_call(kind: MakerKind<()>) -> CellCall<()>
+    ensures { result ≡ first_poll kind }
+{
+    match kind {
+        MakerKind::Closure => CellCall::Initialize,
+        MakerKind::Given(()) => CellCall::Set(()),
     }
 }

@@ -1,21 +1,29 @@
 //! What a party steps with.
 
-ghost use Rattle.std.specs.Prelude.{◌≡◌, true};
-ghost use Rattle.cell_core.specs.Cells.{IsIdle};
+ghost use Rattle.std.specs.Prelude.{◌≡◌, [], false, true};
+ghost use Rattle.lock_program.specs.declared.end.Next.TheVariants.{Do};
+ghost use Rattle.sync_program.specs.OnceCell.{action_of};
+ghost use Rattle.cell_core.specs.Cells.{IsIdle, goes, seated, with_begun};
+ghost use Rattle.cell_core.specs.Courses.{IsOutside, IsStart, NeedsRight, outside};
 
 use crate::lists::Lists;
 use atomic_table::Seat as TableSeat;
+use lock_program::{End, Next};
 use std::marker::Model;
+use std::snapshot::Snapshot;
+use sync_program::once_cell::{CellCall, Found, Left, Place, Position, decide};
 use words_cell::View;
 
 /// A party's place at a cell, with which it steps on the cell's words. It has no bytes, and borrows nothing.
 ///
 /// Contracts see: the cell's table, whether the seat has the right to make, whether it owes a notification of one that would make the value,
 /// of all of them, and of all that wait for it, in which list it has an entry and of which number, whether it has not looked since it
-/// joined, or found the cell full, and what its last look found. It has no `Drop`: only [`Seat::rise`] ends it, once it makes
-/// nothing, stands in no list, and owes nothing.
+/// joined, or found the cell full, what its last look found, and where its call is in the program. It has no `Drop`: only
+/// [`Seat::rise`] ends it, once it is outside every call, makes nothing, stands in no list, and owes nothing.
 pub struct Seat {
     pub(crate) inner: TableSeat<Lists, View>,
+    // Where it is in its program: no bytes.
+    pub(crate) course: Snapshot<Next<Place<()>, Left<()>>>,
 }
 
 impl Model for Seat {
@@ -28,25 +36,58 @@ impl Model for Seat {
     ghost use Rattle.std.specs.Prelude.{◌≡◌, false, []};
     ghost use Rattle.cell_core.specs.Cells.{seated};
 
-    ghost view = { λ s. seated s.inner.table_id s.inner.me.0 };
+    ghost view = { λ s. seated s.inner.table_id s.inner.me.0 s.course.value };
 
     ghost invariant = { λ s. (s.inner.me.1 ≡ []) × (s.inner.me.0.has_lists ≡ false) };
 }
 
 impl Seat {
-    /// Ends a seat that makes nothing, has no entry in a list, and owes nothing.
-    pub fn rise(self)
-        requires { IsIdle self }
+    // A seat outside every call, with nothing.
+    #[inline(always)]
+    pub(crate) fn new(inner: TableSeat<Lists, View>) -> Seat
+        requires { (inner.me.1 ≡ []) × (inner.me.0.has_lists ≡ false) }
+        ensures { result ≡ seated inner.table_id inner.me.0 outside }
     {
-        let Self { inner } = self;
+        Seat {
+            inner,
+            course: Snapshot::of(&Next::End(End::GivenBack, Left::Outside(Position::Out))),
+        }
+    }
+
+    /// Begins a call, at this place.
+    #[inline(always)]
+    pub fn begin(&mut self, call: CellCall<()>, at: Place<()>)
+        requires { IsStart call at self.old.course }
+        ensures { self.new ≡ with_begun at self.old }
+    {
+        let _ = call;
+        self.course = Snapshot::of(&Next::Do(at));
+    }
+
+    // The action of this place was done, and found this.
+    #[inline(always)]
+    pub(crate) fn go(&mut self, at: Place<()>, found: Found<()>)
+        ensures { self.new ≡ goes at found self.old }
+    {
+        self.course = Snapshot::of(&decide(at, found));
+    }
+
+    /// Ends a seat that is outside every call, makes nothing, has no entry in a list, and owes nothing.
+    pub fn rise(self)
+        requires course { IsOutside self.course }
+        requires idle { IsIdle self }
+    {
+        let Self { inner, course: _ } = self;
         drop(inner);
     }
 
-    /// Shows that this seat has the right to make: a maker is asked only against it.
-    #[inline]
-    pub fn right(&self) -> Right
-        requires { self.now.makes ≡ true }
+    /// Shows that this seat has the right to make, at a place whose action needs it: a maker is asked only against it.
+    #[inline(always)]
+    pub fn right(&self, at: Place<()>) -> Right
+        requires course { (self.now.course ≡ Do at) × NeedsRight (action_of at) }
+        requires makes { self.now.makes ≡ true }
     {
+        let _ = at;
         Right { seal: () }
     }
 }

@@ -2,12 +2,13 @@
 
 ghost use Rattle.std.specs.Prelude.{◌≡◌, true, false};
 ghost use Rattle.cell_core.specs.Cells.{IsMaking, WaitsActive, WaitsPassive};
+ghost use Rattle.cell_core.specs.Courses.{IsMakingStill, IsWaitingToMake, waiting};
 
 use crate::seat::Seat;
 use lock_event::EntryId;
 use lock_queue::Whose;
 
-/// A party that would make the value and waits between two polls: its seat owes nothing, and its entry stands in the list. It has no
+/// A party that would make the value and waits between two polls: its seat owes nothing, its call was pending, and its entry stands in the list. It has no
 /// `Drop`: a poll goes on with it, or a cancel ends it.
 ///
 /// Contracts see its seat, and whose waker its entry keeps (`whose`).
@@ -16,12 +17,14 @@ pub struct WaitingToMake {
     pub(crate) id: EntryId,
     pub(crate) whose: Whose,
     ghost idle: { (seat.makes ≡ false) × (seat.owes ≡ false) × (seat.owes_active ≡ false) × (seat.owes_passive ≡ false) × (seat.in_active ≡ true) × (seat.in_passive ≡ false) × (seat.fresh ≡ false) × (seat.entry ≡ id.number) },
+    ghost pending: { IsWaitingToMake seat.course },
 }
 
 impl WaitingToMake {
     /// Puts together whoever waits by this seat, with its entry.
     pub fn of(seat: Seat, id: EntryId, whose: Whose) -> WaitingToMake
-        requires { WaitsActive id.number seat }
+        requires idle { WaitsActive id.number seat }
+        requires pending { IsWaitingToMake seat.course }
         ensures { (result.seat ≡ seat) × (result.whose ≡ whose) }
     {
         WaitingToMake { seat, id, whose }
@@ -34,12 +37,14 @@ pub struct Waiting {
     pub(crate) id: EntryId,
     pub(crate) whose: Whose,
     ghost idle: { (seat.makes ≡ false) × (seat.owes ≡ false) × (seat.owes_active ≡ false) × (seat.owes_passive ≡ false) × (seat.in_active ≡ false) × (seat.in_passive ≡ true) × (seat.fresh ≡ false) × (seat.entry ≡ id.number) },
+    ghost pending: { seat.course ≡ waiting },
 }
 
 impl Waiting {
     /// Puts together whoever waits by this seat, with its entry.
     pub fn of(seat: Seat, id: EntryId, whose: Whose) -> Waiting
-        requires { WaitsPassive id.number seat }
+        requires idle { WaitsPassive id.number seat }
+        requires pending { seat.course ≡ waiting }
         ensures { (result.seat ≡ seat) × (result.whose ≡ whose) }
     {
         Waiting { seat, id, whose }
@@ -50,12 +55,14 @@ impl Waiting {
 pub struct Making {
     pub(crate) seat: Seat,
     ghost makes: { (seat.makes ≡ true) × (seat.owes ≡ false) × (seat.owes_active ≡ false) × (seat.owes_passive ≡ false) × (seat.in_active ≡ false) × (seat.in_passive ≡ false) × (seat.fresh ≡ false) },
+    ghost pending: { IsMakingStill seat.course },
 }
 
 impl Making {
     /// Puts together whoever makes by this seat.
     pub fn of(seat: Seat) -> Making
-        requires { IsMaking seat }
+        requires makes { IsMaking seat }
+        requires pending { IsMakingStill seat.course }
         ensures { result.seat ≡ seat }
     {
         Making { seat }

@@ -1,8 +1,13 @@
 //! Whole calls of a party that only waits for the value, action by action as its program has them.
+//!
+//! Each action names its place in the table of `sync_program`, and asks that the call has come to it.
 
 ghost use Rattle.std.specs.Prelude.{◌≡◌, true, false};
 ghost use Rattle.futures.specs.Task.{Keeps};
 ghost use Rattle.cell_core.specs.Cells.{IsOf, IsIdle};
+ghost use Rattle.cell_core.specs.Courses.{refusing_to_wait};
+ghost use Rattle.lock_program.specs.declared.end.Next.TheVariants.{Do};
+ghost use Rattle.sync_program.specs.declared.once_cell.Place.TheVariants as at;
 ghost use Rattle.cell_core.specs.Outcomes.{OnWaited};
 
 use crate::cell::RawCell;
@@ -12,6 +17,7 @@ use crate::turn::{Waited, Waiting};
 use futures::task::Context;
 use lock_event::Memory;
 use std::sync::Wait;
+use sync_program::once_cell::{CellCall, ListName, Place};
 
 impl<T> RawCell<T> {
     /// Polls a wait for the first time, or past a refusal.
@@ -19,7 +25,8 @@ impl<T> RawCell<T> {
         ensures outcome { OnWaited self.now cx.new result }
         ensures kept { Keeps cx.old cx.new }
     {
-        let seat = self.sit();
+        let mut seat = self.sit();
+        seat.begin(CellCall::Wait, Place::Look { told: false });
         self.wait_on(rt, cx, seat, false)
     }
 
@@ -39,14 +46,14 @@ impl<T> RawCell<T> {
             id,
             whose: _,
         } = waiting;
-        // AskPassive
-        if let Some(whose) = self.ask_passive(rt, &mut seat, id, cx) {
+        seat.begin(CellCall::Poll, Place::AskPassive);
+        if let Some(whose) = self.ask_passive(rt, &mut seat, id, cx, Place::AskPassive) {
             return Waited::Waits(Waiting { seat, id, whose });
         }
         self.wait_on(rt, cx, seat, true)
     }
 
-    // From Look on: looks, joins, looks and asks, until the cell is full, or it waits.
+    // Looks, joins, looks and asks, until the cell is full, or it waits.
     fn wait_on<'a, R: Wait>(
         &'a self,
         rt: &R,
@@ -56,32 +63,29 @@ impl<T> RawCell<T> {
     ) -> Waited<'a, T>
         requires of { IsOf self.now seat }
         requires idle { IsIdle seat }
+        requires course { seat.course ≡ Do (at.Look told) }
         ensures outcome { OnWaited self.now cx.new result }
         ensures kept { Keeps cx.old cx.new }
     {
         let mut seat = seat;
         let mut told = told;
         for _ in rt.forever() {
-            // Look
-            if self.look(&mut seat) == State::Full {
+            if self.look(&mut seat, Place::Look { told }) == State::Full {
                 return Waited::Value(self.found(rt, seat));
             }
-            // JoinPassive
-            let id = match self.join_passive(rt, &mut seat) {
+            let id = match self.join_passive(rt, &mut seat, Place::JoinPassive { told }) {
                 Ok(id) => id,
                 Err(Memory) => {
                     self.refuse_wait(rt, seat, told);
                     return Waited::Refused;
                 }
             };
-            // LookListed: whoever filled the cell before it joined told nobody
-            if self.look(&mut seat) == State::Full {
-                // LeavePassive
-                self.leave_passive(rt, &mut seat, id);
+            // Whoever filled the cell before it joined told nobody.
+            if self.look(&mut seat, Place::LookListed) == State::Full {
+                self.leave_passive(rt, &mut seat, id, Place::LeavePassive(()));
                 return Waited::Value(self.found(rt, seat));
             }
-            // AskPassive
-            if let Some(whose) = self.ask_passive(rt, &mut seat, id, cx) {
+            if let Some(whose) = self.ask_passive(rt, &mut seat, id, cx, Place::AskPassive) {
                 return Waited::Waits(Waiting { seat, id, whose });
             }
             told = true;
@@ -89,16 +93,17 @@ impl<T> RawCell<T> {
         unreachable!()
     }
 
-    // RefusePassive, of a party for whose entry there was no memory: it notifies, if it took a notification during this poll.
+    // Refuses a party for whose entry there was no memory: it notifies, if it took a notification during this poll.
     #[cold]
     #[inline(never)]
     fn refuse_wait<R: Wait>(&self, rt: &R, seat: Seat, told: bool)
         requires of { IsOf self.now seat }
         requires idle { IsIdle seat }
+        requires course { seat.course ≡ refusing_to_wait told }
     {
         let mut seat = seat;
         if told {
-            self.notify_passive(rt, &mut seat);
+            self.notify_passive(rt, &mut seat, Place::RefusePassive);
         }
         seat.rise();
     }
@@ -112,8 +117,9 @@ impl<T> RawCell<T> {
             id,
             whose: _,
         } = waiting;
-        // CancelLeave
-        self.leave_passive(rt, &mut seat, id);
+        let at = Place::CancelLeave(ListName::Passive);
+        seat.begin(CellCall::Drop, at);
+        self.leave_passive(rt, &mut seat, id, at);
         seat.rise();
     }
 }
