@@ -8,9 +8,11 @@ use Rattle.async_driver.specs.declared.turn.Turn.{Turn}
 use Rattle.async_driver.specs.declared.turn.Turn.TheVariants.{Pending, Ready, Refused}
 use Rattle.async_driver.specs.Turns.{OnPending}
 use Rattle.async_once_cell.specs.Futures.{CanRefuse, FailsSo}
-use Rattle.async_once_cell.specs.Stages.{IsAwaiting, Listed}
+use Rattle.async_once_cell.specs.Stages.{Future, IsAwaiting, Listed, Pended}
 use Rattle.futures.specs.declared.task.context.Context.{Context}
 use Rattle.cell_core.specs.Cells.{Cell}
+use Rattle.cell_core.specs.declared.maker.Purpose.{Purpose}
+use Rattle.cell_core.specs.declared.maker.Purpose.TheVariants.{Makes, Sets}
 
 module _ {T E M : Type 0} (gives : M → Result T E → Type 0) (needs : M → ℕ → Type 0) (cell : Cell) (cx : Context) (old now : Option M) where
   kept : (entry : Option Listed) → IsAwaiting gives needs cell cx old now entry → (x : Result (Bor T) E) → FailsSo gives now x → FailsSo gives old x
@@ -32,6 +34,12 @@ module _ {T E M : Type 0} (gives : M → Result T E → Type 0) (needs : M → �
   pub fails : (entry : Option Listed) → IsAwaiting gives needs cell cx old now entry → (x : Result (Result (Unit {0}) E) Refusal) → IfOk x (FailedSo gives now) → IfOk x (FailedSo gives old)
   fails entry r (Ok x) f = failed entry r x f
   fails entry r (Err e) f = tt
+
+-- the same, whatever its party is there for
+module _ {C T E M : Type 0} (what : Purpose) (new : M → Type 0) (gives : M → Result T E → Type 0) (needs : M → ℕ → Type 0) (cell : Cell) (cx : Context) (old now : Future C M) where
+  pub pended_fails : (u : Purpose) → Pended what new gives needs cell u cx old now → (x : Result (Result (Unit {0}) E) Refusal) → IfOk x (FailedSo gives now.maker) → IfOk x (FailedSo gives old.maker)
+  pended_fails Sets p x f = subst (λ o. IfOk x (FailedSo {T = T} gives o)) p.1 f
+  pended_fails Makes p x f = fails gives needs cell cx old.maker now.maker now.entry p x f
 
 -- while a future is pending it may refuse as before
 pub refuses_still : {X : Type 0} (was is : Bool) → (was ≡ false) × (is ≡ false) → (x : Result X Refusal) → IfErr x (CanRefuse is) → IfErr x (CanRefuse was)

@@ -2,8 +2,12 @@
 use Rattle.std.specs.Prelude.{ℕ, ⊤, Result, IsOkAnd}
 use Rattle.async_once_cell.specs.declared.makers.Making.{Making}
 use Rattle.async_once_cell.specs.declared.makers.Making.TheVariants as makes
+use Rattle.async_once_cell.specs.declared.makers.MakingNow.{MakingNow}
+use Rattle.async_once_cell.specs.declared.makers.MakingNow.TheVariants as makes_now
 use Rattle.async_once_cell.specs.declared.makers.Trying.{Trying}
 use Rattle.async_once_cell.specs.declared.makers.Trying.TheVariants as tries
+use Rattle.async_once_cell.specs.declared.makers.TryingNow.{TryingNow}
+use Rattle.async_once_cell.specs.declared.makers.TryingNow.TheVariants as tries_now
 
 module _ {F Fut : Type 0} where
   -- the closure wasn't called
@@ -46,3 +50,30 @@ module _ {F Fut T E : Type 0} where
   MakeGives post gives (makes.Closure f) made = (fut : Fut) × post f fut × IsOkAnd made (gives fut)
   MakeGives post gives (makes.Future fut) made = IsOkAnd made (gives fut)
   MakeGives post gives makes.Asked made = ⊥
+
+-- the same of what makes its value at once
+module _ {F : Type 0} where
+  abbrev pub is_new_try_now : TryingNow F → Type 0
+  is_new_try_now (tries_now.Closure f) = ⊤
+  is_new_try_now tries_now.Asked = ⊥
+
+  abbrev pub is_new_make_now : MakingNow F → Type 0
+  is_new_make_now (makes_now.Closure f) = ⊤
+  is_new_make_now makes_now.Asked = ⊥
+
+  abbrev pub CanTryNow : (F → Type 0) → TryingNow F → Type 0
+  CanTryNow can (tries_now.Closure f) = can f
+  CanTryNow can tries_now.Asked = ⊥
+
+  abbrev pub CanMakeNow : (F → Type 0) → MakingNow F → Type 0
+  CanMakeNow can (makes_now.Closure f) = can f
+  CanMakeNow can makes_now.Asked = ⊥
+
+module _ {F T E : Type 0} where
+  abbrev pub TryGivesNow : (F → Result T E → Type 0) → TryingNow F → Result T E → Type 0
+  TryGivesNow answers (tries_now.Closure f) made = answers f made
+  TryGivesNow answers tries_now.Asked made = ⊥
+
+  abbrev pub MakeGivesNow : (F → T → Type 0) → MakingNow F → Result T E → Type 0
+  MakeGivesNow answers (makes_now.Closure f) made = IsOkAnd made (answers f)
+  MakeGivesNow answers makes_now.Asked made = ⊥

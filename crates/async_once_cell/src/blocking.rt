@@ -1,16 +1,17 @@
 //! The futures that blocking calls wait for. What they give borrows nothing: the cell's value is read afterwards.
 
 ghost use Rattle.std.specs.Prelude.{◌≡◌, IfErr, IfOk, IfSome, IsSomeAnd, Option, Some, None, false};
-ghost use Rattle.async_once_cell.specs.Closures.{CanMake, CanTry, TryGives};
 ghost use Rattle.async_once_cell.specs.Faults.{EndsWith, FailedSo};
 ghost use Rattle.async_once_cell.specs.Futures.{CanRefuse};
 ghost use Rattle.futures.specs.Poll.{IfReady, OnPending};
 ghost use Rattle.futures.specs.Task.{Covers, Keeps};
 
-use crate::init::{GetOrInit, GetOrTryInit};
+use crate::cell::OnceCell;
 use crate::set::Set;
+use crate::task::{Answer, Stage, drop_stage, find, poll_stage};
 use crate::wait::Wait;
 use async_driver::Turn;
+use cell_core::Maker;
 use futures::Future;
 use futures::task::{Context, Poll};
 use lock_program::Refusal;
@@ -45,52 +46,68 @@ impl<'a, T: Drop, R: Waits + Clock> Future for BlockedWait<Wait<'a, T, R>> {
     }
 }
 
-/// An initialisation of a blocking call.
-#[derive(Drop)]
-pub(crate) struct BlockedInit<F>(pub(crate) F);
+/// An initialisation of a blocking call, by this maker.
+pub(crate) struct Blocked<'a, T, E, R: Waits, M: Maker<T, E>> {
+    cell: &'a OnceCell<T, R>,
+    stage: Stage<M>,
+    fault: PhantomData<E>,
+}
 
-impl<'a, T: Drop, R: Waits + Clock, F: FnOnce() -> Fut, Fut: Future<Output = T>> Future
-    for BlockedInit<GetOrInit<'a, T, R, F, Fut>> {
-    type Output = Result<(), Refusal>;
+impl<'a, T, E, R: Waits, M: Maker<T, E>> Model for Blocked<'a, T, E, R, M> {
+    ghost use Rattle.async_once_cell.specs.Futures.{Initialising, initialising};
+    ghost use Rattle.async_once_cell.specs.Stages.{IsKept, future};
+    ghost use Rattle.async_once_cell.specs.declared.cell.OnceCell.{OnceCell};
 
-    ghost can_poll = { λ b. IfSome b.0.maker (CanMake F.pre F.post Fut.can_poll) };
+    ghost Value = { Initialising (OnceCell T R) M };
 
-    ghost gives = { λ b got. IfErr got (CanRefuse b.0.is_over) };
+    ghost view = { λ b. initialising (future b.cell.now b.stage) };
 
-    fn poll(&mut self, cx: &mut Context<'_>) -> Poll<Result<(), Refusal>> {
-        match self.0.poll(cx) {
-            Turn::Pending => Poll::Pending,
-            Turn::Ready(_) => Poll::Ready(Ok(())),
-            Turn::Refused(refusal) => Poll::Ready(Err(refusal)),
+    ghost invariant = { λ b. IsKept M.purpose M.is_new b.cell.now.raw b.stage };
+}
+
+impl<'a, T: Drop, E: Drop, R: Waits, M: Maker<T, E>> Blocked<'a, T, E, R, M> {
+    pub(crate) fn new(cell: &'a OnceCell<T, R>, maker: M) -> Blocked<'a, T, E, R, M>
+        requires { M.is_new maker }
+        ensures { result ≡ record { cell = cell.now; is_over = false; entry = None; maker = Some maker } }
+    {
+        Blocked {
+            cell,
+            stage: Stage::new(maker),
+            fault: PhantomData,
         }
     }
 }
 
-/// An initialisation of a blocking call that may fail.
-#[derive(Drop)]
-pub(crate) struct BlockedTry<F>(pub(crate) F);
-
-impl<
-    'a,
-    T: Drop,
-    E: Drop,
-    R: Waits + Clock,
-    F: FnOnce() -> Fut,
-    Fut: Future<Output = Result<T, E>>,
-> Future for BlockedTry<GetOrTryInit<'a, T, E, R, F, Fut>> {
+impl<'a, T: Drop, E: Drop, R: Waits + Clock, M: Maker<T, E>> Future for Blocked<'a, T, E, R, M> {
     type Output = Result<Result<(), E>, Refusal>;
 
-    ghost can_poll = { λ b. IfSome b.0.maker (CanTry F.pre F.post Fut.can_poll) };
+    ghost can_poll = { λ b. IfSome b.maker M.can_make };
 
-    ghost gives = { λ b got. IfOk got (FailedSo (TryGives F.post Fut.gives) b.0.maker) × IfErr got (CanRefuse b.0.is_over) };
+    ghost gives = { λ b got. IfOk got (FailedSo M.gives b.maker) × IfErr got (CanRefuse b.is_over) };
 
     fn poll(&mut self, cx: &mut Context<'_>) -> Poll<Result<Result<(), E>, Refusal>> {
-        match self.0.poll(cx) {
-            Turn::Pending => Poll::Pending,
-            Turn::Ready(Ok(_)) => Poll::Ready(Ok(Ok(()))),
-            Turn::Ready(Err(fault)) => Poll::Ready(Ok(Err(fault))),
-            Turn::Refused(refusal) => Poll::Ready(Err(refusal)),
+        let cell = self.cell;
+        if let Some(_) = find(cell, &mut self.stage) {
+            return Poll::Ready(Ok(Ok(())));
         }
+        let ended = match poll_stage(cell, &mut self.stage, cx) {
+            Answer::Pending => return Poll::Pending,
+            Answer::Refused(refusal) => Err(refusal),
+            Answer::Value(_) | Answer::Back(_, _) | Answer::Kept(_, _) => Ok(Ok(())),
+            Answer::Failed(fault) => Ok(Err(fault)),
+        };
+        Poll::Ready(ended)
+    }
+}
+
+impl<T: Drop, E: Drop, R: Waits, M: Maker<T, E>> Drop for Blocked<'_, T, E, R, M> {
+    fn drop(self) {
+        let Self {
+            cell,
+            stage,
+            fault: _,
+        } = self;
+        drop_stage::<T, M, R>(cell, stage);
     }
 }
 

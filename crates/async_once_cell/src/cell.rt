@@ -1,23 +1,24 @@
 //! The once-cell.
 
-ghost use Rattle.std.specs.Prelude.{◌≡◌, Some, None, IfErr, IfOk, IfSome, IsSome, IsSomeAnd, false, true};
+ghost use Rattle.std.specs.Prelude.{◌≡◌, Some, None, IfErr, IfOk, IfSome, false, true};
 ghost use Rattle.async_once_cell.specs.Faults.{FaultOf, HasBack};
 ghost use Rattle.lock_program.specs.declared.refusal.Refusal.{Refusal};
 ghost use Rattle.async_once_cell.specs.declared.makers.Trying.TheVariants as tries;
 ghost use Rattle.async_once_cell.specs.declared.makers.Making.TheVariants as makes;
 
-use crate::blocking::{BlockedInit, BlockedSet, BlockedTry, BlockedWait, Ended, Kept, Origin};
+use crate::blocking::{Blocked, BlockedSet, BlockedWait, Ended, Kept, Origin};
 use crate::faults::{InitFault, SetFault};
 use crate::fills::Fills;
 use crate::init::{GetOrInit, GetOrTryInit};
+use crate::makers::{Makes, MakingNow, TryingNow};
 use crate::set::Set;
 use crate::wait::Wait;
 use cell_core::{RawCell, State};
 use futures::Future;
 use futures::executor::block_on;
-use futures::future::{self, Ready};
 use lock_program::Refusal;
 use std::alloc::AllocGlobal;
+use std::convert::Infallible;
 use std::fmt;
 use std::marker::Brand;
 use std::random::RandomSource;
@@ -310,26 +311,25 @@ impl<T: Drop, R: Waits + Clock + RandomSource + AllocGlobal> OnceCell<T, R> {
     /// Returns the value, which the closure makes if the cell is empty. It blocks the calling thread while another makes the value.
     /// Any error of `block_on` is [`Refusal::Memory`]; a cell that is full gives its value without. A refused call drops the closure,
     /// which it hasn't called, and leaves the cell as it was. In an async context it may deadlock. It asks for a closure that may be
-    /// called: one without conditions of its own always may.
+    /// called: one without conditions of its own always may. It is called against the right to make alone ([`Makes`]).
     ///
     /// ```
     /// let value = cell.get_or_init_blocking(|| 21u64)?;
     /// ```
-    pub fn get_or_init_blocking<F: FnOnce() -> T>(&self, closure: F) -> Result<&T, Refusal>
-        requires { F.pre closure }
+    pub fn get_or_init_blocking<F: Makes<T>>(&self, closure: F) -> Result<&T, Refusal>
+        requires { F.can_call closure }
         ensures memory { IfErr result (λ refusal. refusal ≡ Refusal.Memory) }
     {
         if let Some(value) = self.get() {
             return Ok(value);
         }
-        let making = self.get_or_init(
-            move || -> Ready<T>
-                requires { F.pre closure }
-                ensures { IsSome result.0 }
-            { future::ready(closure()) },
+        let making = Blocked::<'_, T, Infallible, R, MakingNow<F>>::new(
+            self,
+            MakingNow::Closure(closure),
         );
-        match block_on(&self.rt, BlockedInit(making)) {
-            Ok(Ok(())) => Ok(self.raw.made(&self.rt)),
+        match block_on(&self.rt, making) {
+            Ok(Ok(Ok(()))) => Ok(self.raw.made(&self.rt)),
+            Ok(Ok(Err(never))) => match never {},
             Ok(Err(refusal)) => Err(refusal),
             Err(_) => Err(Refusal::Memory),
         }
@@ -345,23 +345,18 @@ impl<T: Drop, R: Waits + Clock + RandomSource + AllocGlobal> OnceCell<T, R> {
     /// ```
     /// let failed = cell.get_or_try_init_blocking(|| Err::<u64, &str>("no number"));
     /// ```
-    pub fn get_or_try_init_blocking<E: Drop, F: FnOnce() -> Result<T, E>>(
+    pub fn get_or_try_init_blocking<E: Drop, F: Makes<Result<T, E>>>(
         &self,
         closure: F,
     ) -> Result<&T, InitFault<E>>
-        requires { F.pre closure }
-        ensures fault { IfErr result (FaultOf (F.post closure)) }
+        requires { F.can_call closure }
+        ensures fault { IfErr result (FaultOf (F.answers closure)) }
     {
         if let Some(value) = self.get() {
             return Ok(value);
         }
-        let making = self.get_or_try_init(
-            move || -> Ready<Result<T, E>>
-                requires { F.pre closure }
-                ensures { IsSomeAnd result.0 (F.post closure) }
-            { future::ready(closure()) },
-        );
-        match block_on(&self.rt, BlockedTry(making)) {
+        let trying = Blocked::<'_, T, E, R, TryingNow<F>>::new(self, TryingNow::Closure(closure));
+        match block_on(&self.rt, trying) {
             Ok(Ok(Ok(()))) => Ok(self.raw.made(&self.rt)),
             Ok(Ok(Err(fault))) => Err(InitFault::Closure(fault)),
             Ok(Err(refusal)) => Err(InitFault::Refused(refusal)),

@@ -23,4 +23,4 @@ pub use cell::OnceCell;
 pub use faults::{InitFault, SetFault};
 pub use fills::Fills;
 pub use lock_program::Refusal;
-pub use makers::{Given, Making, Trying};
+pub use makers::{Given, Makes, Making, Trying};

@@ -2,7 +2,7 @@
 
 ghost use Rattle.std.specs.Prelude.{◌≡◌, Some, IsOkAnd, IsSome};
 ghost use Rattle.cell_core.specs.declared.maker.Purpose.TheVariants as purposes;
-ghost use Rattle.async_once_cell.specs.Closures.{CanMake, CanTry, MakeGives, MakeNeeds, TryGives, TryNeeds, is_new_make, is_new_try};
+ghost use Rattle.async_once_cell.specs.Closures.{CanMake, CanMakeNow, CanTry, CanTryNow, MakeGives, MakeGivesNow, MakeNeeds, TryGives, TryGivesNow, TryNeeds, is_new_make, is_new_make_now, is_new_try, is_new_try_now};
 
 use cell_core::{Maker, Right, Sealed};
 use futures::task::{Context, Poll};
@@ -102,6 +102,102 @@ impl<T, F: FnOnce() -> Fut, Fut: Future<Output = T>> Maker<T, Infallible> for Ma
         let made = ready!(future.poll(cx));
         *self = Making::Asked;
         Poll::Ready(Ok(made))
+    }
+}
+
+/// What a blocking call makes a value by. Whatever can be called with nothing is one.
+///
+/// A function over it has nothing else to call it by: it is called against the right to make alone.
+pub trait Makes<A>: Drop {
+    /// It may be called.
+    ghost can_call: { Self → Type 0 };
+
+    /// What it may answer.
+    ghost answers: { Self → A → Type 0 };
+
+    /// Calls it, against the right to make.
+    fn call(self, right: Right) -> A
+        requires { can_call self }
+        ensures { answers self result };
+}
+
+impl<A, F: FnOnce() -> A> Makes<A> for F {
+    ghost can_call = { F.pre };
+
+    ghost answers = { F.post };
+
+    #[inline]
+    fn call(self, right: Right) -> A {
+        drop(right);
+        self()
+    }
+}
+
+/// What makes a value at once, or fails to.
+#[derive(Drop)]
+pub(crate) enum TryingNow<F> {
+    /// It wasn't called.
+    Closure(F),
+    /// It was called.
+    Asked,
+}
+
+impl<T, E, F: Makes<Result<T, E>>> Maker<T, E> for TryingNow<F> {
+    ghost purpose = { purposes.Makes };
+
+    ghost is_new = { is_new_try_now };
+
+    ghost can_make = { CanTryNow F.can_call };
+
+    ghost needs = { λ _ _. ⊥ };
+
+    ghost gives = { TryGivesNow F.answers };
+
+    #[inline(always)]
+    fn kind() -> MakerKind<()> {
+        MakerKind::Closure
+    }
+
+    fn make(&mut self, cx: &mut Context<'_>, right: Right) -> Poll<Result<T, E>> {
+        let _ = cx;
+        match mem::replace(self, TryingNow::Asked) {
+            TryingNow::Closure(closure) => Poll::Ready(closure.call(right)),
+            TryingNow::Asked => unreachable!(),
+        }
+    }
+}
+
+/// What makes a value at once.
+#[derive(Drop)]
+pub(crate) enum MakingNow<F> {
+    /// It wasn't called.
+    Closure(F),
+    /// It was called.
+    Asked,
+}
+
+impl<T, F: Makes<T>> Maker<T, Infallible> for MakingNow<F> {
+    ghost purpose = { purposes.Makes };
+
+    ghost is_new = { is_new_make_now };
+
+    ghost can_make = { CanMakeNow F.can_call };
+
+    ghost needs = { λ _ _. ⊥ };
+
+    ghost gives = { MakeGivesNow F.answers };
+
+    #[inline(always)]
+    fn kind() -> MakerKind<()> {
+        MakerKind::Closure
+    }
+
+    fn make(&mut self, cx: &mut Context<'_>, right: Right) -> Poll<Result<T, Infallible>> {
+        let _ = cx;
+        match mem::replace(self, MakingNow::Asked) {
+            MakingNow::Closure(closure) => Poll::Ready(Ok(closure.call(right))),
+            MakingNow::Asked => unreachable!(),
+        }
     }
 }
 
