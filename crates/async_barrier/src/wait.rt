@@ -9,7 +9,7 @@ ghost use Rattle.barrier_core.specs.Outcomes.{StaysCounted};
 use crate::barrier::Barrier;
 use crate::result::BarrierWaitResult;
 use async_driver::{Polled, Turn, put};
-use barrier_core::{Outcome, Resting};
+use barrier_core::{Aim, Outcome, Resting};
 use futures::task::Context;
 use lock_program::Refusal;
 use std::fmt;
@@ -92,9 +92,10 @@ impl<R: Wait + Clock> BarrierWait<'_, R> {
                 put(&mut self.waiting, resting);
                 Turn::Pending
             }
-            Outcome::Refused(refusal, arrival) => {
-                if let Some(arrival) = arrival {
-                    put(&mut self.waiting, Resting::Counted(arrival));
+            Outcome::Refused(refusal, aim) => {
+                match aim {
+                    Aim::Arrive(course) => course.end(),
+                    Aim::Check(arrival) => put(&mut self.waiting, Resting::Counted(arrival)),
                 }
                 Turn::Refused(refusal)
             }

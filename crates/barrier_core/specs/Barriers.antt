@@ -2,6 +2,12 @@
 use Rattle.std.specs.Prelude.{◌≡◌, ◌≢◌, ℕ, ◌+◌, Bool, true, false, refl}
 use Rattle.std.specs.Coded.{Coded, code_by, coded×, coded_ℕ, coded_bool}
 use Rattle.atomic_table.specs.Seated.{TableId, table_id_coded}
+use Rattle.lock_program.specs.declared.end.Next.TheVariants.{Do}
+use Rattle.sync_program.specs.Barrier.{next_of}
+use Rattle.sync_program.specs.declared.barrier.Action.{Action}
+use Rattle.sync_program.specs.declared.barrier.Found.{Found}
+use Rattle.sync_program.specs.declared.barrier.Place.{Place}
+use Rattle.barrier_core.specs.Courses.{Course, course_coded, HasCome, ready, waiting}
 use Rattle.mutex_core.specs.Locks.{Lock, lock_coded}
 use Rattle.words_barrier.specs.declared.view.View.{View}
 
@@ -16,8 +22,8 @@ abbrev pub barrier_coded : Coded Barrier
 barrier_coded = code_by (TableId × (ℕ × (ℕ × Lock))) (coded× table_id_coded (coded× coded_ℕ (coded× coded_ℕ lock_coded))) (λ b. (b.table, (b.size, (b.most, b.inner)))) (λ p. record { table = p.0; size = p.1.0; most = p.1.1.0; inner = p.1.1.1 }) (λ _. refl)
 
 -- A seat: of which barrier it is; whether it owes all of the list a notification, has an entry there, and has not looked since it joined; whether its
--- arrival was counted, and whether it has finished a generation; the number of its entry; how many generations it found finished last; and in which
--- generation its arrival was counted.
+-- arrival was counted, and whether it has finished a generation; the number of its entry; how many generations it found finished last; in which
+-- generation its arrival was counted; and where it is in its program.
 pub record Seated : Type 0 where
   pub table : TableId
   pub owes : Bool
@@ -28,23 +34,24 @@ pub record Seated : Type 0 where
   pub entry : ℕ
   pub found : ℕ
   pub generation : ℕ
+  pub course : Course
 
 abbrev pub seated_coded : Coded Seated
-seated_coded = code_by (TableId × (Bool × (Bool × (Bool × (Bool × (Bool × (ℕ × (ℕ × ℕ)))))))) (coded× table_id_coded (coded× coded_bool (coded× coded_bool (coded× coded_bool (coded× coded_bool (coded× coded_bool (coded× coded_ℕ (coded× coded_ℕ coded_ℕ))))))))
-    (λ s. (s.table, (s.owes, (s.listed, (s.fresh, (s.counted, (s.led, (s.entry, (s.found, s.generation)))))))))
-    (λ p. record { table = p.0; owes = p.1.0; listed = p.1.1.0; fresh = p.1.1.1.0; counted = p.1.1.1.1.0; led = p.1.1.1.1.1.0; entry = p.1.1.1.1.1.1.0; found = p.1.1.1.1.1.1.1.0; generation = p.1.1.1.1.1.1.1.1 })
+seated_coded = code_by (TableId × (Bool × (Bool × (Bool × (Bool × (Bool × (ℕ × (ℕ × (ℕ × Course))))))))) (coded× table_id_coded (coded× coded_bool (coded× coded_bool (coded× coded_bool (coded× coded_bool (coded× coded_bool (coded× coded_ℕ (coded× coded_ℕ (coded× coded_ℕ course_coded)))))))))
+    (λ s. (s.table, (s.owes, (s.listed, (s.fresh, (s.counted, (s.led, (s.entry, (s.found, (s.generation, s.course))))))))))
+    (λ p. record { table = p.0; owes = p.1.0; listed = p.1.1.0; fresh = p.1.1.1.0; counted = p.1.1.1.1.0; led = p.1.1.1.1.1.0; entry = p.1.1.1.1.1.1.0; found = p.1.1.1.1.1.1.1.0; generation = p.1.1.1.1.1.1.1.1.0; course = p.1.1.1.1.1.1.1.1.1 })
     (λ _. refl)
 
-abbrev pub seated : TableId → View → Seated
-seated table v = record { table = table; owes = v.owes; listed = v.listed; fresh = v.fresh; counted = v.counted; led = v.led; entry = v.entry; found = v.found; generation = v.generation }
+abbrev pub seated : TableId → View → Course → Seated
+seated table v course = record { table = table; owes = v.owes; listed = v.listed; fresh = v.fresh; counted = v.counted; led = v.led; entry = v.entry; found = v.found; generation = v.generation; course = course }
 
 -- The seat is one of the barrier.
 abbrev pub IsOf : Barrier → Seated → Type 0
 IsOf barrier seat = seat.table ≡ barrier.table
 
--- a seat with nothing, which has found so many generations finished
-abbrev pub entering : Barrier → ℕ → Seated
-entering barrier n = record { table = barrier.table; owes = false; listed = false; fresh = false; counted = false; led = false; entry = 0; found = n; generation = 0 }
+-- a seat with nothing, which has found so many generations finished, of a party that is here in its program
+abbrev pub entering : Barrier → ℕ → Course → Seated
+entering barrier n course = record { table = barrier.table; owes = false; listed = false; fresh = false; counted = false; led = false; entry = 0; found = n; generation = 0; course = course }
 
 -- it has looked, and found so many generations finished
 abbrev pub with_look : ℕ → Seated → Seated
@@ -75,15 +82,32 @@ IsIdle s = (s.owes ≡ false) × (s.listed ≡ false) × (s.fresh ≡ false)
 abbrev pub IsCountedIn : ℕ → Seated → Type 0
 IsCountedIn generation s = (s.counted ≡ true) × (s.generation ≡ generation)
 
--- It waits for the generation that its arrival was counted in, by the entry of this number: it has found, since it joined, that this one is under way, and
--- owes nothing.
+-- It has the entry of this number for the generation that its arrival was counted in: it has found, since it joined, that this one is under way, and owes
+-- nothing.
+abbrev pub HasEntry : ℕ → ℕ → Seated → Type 0
+HasEntry generation entry s = (s.owes ≡ false) × (s.listed ≡ true) × (s.fresh ≡ false) × (s.entry ≡ entry) × IsCountedIn generation s × (s.found ≡ generation)
+
+-- the same, and it waits between two polls
 abbrev pub IsWaiting : ℕ → ℕ → Seated → Type 0
-IsWaiting generation entry s = (s.owes ≡ false) × (s.listed ≡ true) × (s.fresh ≡ false) × (s.entry ≡ entry) × IsCountedIn generation s × (s.found ≡ generation)
+IsWaiting generation entry s = HasEntry generation entry s × (s.course ≡ waiting)
 
--- It has found the generation finished that its arrival was counted in.
+-- It has found the generation finished that its arrival was counted in, and its wait has ended so.
 abbrev pub HasFollowed : Seated → Type 0
-HasFollowed s = IsIdle s × (s.counted ≡ true) × (s.found ≢ s.generation)
+HasFollowed s = IsIdle s × (s.counted ≡ true) × (s.found ≢ s.generation) × (s.course ≡ ready false)
 
--- It has finished a generation.
+-- It has finished a generation, and its wait has ended so.
 abbrev pub HasLed : Seated → Type 0
-HasLed s = IsIdle s × (s.led ≡ true)
+HasLed s = IsIdle s × (s.led ≡ true) × (s.course ≡ ready true)
+
+module _ (at : Place) where
+  -- its call has come to this place, whose action is this
+  abbrev pub IsAt : Action → Seated → Type 0
+  IsAt act s = HasCome at act s.course
+
+  -- the action of this place found this
+  abbrev pub goes : Found → Seated → Seated
+  goes found s = record s { course = next_of at found }
+
+-- it begins a call, at this place
+abbrev pub with_begun : Place → Seated → Seated
+with_begun at s = record s { course = Do at }

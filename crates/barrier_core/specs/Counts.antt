@@ -1,12 +1,12 @@
 -- What an arrival finds of how far the barrier is, and how a wait has ended.
-use Rattle.std.specs.Prelude.{◌≡◌, ◌≢◌, ℕ, ◌+◌, ◌<◌, ◌≤◌, Bool, true, false}
+use Rattle.std.specs.Prelude.{ℕ, ◌+◌, ◌<◌, ◌≤◌, Bool, true, false}
+use Rattle.sync_program.specs.declared.barrier.Found.{Found}
+use Rattle.sync_program.specs.declared.barrier.Found.TheVariants as finds
 use Rattle.barrier_core.specs.Barriers.{Barrier, IsOf}
 use Rattle.barrier_core.specs.declared.arrivals.Arrivals.{Arrivals}
 use Rattle.barrier_core.specs.declared.arrivals.Looked.{Looked}
 use Rattle.barrier_core.specs.declared.arrivals.Looked.TheVariants.{MustWait, Leads, Past}
 use Rattle.barrier_core.specs.declared.turn.Arrival.{Arrival}
-use Rattle.barrier_core.specs.declared.turn.Checked.{Checked}
-use Rattle.barrier_core.specs.declared.turn.Checked.TheVariants as checked
 use Rattle.barrier_core.specs.declared.turn.Verdict.{Verdict}
 use Rattle.barrier_core.specs.declared.turn.Verdict.TheVariants as verdict
 
@@ -17,14 +17,15 @@ FindsLook barrier finished MustWait w = w.count + 1 < barrier.size
 FindsLook barrier finished Leads w = (barrier.size ≤ w.count + 1) × (finished < barrier.most)
 FindsLook barrier finished Past w = (barrier.size ≤ w.count + 1) × (barrier.most ≤ finished)
 
+-- what its program says of that
+abbrev pub looked : Looked → Found
+looked MustWait = finds.MustWait
+looked Leads = finds.Leads
+looked Past = finds.Past
+
 -- The arrival's seat is one of this barrier.
 abbrev pub IsOfThis : Barrier → Arrival → Type 0
 IsOfThis barrier arrival = IsOf barrier arrival.seat
-
--- A check of an arrival of this generation: it was found finished at this barrier, or the arrival is as before.
-abbrev pub FindsCheck : Barrier → ℕ → Checked → Type 0
-FindsCheck barrier generation (checked.Finished followed) = IsOf barrier followed.seat × (followed.seat.generation ≡ generation)
-FindsCheck barrier generation (checked.Unfinished arrival) = IsOfThis barrier arrival × (arrival.generation ≡ generation)
 
 abbrev pub leads : Verdict → Bool
 leads (verdict.Led led) = true

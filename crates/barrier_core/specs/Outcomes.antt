@@ -4,10 +4,15 @@ use Rattle.futures.specs.declared.task.context.Context.{Context}
 use Rattle.lock_place.specs.declared.room.Hold.{Hold}
 use Rattle.lock_program.specs.declared.refusal.Refusal.{Refusal}
 use Rattle.lock_program.specs.declared.refusal.Refusal.TheVariants as refusals
+use Rattle.lock_program.specs.declared.end.Next.TheVariants.{Do}
+use Rattle.sync_program.specs.declared.barrier.Aim.{Aim as ProgramAim}
+use Rattle.sync_program.specs.declared.barrier.Aim.TheVariants as aims
+use Rattle.sync_program.specs.declared.barrier.Place.TheVariants.{EnterLock}
 use Rattle.mutex_core.specs.Locks as lock
 use Rattle.mutex_core.specs.Outcomes as locked
 use Rattle.barrier_core.specs.Barriers.{Barrier, IsOf}
 use Rattle.barrier_core.specs.Counts.{IsFoundAt, IsOfThis}
+use Rattle.barrier_core.specs.Courses.{Course, IsCounted, locking, refused}
 use Rattle.lock_queue.specs.Receipts.{IsReceipt}
 use Rattle.barrier_core.specs.declared.arrivals.Arrivals.{Arrivals}
 use Rattle.barrier_core.specs.declared.turn.Aim.{Aim}
@@ -30,8 +35,18 @@ HasLock barrier seat hold = locked.Holds barrier.inner seat hold
 
 -- the arrival that was counted, if one was
 abbrev pub counted_by : Aim → Option Arrival
-counted_by aim.Arrive = None
+counted_by (aim.Arrive course) = None
 counted_by (aim.Check arrival) = Some arrival
+
+-- what its program says of that
+abbrev pub aim_of : Aim → ProgramAim
+aim_of (aim.Arrive course) = aims.Arrive
+aim_of (aim.Check arrival) = aims.Check
+
+-- where it is in its program
+abbrev pub course_of : Aim → Course
+course_of (aim.Arrive course) = course
+course_of (aim.Check arrival) = arrival.seat.course
 
 -- in which generation it was counted, if it was
 abbrev pub generation_of : Option Arrival → Option ℕ
@@ -43,14 +58,14 @@ counted_in (resting.Counted arrival) = Some arrival.generation
 counted_in (resting.Locking a waiting) = generation_of (counted_by a)
 counted_in (resting.Waiting waiting) = Some waiting.generation
 
--- it is an arrival at this barrier, if it is one
-abbrev pub IsAt : Barrier → Option Arrival → Type 0
-IsAt barrier arrival = IfSome arrival (IsOfThis barrier)
+-- its arrival is one at this barrier, if it was counted
+abbrev pub IsAimAt : Barrier → Aim → Type 0
+IsAimAt barrier a = IfSome (counted_by a) (IsOfThis barrier)
 
 -- it waits at this barrier: in no list, in that of the inner lock, or in the barrier's
 abbrev pub RestsAt : Barrier → Resting → Type 0
-RestsAt barrier (resting.Counted arrival) = IsOfThis barrier arrival
-RestsAt barrier (resting.Locking a waiting) = lock.IsOf barrier.inner waiting.seat × IsAt barrier (counted_by a)
+RestsAt barrier (resting.Counted arrival) = IsOfThis barrier arrival × IsCounted arrival.seat.course
+RestsAt barrier (resting.Locking a waiting) = lock.IsOf barrier.inner waiting.seat × IsAimAt barrier a × (course_of a ≡ locking (aim_of a))
 RestsAt barrier (resting.Waiting waiting) = IsOf barrier waiting.seat
 
 -- a poll is refused for memory, for too many starved waiters at the inner lock, or for too many generations
@@ -72,13 +87,13 @@ abbrev pub StaysCounted : Option ℕ → Option ℕ → Type 0
 StaysCounted before after = IfSome before (λ g. after ≡ Some g)
 
 -- How a poll went of a wait that was counted in this generation before, or wasn't: what shows how the wait has ended was found at this barrier; one that
--- waits does so there, with a receipt; and an arrival that was counted stays so unless the wait is over.
+-- waits does so there, with a receipt; one that is refused is refused so by its program; and an arrival that was counted stays so unless the wait is over.
 abbrev pub IsOutcomeOf : Barrier → Context → Option ℕ → Outcome → Type 0
 IsOutcomeOf barrier cx before (Ready verdict) = IsFoundAt barrier verdict
 IsOutcomeOf barrier cx before (Pending r) = RestsAt barrier r × HasReceipt barrier cx r × StaysCounted before (counted_in r)
-IsOutcomeOf barrier cx before (Refused refusal arrival) = IsGivenUp refusal × IsAt barrier arrival × StaysCounted before (generation_of arrival)
+IsOutcomeOf barrier cx before (Refused refusal a) = IsGivenUp refusal × IsAimAt barrier a × (course_of a ≡ refused refusal (aim_of a)) × StaysCounted before (generation_of (counted_by a))
 
 -- the same of a check, by an arrival that may have to begin anew
 abbrev pub IsCheckingOf : Barrier → Context → ℕ → Checking → Type 0
 IsCheckingOf barrier cx generation (checking.Over outcome) = IsOutcomeOf barrier cx (Some generation) outcome
-IsCheckingOf barrier cx generation (checking.Told arrival) = IsOfThis barrier arrival × (arrival.generation ≡ generation)
+IsCheckingOf barrier cx generation (checking.Told arrival) = IsOfThis barrier arrival × (arrival.generation ≡ generation) × (arrival.seat.course ≡ Do (EnterLock aims.Check))

@@ -2,7 +2,12 @@
 
 ghost use Rattle.std.specs.Prelude.{◌≡◌, true, false, IfNone, IfOk, IfSome, OnErr};
 ghost use Rattle.futures.specs.Task.{Keeps};
-ghost use Rattle.barrier_core.specs.Barriers.{IsOf, with_joined, with_gone, with_paid};
+ghost use Rattle.lock_program.specs.declared.end.Next.TheVariants.{Do};
+ghost use Rattle.sync_program.specs.declared.barrier.Action.TheVariants as act;
+ghost use Rattle.sync_program.specs.declared.barrier.Found.TheVariants as finds;
+ghost use Rattle.sync_program.specs.declared.barrier.Place.TheVariants as places;
+ghost use Rattle.barrier_core.specs.Barriers.{IsAt, IsCountedIn, IsIdle, IsOf, goes, with_joined, with_gone, with_paid};
+ghost use Rattle.barrier_core.specs.Rejoining.{FindsAgain};
 ghost use Rattle.lock_queue.specs.Receipts.{IsReceipt};
 
 use crate::list::MOST;
@@ -15,6 +20,7 @@ use futures::task::Context;
 use lock_event::{EntryId, Memory};
 use lock_queue::{AllDue, Whose};
 use std::sync::Wait;
+use sync_program::barrier::{Found, Place};
 use words_barrier::steps::{
     ENTRIES, LIST, NOTIFICATION, give_gone, give_joined, give_paid, give_same, peek,
 };
@@ -26,6 +32,16 @@ pub struct Joined {
     pub(crate) id: EntryId,
     pub(crate) whose: Whose,
     word: u64,
+}
+
+/// What came of joining the list again, of an arrival whose generation wasn't finished.
+pub(crate) enum Rejoined {
+    /// It has an entry.
+    Waits(Joined),
+    /// It isn't in the list: its generation is finished.
+    Finished,
+    /// There was no memory for its entry.
+    Refused,
 }
 
 // An entry that has joined, by which the rule names it.
@@ -41,11 +57,12 @@ impl Numbered for Joining {
 impl RawBarrier {
     /// Joins the list at the back, with no waker. The seat has not looked since then. [`Memory`] comes only if memory was refused, and
     /// nothing has changed then.
-    pub fn join<R: Wait>(&self, rt: &R, seat: &mut Seat) -> Result<EntryId, Memory>
+    pub fn join<R: Wait>(&self, rt: &R, seat: &mut Seat, at: Place) -> Result<EntryId, Memory>
         requires of { IsOf self.now seat.old }
+        requires course { IsAt at act.Join seat.old }
         requires away { seat.old.listed ≡ false }
-        ensures joined { IfOk result (λ id. seat.new ≡ with_joined id.number seat.old) }
-        ensures refused { OnErr result (seat.new ≡ seat.old) }
+        ensures joined { IfOk result (λ id. seat.new ≡ goes at finds.Done (with_joined id.number seat.old)) }
+        ensures refused { OnErr result (seat.new ≡ goes at finds.NoMemory seat.old) }
     {
         let shared = &self.table.shared;
         let found = take_out(shared, rt, &mut seat.inner);
@@ -54,11 +71,13 @@ impl RawBarrier {
             Ok(id) => {
                 let found = give_joined(shared, &mut seat.inner, word, &Joining { id });
                 wake_next(shared, found);
+                seat.go(at, Found::Done);
                 Ok(id)
             }
             Err(memory) => {
                 let found = give_same(shared, &mut seat.inner, word);
                 wake_next(shared, found);
+                seat.go(at, Found::NoMemory);
                 Err(memory)
             }
         }
@@ -70,11 +89,13 @@ impl RawBarrier {
         rt: &R,
         seat: &mut Seat,
         cx: &mut Context<'_>,
+        at: Place,
     ) -> Result<Joined, Memory>
         requires of { IsOf self.now seat.old }
+        requires course { IsAt at act.Join seat.old }
         requires away { seat.old.listed ≡ false }
-        ensures joined { IfOk result (λ joined. seat.new ≡ with_joined joined.id.number seat.old) }
-        ensures refused { OnErr result (seat.new ≡ seat.old) }
+        ensures joined { IfOk result (λ joined. seat.new ≡ goes at finds.Done (with_joined joined.id.number seat.old)) }
+        ensures refused { OnErr result (seat.new ≡ goes at finds.NoMemory seat.old) }
         ensures keeps { IfOk result (λ joined. IsReceipt self.now.inner.source cx.new joined.whose) }
         ensures kept { Keeps cx.old cx.new }
     {
@@ -92,19 +113,61 @@ impl RawBarrier {
             Ok((id, whose)) => {
                 let found = give_joined(shared, &mut seat.inner, word, &Joining { id });
                 wake_next(shared, found);
+                seat.go(at, Found::Done);
                 Ok(Joined { id, whose, word })
             }
             Err(memory) => {
                 let found = give_same(shared, &mut seat.inner, word);
                 wake_next(shared, found);
+                seat.go(at, Found::NoMemory);
                 Err(memory)
             }
         }
     }
 
+    /// Joins the list again, as [`RawBarrier::join_waking`], by whoever has the inner lock, and looks since then. While it has that lock nobody
+    /// finishes a generation. The rule doesn't speak of that lock: should the look find the generation finished that its arrival was counted
+    /// in, it leaves the list, and goes on as from a check that found so.
+    #[inline]
+    pub(crate) fn join_again<R: Wait>(
+        &self,
+        rt: &R,
+        seat: &mut Seat,
+        cx: &mut Context<'_>,
+        generation: u64,
+    ) -> Rejoined
+        requires of { IsOf self.now seat.old }
+        requires counted { IsIdle seat.old × IsCountedIn generation seat.old }
+        requires course { seat.old.course ≡ Do places.JoinAgain }
+        ensures again { FindsAgain self.now cx.new generation seat.new result }
+        ensures kept { Keeps cx.old cx.new }
+    {
+        let joined = match self.join_waking(rt, seat, cx, Place::JoinAgain) {
+            Ok(joined) => joined,
+            Err(Memory) => return Rejoined::Refused,
+        };
+        if self.look_again(seat) != generation {
+            self.remove(rt, seat, joined.id);
+            seat.go(Place::Check, Found::Finished);
+            return Rejoined::Finished;
+        }
+        Rejoined::Waits(joined)
+    }
+
     /// Takes the entry of this id out of the list without asking, which is the seat's. A notification that it had goes on to the next. The
     /// entry's own waker is dropped, by which the kit wakes its task once more.
-    pub fn leave<R: Wait>(&self, rt: &R, seat: &mut Seat, id: EntryId)
+    pub fn leave<R: Wait>(&self, rt: &R, seat: &mut Seat, id: EntryId, at: Place)
+        requires of { IsOf self.now seat.old }
+        requires course { IsAt at act.Leave seat.old }
+        requires own { seat.old.entry ≡ id.number }
+        ensures { seat.new ≡ goes at finds.Done (with_gone seat.old) }
+    {
+        self.remove(rt, seat, id);
+        seat.go(at, Found::Done);
+    }
+
+    // The same, of a party that stays at its place.
+    fn remove<R: Wait>(&self, rt: &R, seat: &mut Seat, id: EntryId)
         requires of { IsOf self.now seat.old }
         requires own { seat.old.entry ≡ id.number }
         ensures { seat.new ≡ with_gone seat.old }
@@ -126,43 +189,55 @@ impl RawBarrier {
         seat: &mut Seat,
         id: EntryId,
         cx: &mut Context<'_>,
+        at: Place,
     ) -> Option<Whose>
         requires of { IsOf self.now seat.old }
+        requires course { IsAt at act.Ask seat.old }
         requires own { seat.old.entry ≡ id.number }
-        ensures told { IfNone result ((seat.new ≡ with_gone seat.old) × (cx.new ≡ cx.old)) }
-        ensures waits { IfSome result (λ whose. (seat.new ≡ seat.old) × IsReceipt self.now.inner.source cx.new whose) }
+        ensures told { IfNone result ((seat.new ≡ goes at finds.Yes (with_gone seat.old)) × (cx.new ≡ cx.old)) }
+        ensures waits { IfSome result (λ whose. (seat.new ≡ goes at finds.No seat.old) × IsReceipt self.now.inner.source cx.new whose) }
         ensures kept { Keeps cx.old cx.new }
     {
         let shared = &self.table.shared;
         let found = take_out(shared, rt, &mut seat.inner);
         let (heard, word) = ask_in(shared, &mut seat.inner, id, self.inner.source(), cx, found);
-        give_asked(shared, &mut seat.inner, heard, word)
+        let kept = give_asked(shared, &mut seat.inner, heard, word);
+        seat.go(at, answer(kept.is_some()));
+        kept
     }
 
     // The same, of an entry that keeps the waker that it has: whether it waits.
     #[cold]
     #[inline(never)]
-    fn ask_again<R: Wait>(&self, rt: &R, seat: &mut Seat, id: EntryId) -> bool
+    fn ask_again<R: Wait>(&self, rt: &R, seat: &mut Seat, id: EntryId, at: Place) -> bool
         requires of { IsOf self.now seat.old }
+        requires course { IsAt at act.Ask seat.old }
         requires own { seat.old.entry ≡ id.number }
-        ensures told { result ≡ false → seat.new ≡ with_gone seat.old }
-        ensures waits { result ≡ true → seat.new ≡ seat.old }
+        ensures told { result ≡ false → seat.new ≡ goes at finds.Yes (with_gone seat.old) }
+        ensures waits { result ≡ true → seat.new ≡ goes at finds.No seat.old }
     {
         let shared = &self.table.shared;
         let found = take_out(shared, rt, &mut seat.inner);
         let (heard, word) = ask_again_in(shared, &mut seat.inner, id, found);
-        give_asked(shared, &mut seat.inner, heard, word).is_some()
+        let waits = give_asked(shared, &mut seat.inner, heard, word).is_some();
+        seat.go(at, answer(waits));
+        waits
     }
 
     /// Whether an entry waits that has joined with a waker: one load, where the list was not notified since. Else it asks for its
     /// notification, as [`RawBarrier::ask`] does.
-    pub fn still_waits<R: Wait>(&self, rt: &R, seat: &mut Seat, joined: &Joined) -> bool
+    pub fn still_waits<R: Wait>(&self, rt: &R, seat: &mut Seat, joined: &Joined, at: Place) -> bool
         requires of { IsOf self.now seat.old }
+        requires course { IsAt at act.Ask seat.old }
         requires own { seat.old.entry ≡ joined.now.id.number }
-        ensures told { result ≡ false → seat.new ≡ with_gone seat.old }
-        ensures waits { result ≡ true → seat.new ≡ seat.old }
+        ensures told { result ≡ false → seat.new ≡ goes at finds.Yes (with_gone seat.old) }
+        ensures waits { result ≡ true → seat.new ≡ goes at finds.No seat.old }
     {
-        self.is_still(joined.word) || self.ask_again(rt, seat, joined.id)
+        if self.is_still(joined.word) {
+            seat.go(at, Found::No);
+            return true;
+        }
+        self.ask_again(rt, seat, joined.id, at)
     }
 
     // Whether the list was not notified since its word was this.
@@ -171,27 +246,35 @@ impl RawBarrier {
         told < MOST && self.table.shared.peek(LIST) / NOTIFICATION == told
     }
 
-    /// Returns whether the list may have entries: one load. If not, the seat owes nothing any more.
+    /// Returns whether the list may have entries: one load. If not, there is nobody to notify, so that was done, and the seat owes nothing any
+    /// more.
     #[inline]
-    pub fn may_have_entries(&self, seat: &mut Seat) -> bool
+    pub fn may_have_entries(&self, seat: &mut Seat, at: Place) -> bool
         requires of { IsOf self.now seat.old }
+        requires course { IsAt at act.NotifyAll seat.old }
         ensures some { result ≡ true → seat.new ≡ seat.old }
-        ensures none { result ≡ false → seat.new ≡ with_paid seat.old }
+        ensures none { result ≡ false → seat.new ≡ goes at finds.Done (with_paid seat.old) }
     {
-        peek(&self.table.shared, &mut seat.inner) % 8 >= ENTRIES
+        if peek(&self.table.shared, &mut seat.inner) % 8 >= ENTRIES {
+            return true;
+        }
+        seat.go(at, Found::Done);
+        false
     }
 
     /// Notifies all that stand in the list, and calls their wakers. The seat owes nothing any more.
     #[inline(never)]
-    pub fn notify_all<R: Wait>(&self, rt: &R, seat: &mut Seat)
+    pub fn notify_all<R: Wait>(&self, rt: &R, seat: &mut Seat, at: Place)
         requires of { IsOf self.now seat.old }
-        ensures { seat.new ≡ with_paid seat.old }
+        requires course { IsAt at act.NotifyAll seat.old }
+        ensures { seat.new ≡ goes at finds.Done (with_paid seat.old) }
     {
         let shared = &self.table.shared;
         let found = take_out(shared, rt, &mut seat.inner);
         let (due, word) = notify_all_in(shared, &mut seat.inner, self.alloc, found);
         let found = give_paid(shared, &mut seat.inner, word);
         wake_next(shared, found);
+        seat.go(at, Found::Done);
         self.pay_all(rt, seat, due);
     }
 
@@ -231,4 +314,13 @@ impl RawBarrier {
         wake_next(shared, found);
         due.pay().is_some()
     }
+}
+
+// What an entry that asks finds: whether it was notified.
+#[inline(always)]
+fn answer(waits: bool) -> Found
+    ensures told { waits ≡ false → result ≡ finds.Yes }
+    ensures waits { waits ≡ true → result ≡ finds.No }
+{
+    if waits { Found::No } else { Found::Yes }
 }

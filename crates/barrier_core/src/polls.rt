@@ -1,44 +1,53 @@
 //! Whole calls of a barrier, action by action as its program has them.
 //!
-//! The comments name the places of the program's table, which are `sync_program`'s.
+//! Each action names its place in the table of `sync_program`, and asks that the call has come to it.
 
-ghost use Rattle.std.specs.Prelude.{◌≡◌, ◌+◌, ◌<◌, ◌≤◌, None, Some, IfErr, IfOk, IfSome, false};
+ghost use Rattle.std.specs.Prelude.{◌≡◌, ◌≢◌, ◌+◌, ◌<◌, ◌≤◌, None, Some, IfErr, IfOk, IfSome, false, true};
 ghost use Rattle.futures.specs.Task.{Keeps};
-ghost use Rattle.barrier_core.specs.Barriers.{IsOf, IsIdle, IsWaiting};
-ghost use Rattle.barrier_core.specs.Counts.{IsOfThis};
-ghost use Rattle.barrier_core.specs.Outcomes.{HasLock, IsAt, IsCheckingOf, IsOutcomeOf, RestsAt, counted_by, counted_in, generation_of};
-ghost use Rattle.lock_queue.specs.Receipts.{IsReceipt};
+ghost use Rattle.lock_program.specs.declared.end.Next.TheVariants.{Do};
 ghost use Rattle.lock_program.specs.declared.refusal.Refusal.{Refusal};
+ghost use Rattle.sync_program.specs.Barrier as program;
+ghost use Rattle.sync_program.specs.declared.barrier.Aim.TheVariants as aims;
+ghost use Rattle.sync_program.specs.declared.barrier.Ending.TheVariants as endings;
+ghost use Rattle.sync_program.specs.declared.barrier.Place.TheVariants as places;
+ghost use Rattle.barrier_core.specs.Barriers.{HasEntry, IsIdle, IsOf};
+ghost use Rattle.barrier_core.specs.Counts.{IsOfThis};
+ghost use Rattle.barrier_core.specs.Courses.{locking};
+ghost use Rattle.barrier_core.specs.Locking.{polled};
+ghost use Rattle.barrier_core.specs.Outcomes.{HasLock, IsCheckingOf, IsOutcomeOf, RestsAt, counted_in};
+ghost use Rattle.lock_queue.specs.Receipts.{IsReceipt};
+ghost use Rattle.mutex_core.specs.Locks as locks;
 ghost use Rattle.mutex_core.specs.Outcomes as lock;
 
 use crate::arrivals::{Arrivals, Looked};
-use crate::calls::Joined;
+use crate::calls::{Joined, Rejoined};
 use crate::raw::RawBarrier;
-use crate::seat::Seat;
-use crate::turn::{
-    Aim, Arrival, Checked, Checking, Followed, Led, Outcome, Resting, Verdict, Waiting,
-};
+use crate::seat::{Course, Seat};
+use crate::turn::{Aim, Arrival, Checking, Followed, Led, Outcome, Resting, Verdict, Waiting};
 use futures::task::Context;
 use lock_event::Memory;
 use lock_place::Hold;
 use lock_program::Refusal;
-use mutex_core::{Held, Outcome as Locked, Seat as LockSeat};
+use mutex_core::{Held, Outcome as Locked, Seat as LockSeat, Waiting as WaitingForLock};
 use std::sync::Wait;
 use std::time::Clock;
+use sync_program::barrier::{Aim as Purpose, BarrierCall, Ending, Place};
 
 impl RawBarrier {
-    /// Polls a wait for the first time, or past a refusal before its arrival was counted.
+    /// Polls a wait for the first time, or past a refusal before its arrival was counted: by either call it begins at the same place.
     #[inline]
     pub fn poll_first<R: Wait + Clock>(&self, rt: &R, cx: &mut Context<'_>) -> Outcome
         ensures outcome { IsOutcomeOf self.now cx.new None result }
         ensures kept { Keeps cx.old cx.new }
     {
-        // EnterLock(Arrive)
-        match self.inner.first_look() {
-            Ok(held) => self.arrive_with(rt, cx, held),
+        let mut course = Course::new();
+        course.begin(BarrierCall::Wait, Place::EnterLock(Purpose::Arrive));
+        match self.enter_lock(&mut course, Place::EnterLock(Purpose::Arrive)) {
+            Ok(held) => self.arrive_with(rt, cx, held, course),
             Err(vain) => {
-                let locked = self.inner.poll_first(rt, cx, vain);
-                self.go_on(rt, cx, Aim::Arrive, locked)
+                let at = Place::TakeLock(Purpose::Arrive);
+                let locked = self.take_lock(rt, cx, vain, &mut course, at);
+                self.arrive_on(rt, cx, course, locked)
             }
         }
     }
@@ -57,12 +66,18 @@ impl RawBarrier {
     {
         match resting {
             Resting::Waiting(waiting) => self.poll_waiting(rt, cx, waiting),
-            Resting::Locking(aim, waiting) => {
-                // WaitLock
-                let locked = self.inner.poll_later(rt, cx, waiting);
-                self.go_on(rt, cx, aim, locked)
+            Resting::Locking(aim, waiting) => match aim {
+                Aim::Arrive(course) => self.poll_uncounted(rt, cx, course, waiting),
+                Aim::Check(arrival) => self.poll_counted(rt, cx, arrival, waiting),
+            },
+            Resting::Counted(arrival) => {
+                let Arrival {
+                    mut seat,
+                    generation,
+                } = arrival;
+                seat.begin(BarrierCall::Poll, Place::EnterLock(Purpose::Check));
+                self.check_on(rt, cx, Arrival { seat, generation })
             }
-            Resting::Counted(arrival) => self.check_on(rt, cx, arrival),
         }
     }
 
@@ -78,44 +93,55 @@ impl RawBarrier {
                     whose: _,
                     generation: _,
                 } = waiting;
-                // CancelLeave
-                self.leave(rt, &mut seat, id);
+                seat.begin(BarrierCall::Drop, Place::CancelLeave);
+                self.leave(rt, &mut seat, id, Place::CancelLeave);
                 seat.rise();
             }
             Resting::Locking(aim, waiting) => {
-                // CancelLock
-                self.inner.cancel(rt, waiting);
-                match aim {
-                    Aim::Arrive => {}
-                    Aim::Check(arrival) => arrival.end(),
-                }
+                let mut course = match aim {
+                    Aim::Arrive(course) => course,
+                    Aim::Check(arrival) => arrival.into_parts().0.into_course(),
+                };
+                course.begin(BarrierCall::Drop, Place::CancelLock);
+                self.cancel_lock(rt, waiting, &mut course, Place::CancelLock);
+                course.end();
             }
-            // Abandon
-            Resting::Counted(arrival) => arrival.end(),
+            Resting::Counted(arrival) => {
+                let mut seat = arrival.into_parts().0;
+                seat.begin(BarrierCall::Drop, Place::Abandon);
+                self.abandon(&mut seat, Place::Abandon);
+                seat.rise();
+            }
         }
     }
 
     /// Arrives at once, if the inner lock is free and the arrival finishes its generation: it leads then. Where it doesn't, nobody has
     /// arrived. It is refused as [`Refusal::Generations`] if the arrival would finish a generation past the limit.
+    ///
+    /// The program has no call for a try. It is a wait's call, by one that withdraws if it would have to wait, and has done nothing then.
     pub fn try_lead<R: Wait>(&self, rt: &R) -> Result<Option<Led>, Refusal>
         ensures led { IfOk result (λ led. IfSome led (λ l. IsOf self.now l.seat)) }
         ensures refused { IfErr result (λ refusal. refusal ≡ Refusal.Generations) }
     {
-        let Some(held) = self.inner.try_lock() else {
+        let mut course = Course::new();
+        course.begin(BarrierCall::Wait, Place::EnterLock(Purpose::Arrive));
+        let Some(held) = self.try_lock(&mut course, Place::EnterLock(Purpose::Arrive)) else {
+            course.withdraw();
             return Ok(None);
         };
         let (lock, hold) = held.into_parts();
-        let (seat, finished) = self.sit();
-        match self.look(&hold, &seat, finished) {
+        let (mut seat, finished) = self.sit(course);
+        match self.look(&hold, &mut seat, finished, Place::Look) {
             Looked::MustWait => {
-                seat.rise();
+                seat.into_course().withdraw();
                 self.inner.release(rt, Held::of(lock, hold));
                 Ok(None)
             }
             Looked::Leads => Ok(Some(self.lead(rt, lock, hold, seat, finished))),
             Looked::Past => {
+                let at = Place::ReleaseLock(Ending::RefuseGenerations);
+                self.release_lock(rt, lock, hold, &mut seat.course, at);
                 seat.rise();
-                self.inner.release(rt, Held::of(lock, hold));
                 Err(Refusal::Generations)
             }
         }
@@ -138,7 +164,8 @@ impl RawBarrier {
             whose: _,
             generation,
         } = waiting;
-        if let Some(whose) = self.ask(rt, &mut seat, id, cx) {
+        seat.begin(BarrierCall::Poll, Place::Ask);
+        if let Some(whose) = self.ask(rt, &mut seat, id, cx, Place::Ask) {
             return Outcome::Pending(Resting::Waiting(Waiting {
                 seat,
                 id,
@@ -146,30 +173,83 @@ impl RawBarrier {
                 generation,
             }));
         }
-        // EnterLock(Check), told
         self.check_on(rt, cx, Arrival { seat, generation })
     }
 
-    // What comes of a poll of the inner lock that went so.
-    fn go_on<R: Wait + Clock>(
+    // WaitLock(Arrive), of a wait that isn't counted.
+    #[inline]
+    fn poll_uncounted<R: Wait + Clock>(
         &self,
         rt: &R,
         cx: &mut Context<'_>,
-        aim: Aim,
+        course: Course,
+        waiting: WaitingForLock<Arrivals>,
+    ) -> Outcome
+        requires waiting { locks.IsOf self.now.inner waiting.seat }
+        requires course { course ≡ locking aims.Arrive }
+        ensures outcome { IsOutcomeOf self.now cx.new None result }
+        ensures kept { Keeps cx.old cx.new }
+    {
+        let mut course = course;
+        course.begin(BarrierCall::Poll, Place::WaitLock(Purpose::Arrive));
+        let at = Place::WaitLock(Purpose::Arrive);
+        let locked = self.wait_lock(rt, cx, waiting, &mut course, at);
+        self.arrive_on(rt, cx, course, locked)
+    }
+
+    // WaitLock(Check), of an arrival that was counted.
+    #[inline]
+    fn poll_counted<R: Wait + Clock>(
+        &self,
+        rt: &R,
+        cx: &mut Context<'_>,
+        arrival: Arrival,
+        waiting: WaitingForLock<Arrivals>,
+    ) -> Outcome
+        requires waiting { locks.IsOf self.now.inner waiting.seat }
+        requires arrival { IsOfThis self.now arrival × (arrival.seat.course ≡ locking aims.Check) }
+        ensures outcome { IsOutcomeOf self.now cx.new (Some arrival.generation) result }
+        ensures kept { Keeps cx.old cx.new }
+    {
+        let Arrival {
+            mut seat,
+            generation,
+        } = arrival;
+        seat.begin(BarrierCall::Poll, Place::WaitLock(Purpose::Check));
+        let at = Place::WaitLock(Purpose::Check);
+        let locked = self.wait_lock(rt, cx, waiting, &mut seat.course, at);
+        let arrival = Arrival { seat, generation };
+        match locked {
+            Locked::Got(held) => match self.check_with(rt, cx, held, arrival) {
+                Checking::Over(outcome) => outcome,
+                Checking::Told(arrival) => self.check_on(rt, cx, arrival),
+            },
+            Locked::Waits(waiting) => {
+                Outcome::Pending(Resting::Locking(Aim::Check(arrival), waiting))
+            }
+            Locked::Refused(refusal) => Outcome::Refused(refusal, Aim::Check(arrival)),
+        }
+    }
+
+    // What comes of a poll of the inner lock that went so, of a wait that isn't counted.
+    fn arrive_on<R: Wait + Clock>(
+        &self,
+        rt: &R,
+        cx: &mut Context<'_>,
+        course: Course,
         locked: Locked<Arrivals>,
     ) -> Outcome
         requires locked { lock.IsOutcomeOf self.now.inner cx.old locked }
-        requires at { IsAt self.now (counted_by aim) }
-        ensures outcome { IsOutcomeOf self.now cx.new (generation_of (counted_by aim)) result }
+        requires course { course ≡ program.after_lock aims.Arrive (polled locked) }
+        ensures outcome { IsOutcomeOf self.now cx.new None result }
         ensures kept { Keeps cx.old cx.new }
     {
         match locked {
-            Locked::Got(held) => match aim {
-                Aim::Arrive => self.arrive_with(rt, cx, held),
-                Aim::Check(arrival) => self.check_in(rt, cx, held, arrival),
-            },
-            Locked::Waits(waiting) => Outcome::Pending(Resting::Locking(aim, waiting)),
-            Locked::Refused(refusal) => Outcome::Refused(refusal, aim.into_arrival()),
+            Locked::Got(held) => self.arrive_with(rt, cx, held, course),
+            Locked::Waits(waiting) => {
+                Outcome::Pending(Resting::Locking(Aim::Arrive(course), waiting))
+            }
+            Locked::Refused(refusal) => Outcome::Refused(refusal, Aim::Arrive(course)),
         }
     }
 
@@ -179,29 +259,29 @@ impl RawBarrier {
         rt: &R,
         cx: &mut Context<'_>,
         held: Held<Arrivals>,
+        course: Course,
     ) -> Outcome
-        requires { lock.IsHeldOf self.now.inner held }
+        requires held { lock.IsHeldOf self.now.inner held }
+        requires course { course ≡ Do places.Look }
         ensures outcome { IsOutcomeOf self.now cx.new None result }
         ensures kept { Keeps cx.old cx.new }
     {
         let (lock, hold) = held.into_parts();
-        // Look
-        let (seat, finished) = self.sit();
-        match self.look(&hold, &seat, finished) {
+        let (mut seat, finished) = self.sit(course);
+        match self.look(&hold, &mut seat, finished, Place::Look) {
             Looked::MustWait => self.wait_with(rt, cx, lock, hold, seat),
             Looked::Leads => {
                 Outcome::Ready(Verdict::Led(self.lead(rt, lock, hold, seat, finished)))
             }
             Looked::Past => {
-                seat.rise();
-                // ReleaseLock(RefuseGenerations)
-                self.inner.release(rt, Held::of(lock, hold));
-                Outcome::Refused(Refusal::Generations, None)
+                let at = Place::ReleaseLock(Ending::RefuseGenerations);
+                self.release_lock(rt, lock, hold, &mut seat.course, at);
+                Outcome::Refused(Refusal::Generations, Aim::Arrive(seat.into_course()))
             }
         }
     }
 
-    // Complete, NotifyAll, ReleaseLock(Lead): of an arrival that finishes its generation.
+    // From Complete on: of an arrival that finishes its generation.
     fn lead<R: Wait>(
         &self,
         rt: &R,
@@ -212,24 +292,23 @@ impl RawBarrier {
     ) -> Led
         requires has { HasLock self.now lock hold }
         requires seat { IsOf self.now seat × IsIdle seat × (seat.found ≡ finished) }
+        requires course { seat.course ≡ Do places.Complete }
         requires last { self.now.size ≤ hold.value.count + 1 }
         requires room { finished < self.now.most }
         ensures { IsOf self.now result.seat }
     {
         let mut hold = hold;
         let mut seat = seat;
-        // Complete
-        self.complete(&mut hold, &mut seat, finished);
-        // NotifyAll
-        if self.may_have_entries(&mut seat) {
-            self.notify_all(rt, &mut seat);
+        self.complete(&mut hold, &mut seat, finished, Place::Complete);
+        if self.may_have_entries(&mut seat, Place::NotifyAll) {
+            self.notify_all(rt, &mut seat, Place::NotifyAll);
         }
-        // ReleaseLock(Lead)
-        self.inner.release(rt, Held::of(lock, hold));
+        let at = Place::ReleaseLock(Ending::Lead);
+        self.release_lock(rt, lock, hold, &mut seat.course, at);
         Led::of(seat)
     }
 
-    // Join, Arrive, ReleaseLock(Wait), Ask: of an arrival that has to wait.
+    // From Join on: of an arrival that has to wait.
     fn wait_with<R: Wait + Clock>(
         &self,
         rt: &R,
@@ -240,26 +319,24 @@ impl RawBarrier {
     ) -> Outcome
         requires has { HasLock self.now lock hold }
         requires seat { IsOf self.now seat × IsIdle seat }
+        requires course { seat.course ≡ Do places.Join }
         requires more { hold.value.count + 1 < self.now.size }
         ensures outcome { IsOutcomeOf self.now cx.new None result }
         ensures kept { Keeps cx.old cx.new }
     {
         let mut hold = hold;
         let mut seat = seat;
-        // Join
-        let joined = match self.join_waking(rt, &mut seat, cx) {
+        let joined = match self.join_waking(rt, &mut seat, cx, Place::Join) {
             Ok(joined) => joined,
             Err(Memory) => {
-                seat.rise();
-                // ReleaseLock(RefuseMemory)
-                self.inner.release(rt, Held::of(lock, hold));
-                return Outcome::Refused(Refusal::Memory, None);
+                let at = Place::ReleaseLock(Ending::RefuseMemory(Purpose::Arrive));
+                self.release_lock(rt, lock, hold, &mut seat.course, at);
+                return Outcome::Refused(Refusal::Memory, Aim::Arrive(seat.into_course()));
             }
         };
-        // Arrive
-        let generation = self.arrive(&mut hold, &mut seat);
-        // ReleaseLock(Wait)
-        self.inner.release(rt, Held::of(lock, hold));
+        let generation = self.arrive(&mut hold, &mut seat, Place::Arrive);
+        let at = Place::ReleaseLock(Ending::Wait);
+        self.release_lock(rt, lock, hold, &mut seat.course, at);
         match self.ask_joined(rt, cx, seat, joined, generation) {
             Checking::Over(outcome) => outcome,
             Checking::Told(arrival) => self.check_on(rt, cx, arrival),
@@ -276,14 +353,14 @@ impl RawBarrier {
         joined: Joined,
         generation: u64,
     ) -> Checking
-        requires seat { IsOf self.now seat × IsWaiting generation joined.id.number seat }
+        requires seat { IsOf self.now seat × HasEntry generation joined.id.number seat }
+        requires course { seat.course ≡ Do places.Ask }
         requires keeps { IsReceipt self.now.inner.source cx.now joined.whose }
         ensures { IsCheckingOf self.now cx.now generation result }
     {
         let _ = cx;
         let mut seat = seat;
-        // Ask
-        if self.still_waits(rt, &mut seat, &joined) {
+        if self.still_waits(rt, &mut seat, &joined, Place::Ask) {
             return Checking::Over(Outcome::Pending(Resting::Waiting(Waiting {
                 seat,
                 id: joined.id,
@@ -294,45 +371,38 @@ impl RawBarrier {
         Checking::Told(Arrival { seat, generation })
     }
 
-    // Check, with the inner lock, and what comes of it.
-    fn check_in<R: Wait + Clock>(
-        &self,
-        rt: &R,
-        cx: &mut Context<'_>,
-        held: Held<Arrivals>,
-        arrival: Arrival,
-    ) -> Outcome
-        requires held { lock.IsHeldOf self.now.inner held }
-        requires of { IsOfThis self.now arrival }
-        ensures outcome { IsOutcomeOf self.now cx.new (Some arrival.generation) result }
-        ensures kept { Keeps cx.old cx.new }
-    {
-        match self.check_with(rt, cx, held, arrival) {
-            Checking::Over(outcome) => outcome,
-            Checking::Told(arrival) => self.check_on(rt, cx, arrival),
-        }
-    }
-
     // From EnterLock(Check) on, of an arrival that was notified, or whose poll was refused: until it has followed, or waits.
     #[inline(never)]
     fn check_on<R: Wait + Clock>(&self, rt: &R, cx: &mut Context<'_>, arrival: Arrival) -> Outcome
-        requires { IsOfThis self.now arrival }
+        requires of { IsOfThis self.now arrival }
+        requires course { arrival.seat.course ≡ Do (places.EnterLock aims.Check) }
         ensures outcome { IsOutcomeOf self.now cx.new (Some arrival.generation) result }
         ensures kept { Keeps cx.old cx.new }
     {
         let mut arrival = arrival;
         for _ in rt.forever() {
-            let held = match self.inner.first_look() {
+            let Arrival {
+                mut seat,
+                generation,
+            } = arrival;
+            let held = match self.enter_lock(&mut seat.course, Place::EnterLock(Purpose::Check)) {
                 Ok(held) => held,
-                Err(vain) => match self.inner.poll_first(rt, cx, vain) {
-                    Locked::Got(held) => held,
-                    Locked::Waits(waiting) => {
-                        return Outcome::Pending(Resting::Locking(Aim::Check(arrival), waiting));
+                Err(vain) => {
+                    let at = Place::TakeLock(Purpose::Check);
+                    match self.take_lock(rt, cx, vain, &mut seat.course, at) {
+                        Locked::Got(held) => held,
+                        Locked::Waits(waiting) => {
+                            let aim = Aim::Check(Arrival { seat, generation });
+                            return Outcome::Pending(Resting::Locking(aim, waiting));
+                        }
+                        Locked::Refused(refusal) => {
+                            let aim = Aim::Check(Arrival { seat, generation });
+                            return Outcome::Refused(refusal, aim);
+                        }
                     }
-                    Locked::Refused(refusal) => return Outcome::Refused(refusal, Some(arrival)),
-                },
+                }
             };
-            match self.check_with(rt, cx, held, arrival) {
+            match self.check_with(rt, cx, held, Arrival { seat, generation }) {
                 Checking::Over(outcome) => return outcome,
                 Checking::Told(told) => arrival = told,
             }
@@ -340,8 +410,7 @@ impl RawBarrier {
         unreachable!()
     }
 
-    // Check, with the inner lock. One whose generation isn't finished joins again, and looks since then: should that find the generation
-    // finished, it follows.
+    // Check, with the inner lock. One whose generation isn't finished joins again.
     fn check_with<R: Wait>(
         &self,
         rt: &R,
@@ -351,22 +420,43 @@ impl RawBarrier {
     ) -> Checking
         requires held { lock.IsHeldOf self.now.inner held }
         requires of { IsOfThis self.now arrival }
+        requires course { arrival.seat.course ≡ Do places.Check }
         ensures outcome { IsCheckingOf self.now cx.new arrival.generation result }
         ensures kept { Keeps cx.old cx.new }
     {
         let (lock, hold) = held.into_parts();
-        // Check
-        match self.check(&hold, arrival) {
-            Checked::Finished(followed) => {
-                // ReleaseLock(Follow)
-                self.inner.release(rt, Held::of(lock, hold));
-                Checking::Over(Outcome::Ready(Verdict::Followed(followed)))
-            }
-            Checked::Unfinished(arrival) => self.wait_again(rt, cx, lock, hold, arrival),
+        let Arrival {
+            mut seat,
+            generation,
+        } = arrival;
+        if self.check(&hold, &mut seat, generation, Place::Check) {
+            let followed = self.follow(rt, lock, hold, seat);
+            return Checking::Over(Outcome::Ready(Verdict::Followed(followed)));
         }
+        self.wait_again(rt, cx, lock, hold, Arrival { seat, generation })
     }
 
-    // JoinAgain, ReleaseLock(Wait), Ask: of an arrival whose generation isn't finished.
+    // ReleaseLock(Follow), of an arrival that has found its generation finished.
+    #[inline]
+    fn follow<R: Wait>(
+        &self,
+        rt: &R,
+        lock: LockSeat<Arrivals>,
+        hold: Hold<Arrivals>,
+        seat: Seat,
+    ) -> Followed
+        requires has { HasLock self.now lock hold }
+        requires seat { IsOf self.now seat × IsIdle seat × (seat.counted ≡ true) × (seat.found ≢ seat.generation) }
+        requires course { seat.course ≡ Do (places.ReleaseLock endings.Follow) }
+        ensures { IsOf self.now result.seat }
+    {
+        let mut seat = seat;
+        let at = Place::ReleaseLock(Ending::Follow);
+        self.release_lock(rt, lock, hold, &mut seat.course, at);
+        Followed::of(seat)
+    }
+
+    // From JoinAgain on, of an arrival whose generation isn't finished.
     #[cold]
     #[inline(never)]
     fn wait_again<R: Wait>(
@@ -379,6 +469,7 @@ impl RawBarrier {
     ) -> Checking
         requires has { HasLock self.now lock hold }
         requires of { IsOfThis self.now arrival }
+        requires course { arrival.seat.course ≡ Do places.JoinAgain }
         ensures outcome { IsCheckingOf self.now cx.new arrival.generation result }
         ensures kept { Keeps cx.old cx.new }
     {
@@ -386,27 +477,22 @@ impl RawBarrier {
             mut seat,
             generation,
         } = arrival;
-        // JoinAgain
-        let joined = match self.join_waking(rt, &mut seat, cx) {
-            Ok(joined) => joined,
-            Err(Memory) => {
-                // ReleaseLock(RefuseMemory), counted
-                self.inner.release(rt, Held::of(lock, hold));
-                return Checking::Over(Outcome::Refused(
-                    Refusal::Memory,
-                    Some(Arrival { seat, generation }),
-                ));
+        match self.join_again(rt, &mut seat, cx, generation) {
+            Rejoined::Waits(joined) => {
+                let at = Place::ReleaseLock(Ending::Wait);
+                self.release_lock(rt, lock, hold, &mut seat.course, at);
+                self.ask_joined(rt, cx, seat, joined, generation)
             }
-        };
-        // While it has the inner lock nobody finishes a generation. The rule doesn't speak of that lock, and so it looks.
-        let finished = self.look_again(&mut seat);
-        if finished != generation {
-            self.leave(rt, &mut seat, joined.id);
-            self.inner.release(rt, Held::of(lock, hold));
-            return Checking::Over(Outcome::Ready(Verdict::Followed(Followed::of(seat))));
+            Rejoined::Finished => {
+                let followed = self.follow(rt, lock, hold, seat);
+                Checking::Over(Outcome::Ready(Verdict::Followed(followed)))
+            }
+            Rejoined::Refused => {
+                let at = Place::ReleaseLock(Ending::RefuseMemory(Purpose::Check));
+                self.release_lock(rt, lock, hold, &mut seat.course, at);
+                let aim = Aim::Check(Arrival { seat, generation });
+                Checking::Over(Outcome::Refused(Refusal::Memory, aim))
+            }
         }
-        // ReleaseLock(Wait), again
-        self.inner.release(rt, Held::of(lock, hold));
-        self.ask_joined(rt, cx, seat, joined, generation)
     }
 }

@@ -5,7 +5,7 @@ ghost use Rattle.barrier_core.specs.Barriers.{entering};
 
 use crate::arrivals::Arrivals;
 use crate::list::Entries;
-use crate::seat::Seat;
+use crate::seat::{Course, Seat};
 use atomic_table::Table;
 use mutex_core::Words;
 use std::alloc::{AllocError, Global};
@@ -86,13 +86,14 @@ impl RawBarrier {
         self.size
     }
 
-    /// Returns a new seat, which has nothing, and how many generations it has found finished: one load.
+    /// Returns a new seat, which has nothing, of a party that is here in its program, and how many generations it has found finished: one
+    /// load.
     #[inline]
-    pub fn sit(&self) -> (Seat, u64)
-        ensures { result.0 ≡ entering self.now result.1 }
+    pub fn sit(&self, course: Course) -> (Seat, u64)
+        ensures { result.0 ≡ entering self.now result.1 course }
     {
         let (finished, inner) = self.table.shared.load_new_seat::<Looks>(WORD);
-        (Seat { inner }, finished)
+        (Seat { inner, course }, finished)
     }
 }
 

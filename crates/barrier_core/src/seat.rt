@@ -1,20 +1,93 @@
-//! What a party steps with.
+//! What a party steps with, and where it is in its program.
 
-ghost use Rattle.std.specs.Prelude.{◌≡◌};
-ghost use Rattle.barrier_core.specs.Barriers.{IsIdle};
+ghost use Rattle.std.specs.Prelude.{◌≡◌, false, []};
+ghost use Rattle.lock_program.specs.declared.end.Next.TheVariants.{Do};
+ghost use Rattle.sync_program.specs.Barrier.{next_of};
+ghost use Rattle.barrier_core.specs.Barriers.{IsIdle, goes, with_begun};
+ghost use Rattle.barrier_core.specs.Courses.{IsOutside, IsStart, IsUndone, outside};
 
 use crate::list::Entries;
 use atomic_table::Seat as TableSeat;
+use lock_program::{End, Next};
 use std::marker::Model;
+use std::snapshot::Snapshot;
+use sync_program::barrier::{BarrierCall, Found, Left, Place, Position, decide};
 use words_barrier::View;
+
+/// Where a party is in its program. It has no bytes, and borrows nothing. A party has it alone until it first looks with the inner lock,
+/// and then with its seat.
+///
+/// Contracts see: the place whose action it does next, or how its last call ended and where that left it. It has no `Drop`: only
+/// [`Course::end`] ends it, outside every call, or [`Course::withdraw`], of a try that has done nothing.
+pub struct Course {
+    next: Snapshot<Next<Place, Left>>,
+}
+
+impl Model for Course {
+    ghost use Rattle.barrier_core.specs.Courses.{Course as Standing, course_coded};
+
+    ghost Value = { Standing };
+
+    ghost coded = { course_coded };
+
+    ghost view = { λ c. c.next.value };
+}
+
+impl Course {
+    /// A party outside every call, with nothing.
+    #[inline(always)]
+    pub fn new() -> Course
+        ensures { result ≡ outside }
+    {
+        Course {
+            next: Snapshot::of(&Next::End(End::GivenBack, Left::Outside(Position::Out))),
+        }
+    }
+
+    /// Begins a call, at this place.
+    #[inline(always)]
+    pub fn begin(&mut self, call: BarrierCall, at: Place)
+        requires { IsStart call at self.old }
+        ensures { self.new ≡ Do at }
+    {
+        let _ = call;
+        self.next = Snapshot::of(&Next::Do(at));
+    }
+
+    // The action of this place was done, and found this.
+    #[inline(always)]
+    pub(crate) fn go(&mut self, at: Place, found: Found)
+        ensures { self.new ≡ next_of at found }
+    {
+        self.next = Snapshot::of(&decide(at, found));
+    }
+
+    /// Ends a party that is outside every call and has nothing.
+    #[inline(always)]
+    pub fn end(self)
+        requires { IsOutside self }
+    {
+        let Self { next: _ } = self;
+    }
+
+    // Ends a try that has done nothing, inside its call. The program has no place for that.
+    #[inline(always)]
+    pub(crate) fn withdraw(self)
+        requires { IsUndone self }
+    {
+        let Self { next: _ } = self;
+    }
+}
 
 /// A party's place at a barrier, with which it steps on the barrier's words. It has no bytes, and borrows nothing.
 ///
 /// Contracts see: the barrier's table, whether the seat has finished a generation and owes all of the list a notification, whether it has an
-/// entry in the list and of which number, whether it has not looked since it joined, and how many generations its last look found
-/// finished. It has no `Drop`: only [`Seat::rise`] ends it, once it stands in no list and owes nothing.
+/// entry in the list and of which number, whether it has not looked since it joined, how many generations its last look found
+/// finished, and where its party is in its program. It has no `Drop`: only [`Seat::rise`] ends it, once it is outside every call, stands
+/// in no list and owes nothing, or [`Seat::into_course`], which keeps the course.
 pub struct Seat {
     pub(crate) inner: TableSeat<Entries, View>,
+    pub(crate) course: Course,
 }
 
 impl Model for Seat {
@@ -27,17 +100,45 @@ impl Model for Seat {
     ghost use Rattle.std.specs.Prelude.{◌≡◌, false, []};
     ghost use Rattle.barrier_core.specs.Barriers.{seated};
 
-    ghost view = { λ s. seated s.inner.table_id s.inner.me.0 };
+    ghost view = { λ s. seated s.inner.table_id s.inner.me.0 s.course };
 
     ghost invariant = { λ s. (s.inner.me.1 ≡ []) × (s.inner.me.0.has_list ≡ false) × (s.inner.me.0.waiting ≡ []) };
 }
 
 impl Seat {
-    /// Ends a seat that has no entry in the list, and owes nothing.
-    pub fn rise(self)
-        requires { IsIdle self }
+    /// Begins a call, at this place.
+    #[inline(always)]
+    pub fn begin(&mut self, call: BarrierCall, at: Place)
+        requires { IsStart call at self.old.course }
+        ensures { self.new ≡ with_begun at self.old }
     {
-        let Self { inner } = self;
+        self.course.begin(call, at);
+    }
+
+    // The action of this place was done, and found this.
+    #[inline(always)]
+    pub(crate) fn go(&mut self, at: Place, found: Found)
+        ensures { self.new ≡ goes at found self.old }
+    {
+        self.course.go(at, found);
+    }
+
+    /// Leaves a seat that has no entry in the list, and owes nothing: its party goes on without one.
+    #[inline(always)]
+    pub fn into_course(self) -> Course
+        requires { IsIdle self }
+        ensures { result ≡ self.course }
+    {
+        let Self { inner, course } = self;
         drop(inner);
+        course
+    }
+
+    /// Ends a seat that is outside every call, has no entry in the list, and owes nothing.
+    pub fn rise(self)
+        requires course { IsOutside self.course }
+        requires idle { IsIdle self }
+    {
+        self.into_course().end();
     }
 }

@@ -4,14 +4,14 @@ ghost use Rattle.std.specs.Prelude.{◌≡◌, ◌≢◌, true};
 ghost use Rattle.barrier_core.specs.Barriers.{IsCountedIn, IsIdle, IsWaiting, HasFollowed, HasLed};
 
 use crate::arrivals::Arrivals;
-use crate::seat::Seat;
+use crate::seat::{Course, Seat};
 use lock_event::EntryId;
 use lock_program::Refusal;
 use lock_queue::Whose;
 use mutex_core::Waiting as WaitingForLock;
 
 /// An arrival that was counted, and stands in no list of the barrier: by its seat, and with the generation that it was counted in. It has no
-/// `Drop`: a poll goes on with it, or [`Arrival::end`] ends it.
+/// `Drop`: a poll goes on with it, or a drop of its wait ends its seat.
 pub struct Arrival {
     pub(crate) seat: Seat,
     pub(crate) generation: u64,
@@ -34,16 +34,7 @@ impl Arrival {
         self.generation
     }
 
-    /// Ends it. The arrival stays counted.
-    pub fn end(self) {
-        let Arrival {
-            seat,
-            generation: _,
-        } = self;
-        seat.rise();
-    }
-
-    /// Takes it apart into its seat and its generation. It is for tests.
+    /// Takes it apart into its seat and its generation.
     pub fn into_parts(self) -> (Seat, u64)
         ensures parts { (result.0 ≡ self.seat) × (result.1 ≡ self.generation) }
         ensures counted { IsIdle result.0 × IsCountedIn result.1 result.0 }
@@ -81,26 +72,12 @@ impl Waiting {
     }
 }
 
-/// What the inner lock is taken for. It has no `Drop`, since an arrival has none.
+/// What the inner lock is taken for, and by whom. It has no `Drop`, since a course and an arrival have none.
 pub enum Aim {
     /// To arrive: the wait isn't counted yet.
-    Arrive,
+    Arrive(Course),
     /// To check whether the generation of this arrival is finished.
     Check(Arrival),
-}
-
-impl Aim {
-    ghost use Rattle.barrier_core.specs.Outcomes.{counted_by};
-
-    // The arrival, if one was counted.
-    pub(crate) fn into_arrival(self) -> Option<Arrival>
-        ensures { result ≡ counted_by self }
-    {
-        match self {
-            Aim::Arrive => None,
-            Aim::Check(arrival) => Some(arrival),
-        }
-    }
 }
 
 /// A wait between two polls. It has no `Drop`: a poll goes on with it, or a cancel ends it.
@@ -145,14 +122,6 @@ impl Followed {
     }
 }
 
-/// What a check has found of an arrival's generation.
-pub enum Checked {
-    /// It is finished.
-    Finished(Followed),
-    /// It isn't.
-    Unfinished(Arrival),
-}
-
 /// How a wait has ended: the arrival's own evidence.
 pub enum Verdict {
     /// It has finished its generation.
@@ -190,7 +159,7 @@ pub enum Outcome {
     /// It waits.
     Pending(Resting),
     /// It gave up, and stands in no list. An arrival that was counted stays so.
-    Refused(Refusal, Option<Arrival>),
+    Refused(Refusal, Aim),
 }
 
 // What a check came to, with the inner lock.

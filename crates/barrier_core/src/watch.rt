@@ -4,6 +4,7 @@ ghost use Rattle.std.specs.Prelude.{◌≡◌};
 
 use crate::list_steps::entry_in;
 use crate::raw::RawBarrier;
+use crate::seat::Course;
 use lock_event::{EntryId, Mark};
 use std::sync::Wait;
 use words_barrier::steps::{ENTRIES, LIST, WORD, give_same};
@@ -22,7 +23,7 @@ impl RawBarrier {
 
     /// Returns the entry at this index of the list, counted from the front, with its mark. It is for tests.
     pub fn entry<R: Wait>(&self, rt: &R, index: usize) -> Option<(EntryId, Mark)> {
-        let (mut seat, _) = self.sit();
+        let (mut seat, _) = self.sit(Course::new());
         let shared = &self.table.shared;
         let found = take_out(shared, rt, &mut seat.inner);
         let (entry, word) = entry_in(shared, &mut seat.inner, index, found);
