@@ -113,8 +113,8 @@ pub struct Followed {
 }
 
 impl Followed {
-    // Shows that this seat has found its generation finished.
-    pub(crate) fn of(seat: Seat) -> Followed
+    /// Shows that this seat has found its generation finished.
+    pub fn of(seat: Seat) -> Followed
         requires { HasFollowed seat }
         ensures { result.seat ≡ seat }
     {
