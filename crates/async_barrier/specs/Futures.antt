@@ -7,6 +7,7 @@ use Rattle.async_driver.specs.declared.turn.Turn.TheVariants.{Pending, Ready, Re
 use Rattle.barrier_core.specs.Barriers.{Barrier as RawBarrier}
 use Rattle.barrier_core.specs.Outcomes.{HasReceipt, IsGivenUp, RestsAt, StaysCounted, counted_in}
 use Rattle.barrier_core.specs.declared.turn.Resting.{Resting}
+use Rattle.barrier_core.specs.declared.turn.Resting.TheVariants as resting
 use Rattle.futures.specs.declared.task.context.Context.{Context}
 use Rattle.lock_program.specs.declared.refusal.Refusal.{Refusal}
 use Rattle.lock_program.specs.declared.refusal.Refusal.TheVariants.{Finished}
@@ -29,6 +30,17 @@ counted_of (Some r) = counted_in r
 -- the barrier's source.
 abbrev pub IsReceipt : RawBarrier → Context → Option Resting → Type 0
 IsReceipt raw cx waiting = IsSomeAnd waiting (λ r. RestsAt raw r × HasReceipt raw cx r)
+
+-- it has an entry in no list: it has nothing at the barrier, or an arrival that was counted
+abbrev pub IsInNoList : Option Resting → Type 0
+IsInNoList None = ⊤
+IsInNoList (Some (resting.Counted arrival)) = ⊤
+IsInNoList (Some r) = ⊥
+
+-- a fact of a refused poll
+abbrev pub OnRefused : Turn BarrierWaitResult → Type 0 → Type 0
+OnRefused (Refused refusal) fact = fact
+OnRefused turn fact = ⊤
 
 -- a fact of a poll after which the future goes on
 abbrev pub OnAgain : Turn BarrierWaitResult → Type 0 → Type 0

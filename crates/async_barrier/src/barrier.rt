@@ -99,7 +99,7 @@ impl<R: Wait + Clock + RandomSource + AllocGlobal> Barrier<R> {
         ensures refused { IfErr result IsGivenUp }
     {
         match self.raw.try_lead(&self.rt) {
-            Ok(Some(led)) => Ok(BarrierWaitResult::new(Verdict::Led(led))),
+            Ok(Some(led)) => Ok(BarrierWaitResult::new(&self.raw, Verdict::Led(led))),
             Ok(None) => self.wait_asleep(),
             Err(refusal) => Err(refusal),
         }

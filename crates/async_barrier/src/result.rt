@@ -4,23 +4,26 @@
 
 ghost use Rattle.std.specs.Prelude.{◌≡◌};
 
-use barrier_core::Verdict;
+use barrier_core::{RawBarrier, Verdict};
 
 /// How a wait at a barrier has ended.
 ///
-/// It is made of the evidence that the arrival has: that it finished its generation, or found it finished.
+/// It is made of the evidence that the arrival has: that it finished its generation at this barrier, or found it finished there.
 #[derive(Debug, Clone, Drop)]
 pub struct BarrierWaitResult {
     is_leader: bool,
 }
 
 impl BarrierWaitResult {
-    ghost use Rattle.barrier_core.specs.Counts.{leads};
+    ghost use Rattle.barrier_core.specs.Counts.{IsFoundAt, leads};
 
-    // It is what the evidence tells.
-    pub(crate) fn new(verdict: Verdict) -> BarrierWaitResult
+    // It is what the evidence tells, which was found at this barrier.
+    #[inline]
+    pub(crate) fn new(raw: &RawBarrier, verdict: Verdict) -> BarrierWaitResult
+        requires { IsFoundAt raw.now verdict }
         ensures { result.is_leader ≡ leads verdict }
     {
+        let _ = raw;
         BarrierWaitResult {
             is_leader: verdict.told(),
         }

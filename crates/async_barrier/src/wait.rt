@@ -3,7 +3,7 @@
 ghost use Rattle.std.specs.Prelude.{◌≡◌, false, None};
 ghost use Rattle.futures.specs.Task.{Covers, Keeps};
 ghost use Rattle.async_driver.specs.Turns.{OnPending};
-ghost use Rattle.async_barrier.specs.Futures.{IsReceipt, IsTurn, OnAgain, counted_of};
+ghost use Rattle.async_barrier.specs.Futures.{IsInNoList, IsReceipt, IsTurn, OnAgain, OnRefused, counted_of};
 ghost use Rattle.barrier_core.specs.Outcomes.{StaysCounted};
 
 use crate::barrier::Barrier;
@@ -29,7 +29,7 @@ pub struct BarrierWait<'a, R: Wait> {
 }
 
 impl<'a, R: Wait> Model for BarrierWait<'a, R> {
-    ghost use Rattle.std.specs.Prelude.{IfSome};
+    ghost use Rattle.std.specs.Prelude.{◌≡◌, IfSome, None, true};
     ghost use Rattle.async_barrier.specs.Futures.{Future, future};
     ghost use Rattle.barrier_core.specs.Outcomes.{RestsAt};
 
@@ -37,7 +37,7 @@ impl<'a, R: Wait> Model for BarrierWait<'a, R> {
 
     ghost view = { λ w. future w.barrier.now w.is_over w.waiting };
 
-    ghost invariant = { λ w. IfSome w.waiting (RestsAt w.barrier.now.raw) };
+    ghost invariant = { λ w. IfSome w.waiting (RestsAt w.barrier.now.raw) × (w.is_over ≡ true → w.waiting ≡ None) };
 }
 
 impl<'a, R: Wait> BarrierWait<'a, R> {
@@ -60,7 +60,7 @@ impl<R: Wait + Clock> BarrierWait<'_, R> {
     /// It is refused as [`Refusal::Memory`] if memory for an entry was refused, as [`Refusal::Starved`] if as many wait starved
     /// for the inner lock as may, and as [`Refusal::Generations`] if the arrival would finish a generation past the limit. Then
     /// the wait may be polled again: an arrival that wasn't counted begins anew, and one that was stays counted. Once it was
-    /// ready it is refused as [`Refusal::Finished`], and nothing changes (`turn`).
+    /// ready it is refused as [`Refusal::Finished`], and nothing changes (`turn`). Refused, it has an entry in no list (`refused`).
     ///
     /// An arrival that was counted stays counted, in the same generation, while the wait isn't ready (`counted`).
     ///
@@ -70,6 +70,7 @@ impl<R: Wait + Clock> BarrierWait<'_, R> {
     pub fn poll(&mut self, cx: &mut Context<'_>) -> Turn<BarrierWaitResult>
         ensures turn { IsTurn self.old.is_over result self.new.is_over }
         ensures barrier { self.new.barrier ≡ self.old.barrier }
+        ensures refused { OnRefused result (IsInNoList self.new.waiting) }
         ensures counted { OnAgain result (StaysCounted (counted_of self.old.waiting) (counted_of self.new.waiting)) }
         ensures receipt { OnPending result (IsReceipt self.old.barrier.raw cx.new self.new.waiting) }
         ensures registered { OnPending result (Covers cx.new (λ s. s ≡ self.old.barrier.raw.inner.source)) }
@@ -86,7 +87,7 @@ impl<R: Wait + Clock> BarrierWait<'_, R> {
         match outcome {
             Outcome::Ready(verdict) => {
                 self.is_over = true;
-                Turn::Ready(BarrierWaitResult::new(verdict))
+                Turn::Ready(BarrierWaitResult::new(&barrier.raw, verdict))
             }
             Outcome::Pending(resting) => {
                 put(&mut self.waiting, resting);
