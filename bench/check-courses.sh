@@ -1,8 +1,9 @@
 #!/bin/sh
-# Looks that only a lock's single actions move the course of a call. By contract each of them asks that the call has come to its place, and
-# moves the course by what it found. That a whole call doesn't move it by itself no contract can say, since both stand in one crate.
+# Looks that whole calls act by a lock's single actions alone. By contract each of these asks that the call has come to its place, and moves
+# the call's course by what it found. That a whole call doesn't move the course by itself, or reach past the actions to the words and lists,
+# no contract can say, since both stand in one crate. (A whole call may take a seat, and make a whole call on the mutex inside its lock.)
 #
-# At first it plants such a move in a copy of a file of whole calls, and fails if it doesn't find it.
+# At first it plants such lines in a copy of each file of whole calls, and fails if it doesn't find them.
 #
 # Run it at the top of the repository: bench/check-courses.sh. It takes a second, and builds nothing.
 set -eu
@@ -22,6 +23,7 @@ CALLS = {
 }
 MADE = ("seat", "course")
 MOVES = re.compile(r"\.go\(")
+PAST = re.compile(r"list_steps|::steps\b|\.table\b|self\.access\.(?!sit\b|sit_and_look\b)|self\.turn\.(?!cancel\b|first_look\b|poll_first\b|poll_later\b)")
 MAKES = re.compile(r"Snapshot::of\(|\bSnapshot\s*\{")
 
 
@@ -34,6 +36,8 @@ def found(path, text):
     crate, name = path.split("/")[1], path.split("/")[-1][:-3]
     if name in CALLS[crate] and MOVES.search(text):
         yield f"{path}: a whole call moves its course by itself"
+    if name in CALLS[crate] and PAST.search(text):
+        yield f"{path}: a whole call reaches past the single actions"
     if name not in MADE and MAKES.search(text):
         yield f"{path}: a course is made outside {' and '.join(it + '.rt' for it in MADE)}"
 
@@ -43,9 +47,9 @@ faults = [it for path in paths for it in found(path, code(path))]
 for crate, names in CALLS.items():
     for name in names:
         path = f"crates/{crate}/src/{name}.rt"
-        for planted in ("seat.go(at, Found::Done);", "Snapshot::of(&next);"):
+        for planted in ("seat.go(at, Found::Done);", "Snapshot::of(&next);", "self.access.off(&mut seat);", "self.table.shared.peek(WORD);"):
             if not list(found(path, code(path) + planted)):
                 faults.append(f"{path}: a planted line is not found: {planted}")
-print("\n".join(faults) or f"the calls of {len(CALLS)} locks move by their actions alone")
+print("\n".join(faults) or f"the calls of {len(CALLS)} locks act by their single actions alone")
 sys.exit(bool(faults))
 PYTHON
