@@ -26,7 +26,7 @@ pub use async_barrier::{Barrier, BarrierWaitResult};
 pub use async_mutex::{
     Mutex, MutexGuard, MutexGuardArc, Polled, Refusal, Runtime, Settled, Turn, wait_for,
 };
-pub use async_once_cell::{Fills, InitFault, OnceCell, SetFault};
+pub use async_once_cell::{Fills, InitFault, Makes, OnceCell, SetFault};
 pub use async_rwlock::{
     RwLock, RwLockReadGuard, RwLockReadGuardArc, RwLockUpgradableReadGuard,
     RwLockUpgradableReadGuardArc, RwLockWriteGuard, RwLockWriteGuardArc,
