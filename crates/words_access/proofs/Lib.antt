@@ -4,3 +4,4 @@ pub mod Keeps
 pub mod Allowed
 pub mod Wakeups
 pub mod Holding
+pub mod Beside

@@ -83,3 +83,7 @@ paid_readers_of v = record v { owes_readers = false; has_lists = false; readers 
 
 abbrev pub paid_writer_of : View → View
 paid_writer_of v = record v { owes_writer = false; has_lists = false; readers = nobody; writer = nobody }
+
+-- What a seat that writes and one that reads would be as one: a seat that writes, and has not set the writer's bit.
+abbrev pub both_of : View → View → View
+both_of v w = record v { marks = false; writes = true }

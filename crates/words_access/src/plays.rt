@@ -2,7 +2,7 @@
 
 use crate::rule::Content;
 use crate::view::View;
-use atomic_table::Play;
+use atomic_table::{Join, Play};
 
 /// Nothing changes for the seat.
 pub struct Keep;
@@ -213,4 +213,23 @@ impl<S> Play<S, View> for Stays {
     ghost use Rattle.words_access.specs.Seats.{back};
 
     ghost then = { λ _ m _ m'. m' ≡ (back m.0, rest m.1) };
+}
+
+// A seat that writes and one that reads, which the rule shuts out, as one.
+pub(crate) struct WriterAndReader;
+
+impl Join<View> for WriterAndReader {
+    ghost use Rattle.words_access.specs.Rule.{first_view};
+    ghost use Rattle.words_access.specs.Seats.{both_of};
+
+    ghost both = { both_of };
+
+    ghost spent = { first_view };
+}
+
+// A step that no seat makes.
+pub(crate) struct NoStep;
+
+impl<S> Play<S, View> for NoStep {
+    ghost then = { λ _ _ _ _. ⊥ };
 }
