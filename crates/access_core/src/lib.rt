@@ -5,6 +5,7 @@
 #![tactic(auto)]
 
 mod access;
+mod alone;
 mod calls;
 mod found;
 mod list_steps;
