@@ -65,6 +65,23 @@ impl<T, R: Releases, O: Owns<Value = T, Runtime = R>> ReadGuard<T, R, O> {
             Stage::Unowned | Stage::Finished => unreachable!(),
         }
     }
+
+    // Who has the lock, and the party with its right. Nothing is lent any more.
+    #[inline]
+    pub(crate) fn into_party(self) -> (O, Reader)
+        ensures owner { O.lock_of result.0 ≡ self.lock }
+        ensures party { IsReaderOf self.lock.raw result.1 }
+        ensures same { result.1.seat ≡ self.seat }
+    {
+        let Self {
+            owner,
+            glance,
+            pledge,
+            runtime: _,
+        } = self;
+        let seat = owner.lock().end_read(glance, pledge);
+        (owner, Reader { seat })
+    }
 }
 
 impl<T, R: Releases, O: Owns<Value = T, Runtime = R>> Deref for ReadGuard<T, R, O> {
@@ -79,14 +96,9 @@ impl<T, R: Releases, O: Owns<Value = T, Runtime = R>> Deref for ReadGuard<T, R, 
 
 impl<T, R: Releases, O: Owns<Value = T, Runtime = R>> Drop for ReadGuard<T, R, O> {
     fn drop(self) {
-        let Self {
-            owner,
-            glance,
-            pledge,
-            runtime: _,
-        } = self;
+        let (owner, reader) = self.into_party();
+        let Reader { seat } = reader;
         let lock = owner.lock();
-        let seat = lock.end_read(glance, pledge);
         lock.rt.release_read(&lock.raw, seat);
         drop(owner);
     }

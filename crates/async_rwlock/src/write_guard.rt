@@ -165,6 +165,25 @@ impl<T, R: Releases, O: Owns<Value = T, Runtime = R>> WriteGuard<T, R, O> {
             .never_two(writer.turn, upgradable.turn);
         unreachable!()
     }
+
+    /// A writer beside a reader is absurd, as two writers are.
+    ///
+    /// ```
+    /// RwLockWriteGuard::never_beside(writer, reader);
+    /// ```
+    pub fn never_beside<P: Owns<Value = T, Runtime = R>>(guard: Self, reader: ReadGuard<T, R, P>)
+        requires { guard.lock ≡ reader.lock }
+        ensures { ⊥ }
+    {
+        let (owner, writer) = guard.into_party();
+        let (_others, beside) = reader.into_party();
+        owner
+            .lock()
+            .raw
+            .access
+            .never_beside(writer.seat, beside.seat);
+        unreachable!()
+    }
 }
 
 impl<T, R: Releases, O: Owns<Value = T, Runtime = R>> Deref for WriteGuard<T, R, O> {
