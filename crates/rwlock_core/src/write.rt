@@ -338,13 +338,21 @@ impl RawRwLock {
         ensures same { result.seat ≡ upgradable.seat }
     {
         let Upgradable { seat, turn } = upgradable;
+        self.downgrade_turn(rt, turn);
+        Reader { seat }
+    }
+
+    /// Does as [`RawRwLock::downgrade_upgradable`] does, by the turn alone: the seat takes no step, so it may be in pledge meanwhile.
+    #[inline]
+    pub fn downgrade_turn<R: Wait>(&self, rt: &R, turn: Turn)
+        requires { IsHeldOf self.now.turn turn }
+    {
         let at = Place::ReleaseTurn {
             ending: Ending::Reading,
         };
         let mut course = Course::begin(RwLockCall::Downgrade, Place::Upgradable, at);
         self.release_turn(rt, turn, &mut course, Ending::Reading);
         course.end(End::GivenBack, Place::Reading);
-        Reader { seat }
     }
 
     /// Reads in place of writing, by one step of the same seat, and keeps the turn. It notifies the first that waits to read.
