@@ -168,3 +168,14 @@ pub fn is_written_beside<R: Releases>(lock: &RwLock<u64, R>) -> bool
     RwLockWriteGuard::never_beside_upgradable(writer, upgradable);
     true
 }
+
+/// Whether one writes beside one that reads: never.
+pub fn is_written_beside_a_reader<R: Releases>(lock: &RwLock<u64, R>) -> bool
+    ensures { result ≡ false }
+{
+    let (Some(writer), Some(reader)) = (lock.try_write(), lock.try_read()) else {
+        return false;
+    };
+    RwLockWriteGuard::never_beside(writer, reader);
+    true
+}
