@@ -18,11 +18,11 @@ use std::ops::Deref;
 /// Its type keeps that its seat reads, and that the value is lent against that. Contracts see the lock, the value, and the seat with what it
 /// knows of itself.
 pub struct ReadGuard<T, R: Releases, O: Owns<Value = T, Runtime = R>> {
-    owner: O,
-    glance: Glance<T>,
+    pub(crate) owner: O,
+    pub(crate) glance: Glance<T>,
     // The seat, while what it says is lent.
-    pledge: Pledge,
-    runtime: PhantomData<R>,
+    pub(crate) pledge: Pledge,
+    pub(crate) runtime: PhantomData<R>,
 }
 
 impl<T, R: Releases, O: Owns<Value = T, Runtime = R>> Model for ReadGuard<T, R, O> {

@@ -2,10 +2,11 @@
 
 ghost use Rattle.std.specs.Prelude.{◌≡◌, ◌≤◌, ◌%◌, ◌/◌, ◌⊎◌, MatchResult};
 ghost use Rattle.access_core.specs.Accesses.{IsOf, IsIdle, IsReading, with_downgrade};
+ghost use Rattle.mutex_core.specs.Outcomes.{IsHeldOf};
 ghost use Rattle.rwlock_core.specs.Parties.{IsReaderOf, IsUpgradableOf, IsWriterOf};
 ghost use Rattle.rwlock_core.specs.Vain.{IsVainUpgradable, IsVainWrite};
 
-use rwlock_core::{InVain, RawRwLock, Reader, Seat, Upgradable, Writer};
+use rwlock_core::{InVain, RawRwLock, Reader, Seat, Turn, Upgradable, Writer};
 use std::sync::Wait;
 
 /// A runtime by which rights are tried for, changed and given back. Whatever may wait is one.
@@ -37,11 +38,9 @@ pub trait Releases {
     fn release_write(&self, lock: &RawRwLock, writer: Writer)
         requires { IsWriterOf lock.now writer };
 
-    /// Reads on without the right to upgrade, by the same seat.
-    fn downgrade_upgradable(&self, lock: &RawRwLock, upgradable: Upgradable) -> Reader
-        requires { IsUpgradableOf lock.now upgradable }
-        ensures of { IsReaderOf lock.now result }
-        ensures same { result.seat ≡ upgradable.seat };
+    /// Gives back the turn of who may upgrade: its seat, in pledge meanwhile, reads on without the right to.
+    fn downgrade_turn(&self, lock: &RawRwLock, turn: Turn)
+        requires { IsHeldOf lock.now.turn turn };
 
     /// Reads in place of writing, by one step of the same seat.
     fn downgrade_write(&self, lock: &RawRwLock, writer: Writer) -> Reader
@@ -88,8 +87,8 @@ impl<R: Wait> Releases for R {
     }
 
     #[inline(always)]
-    fn downgrade_upgradable(&self, lock: &RawRwLock, upgradable: Upgradable) -> Reader {
-        lock.downgrade_upgradable(self, upgradable)
+    fn downgrade_turn(&self, lock: &RawRwLock, turn: Turn) {
+        lock.downgrade_turn(self, turn);
     }
 
     #[inline(always)]

@@ -101,7 +101,7 @@ impl<T, R: Releases, O: Owns<Value = T, Runtime = R>> UpgradableGuard<T, R, O> {
     }
 
     /// Reads on without the right to upgrade: upgradable readers and writers that wait may go on. It is the same seat, and what it knows of
-    /// itself stays (`same`).
+    /// itself stays (`same`). The value is lent throughout, and stays (`value`).
     ///
     /// ```
     /// let reader = RwLockUpgradableReadGuard::downgrade(upgradable);
@@ -109,11 +109,23 @@ impl<T, R: Releases, O: Owns<Value = T, Runtime = R>> UpgradableGuard<T, R, O> {
     pub fn downgrade(guard: Self) -> ReadGuard<T, R, O>
         ensures lock { result.lock ≡ guard.lock }
         ensures same { result.seat ≡ guard.seat }
+        ensures value { result.value ≡ guard.value }
     {
-        let (owner, upgradable) = guard.into_party();
+        let Self {
+            owner,
+            glance,
+            pledge,
+            turn,
+            runtime,
+        } = guard;
         let lock = owner.lock();
-        let reader = lock.rt.downgrade_upgradable(&lock.raw, upgradable);
-        ReadGuard::new(owner, reader)
+        lock.rt.downgrade_turn(&lock.raw, turn);
+        ReadGuard {
+            owner,
+            glance,
+            pledge,
+            runtime,
+        }
     }
 
     /// Writes, if nobody else reads. Otherwise the guard comes back: by the contract its seat has found another reader (`beside`).
