@@ -67,7 +67,6 @@ impl<T, R: Releases, O: Owns<Value = T, Runtime = R>> ReadGuard<T, R, O> {
     }
 
     // Who has the lock, and the party with its right. Nothing is lent any more.
-    #[inline]
     pub(crate) fn into_party(self) -> (O, Reader)
         ensures owner { O.lock_of result.0 ≡ self.lock }
         ensures party { IsReaderOf self.lock.raw result.1 }
@@ -96,9 +95,14 @@ impl<T, R: Releases, O: Owns<Value = T, Runtime = R>> Deref for ReadGuard<T, R, 
 
 impl<T, R: Releases, O: Owns<Value = T, Runtime = R>> Drop for ReadGuard<T, R, O> {
     fn drop(self) {
-        let (owner, reader) = self.into_party();
-        let Reader { seat } = reader;
+        let Self {
+            owner,
+            glance,
+            pledge,
+            runtime: _,
+        } = self;
         let lock = owner.lock();
+        let seat = lock.end_read(glance, pledge);
         lock.rt.release_read(&lock.raw, seat);
         drop(owner);
     }
