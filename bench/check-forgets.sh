@@ -29,9 +29,8 @@ GIVE_BACK = {
 
 # The memory of a lock's values goes to a pointer that its owner alone has, and comes back by `from_raw_parts`.
 ALLOWED = {("crates/lock_place/src/strip.rt", "let parts = unsafe { row.into_raw_parts() };")}
-# A read-write lock and a value's place are dropped by `into_inner`, which takes them apart, and its guards by `into_party`.
+# A read-write lock and a value's place are dropped by `into_inner`, which takes them apart, and two of its guards by `into_party`.
 BY_ANOTHER = {(path, "drop(self.into_inner());") for path in ("crates/async_rwlock/src/rwlock.rt", "crates/lock_place/src/owned.rt")} | {
-    ("crates/async_rwlock/src/read_guard.rt", "let (owner, reader) = self.into_party();"),
     ("crates/async_rwlock/src/upgradable_guard.rt", "let (owner, upgradable) = self.into_party();"),
     ("crates/async_rwlock/src/write_guard.rt", "let (owner, writer) = self.into_party();"),
 }
