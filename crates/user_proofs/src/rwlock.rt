@@ -30,6 +30,15 @@ fn upgradable_reads_agree<R: Wait>(guard: &RwLockUpgradableReadGuard<'_, u64, R>
     **guard == **guard
 }
 
+/// As [`reads_agree`], where the right to upgrade is given up in between.
+fn downgraded_reads_agree<R: Wait>(guard: RwLockUpgradableReadGuard<'_, u64, R>) -> bool
+    ensures { result ≡ true }
+{
+    let before = *guard;
+    let reader = RwLockUpgradableReadGuard::downgrade(guard);
+    before == *reader
+}
+
 /// As [`reads_agree`], by the writer.
 fn writers_reads_agree<R: Wait>(guard: &RwLockWriteGuard<'_, u64, R>) -> bool
     ensures { result ≡ true }
@@ -106,9 +115,9 @@ where
     let upgradable = first_to_read_upgradably(first, second)?;
     let readers_agree = reads_agree(&reader) && upgradable_reads_agree(&upgradable);
     drop(reader);
-    drop(upgradable);
+    let downgraded_agree = downgraded_reads_agree(upgradable);
     let writer = first_to_write(first, second)?;
-    Ok(readers_agree && writers_reads_agree(&writer))
+    Ok(readers_agree && downgraded_agree && writers_reads_agree(&writer))
 }
 
 fn owned<R>(rt: R, number: u64) -> Result<Arc<RwLock<u64, R>>, Refusal>
