@@ -21,10 +21,10 @@ CALLS = {
     "barrier_core": ["polls"],
     "rwlock_core": ["awaiting", "read", "upgrade", "write"],
 }
-MADE = ("seat", "course")
+MADE = ("seat", "course", "standing")
 MOVES = re.compile(r"\.go\(")
 PAST = re.compile(r"list_steps|::steps\b|\.table\b|self\.access\.(?!sit\b|sit_and_look\b)|self\.turn\.(?!cancel\b|first_look\b|poll_first\b|poll_later\b)")
-MAKES = re.compile(r"Snapshot::of\(|\bSnapshot\s*\{")
+MAKES = re.compile(r"\b(Course|Standing|Snapshot)(::of\(|\s*\{)")
 
 
 def code(path):
@@ -47,7 +47,7 @@ faults = [it for path in paths for it in found(path, code(path))]
 for crate, names in CALLS.items():
     for name in names:
         path = f"crates/{crate}/src/{name}.rt"
-        for planted in ("seat.go(at, Found::Done);", "Snapshot::of(&next);", "self.access.off(&mut seat);", "self.table.shared.peek(WORD);"):
+        for planted in ("seat.go(at, Found::Done);", "Course::of(&next);", "self.access.off(&mut seat);", "self.table.shared.peek(WORD);"):
             if not list(found(path, code(path) + planted)):
                 faults.append(f"{path}: a planted line is not found: {planted}")
 print("\n".join(faults) or f"the calls of {len(CALLS)} locks act by their single actions alone")

@@ -15,6 +15,7 @@ mod locking;
 mod polls;
 mod raw;
 mod seat;
+mod standing;
 mod turn;
 mod watch;
 

@@ -7,10 +7,10 @@ ghost use Rattle.barrier_core.specs.Barriers.{IsIdle, goes, with_begun};
 ghost use Rattle.barrier_core.specs.Courses.{IsOutside, IsStart, IsUndone, outside};
 
 use crate::list::Entries;
+use crate::standing::Standing;
 use atomic_table::Seat as TableSeat;
 use lock_program::{End, Next};
 use std::marker::Model;
-use std::snapshot::Snapshot;
 use sync_program::barrier::{BarrierCall, Found, Left, Place, Position, decide};
 use words_barrier::View;
 
@@ -20,17 +20,17 @@ use words_barrier::View;
 /// Contracts see: the place whose action it does next, or how its last call ended and where that left it. It has no `Drop`: only
 /// [`Course::end`] ends it, outside every call, or [`Course::withdraw`], of a try that has done nothing.
 pub struct Course {
-    next: Snapshot<Next<Place, Left>>,
+    next: Standing,
 }
 
 impl Model for Course {
-    ghost use Rattle.barrier_core.specs.Courses.{Course as Standing, course_coded};
+    ghost use Rattle.barrier_core.specs.Courses.{Course as InTable, course_coded};
 
-    ghost Value = { Standing };
+    ghost Value = { InTable };
 
     ghost coded = { course_coded };
 
-    ghost view = { λ c. c.next.value };
+    ghost view = { λ c. c.next.next };
 }
 
 impl Course {
@@ -40,7 +40,7 @@ impl Course {
         ensures { result ≡ outside }
     {
         Course {
-            next: Snapshot::of(&Next::End(End::GivenBack, Left::Outside(Position::Out))),
+            next: Standing::of(&Next::End(End::GivenBack, Left::Outside(Position::Out))),
         }
     }
 
@@ -51,7 +51,7 @@ impl Course {
         ensures { self.new ≡ Do at }
     {
         let _ = call;
-        self.next = Snapshot::of(&Next::Do(at));
+        self.next = Standing::of(&Next::Do(at));
     }
 
     // The action of this place was done, and found this.
@@ -59,7 +59,7 @@ impl Course {
     pub(crate) fn go(&mut self, at: Place, found: Found)
         ensures { self.new ≡ next_of at found }
     {
-        self.next = Snapshot::of(&decide(at, found));
+        self.next = Standing::of(&decide(at, found));
     }
 
     /// Ends a party that is outside every call and has nothing.

@@ -3,6 +3,7 @@
 
 mod calls;
 mod cell;
+mod course;
 mod list_steps;
 mod lists;
 mod maker;

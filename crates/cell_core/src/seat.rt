@@ -6,11 +6,11 @@ ghost use Rattle.sync_program.specs.OnceCell.{action_of};
 ghost use Rattle.cell_core.specs.Cells.{IsIdle, goes, seated, with_begun};
 ghost use Rattle.cell_core.specs.Courses.{IsOutside, IsStart, NeedsRight, outside};
 
+use crate::course::Course;
 use crate::lists::Lists;
 use atomic_table::Seat as TableSeat;
 use lock_program::{End, Next};
 use std::marker::Model;
-use std::snapshot::Snapshot;
 use sync_program::once_cell::{CellCall, Found, Left, Place, Position, decide};
 use words_cell::View;
 
@@ -23,7 +23,7 @@ use words_cell::View;
 pub struct Seat {
     pub(crate) inner: TableSeat<Lists, View>,
     // Where it is in its program: no bytes.
-    pub(crate) course: Snapshot<Next<Place<()>, Left<()>>>,
+    pub(crate) course: Course,
 }
 
 impl Model for Seat {
@@ -36,7 +36,7 @@ impl Model for Seat {
     ghost use Rattle.std.specs.Prelude.{◌≡◌, false, []};
     ghost use Rattle.cell_core.specs.Cells.{seated};
 
-    ghost view = { λ s. seated s.inner.table_id s.inner.me.0 s.course.value };
+    ghost view = { λ s. seated s.inner.table_id s.inner.me.0 s.course.next };
 
     ghost invariant = { λ s. (s.inner.me.1 ≡ []) × (s.inner.me.0.has_lists ≡ false) };
 }
@@ -50,7 +50,7 @@ impl Seat {
     {
         Seat {
             inner,
-            course: Snapshot::of(&Next::End(End::GivenBack, Left::Outside(Position::Out))),
+            course: Course::of(&Next::End(End::GivenBack, Left::Outside(Position::Out))),
         }
     }
 
@@ -61,7 +61,7 @@ impl Seat {
         ensures { self.new ≡ with_begun at self.old }
     {
         let _ = call;
-        self.course = Snapshot::of(&Next::Do(at));
+        self.course = Course::of(&Next::Do(at));
     }
 
     // The action of this place was done, and found this.
@@ -69,7 +69,7 @@ impl Seat {
     pub(crate) fn go(&mut self, at: Place<()>, found: Found<()>)
         ensures { self.new ≡ goes at found self.old }
     {
-        self.course = Snapshot::of(&decide(at, found));
+        self.course = Course::of(&decide(at, found));
     }
 
     /// Ends a seat that is outside every call, makes nothing, has no entry in a list, and owes nothing.

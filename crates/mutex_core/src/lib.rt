@@ -8,6 +8,7 @@
 mod alone;
 mod calls;
 mod cell;
+mod course;
 mod left;
 mod list_steps;
 mod mutex;

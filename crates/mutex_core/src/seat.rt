@@ -5,11 +5,11 @@ ghost use Rattle.mutex_core.specs.Courses.{IsOutside, IsStart, outside};
 ghost use Rattle.mutex_core.specs.Locks.{HasSlots, goes, seated, with_begun};
 
 use crate::cell::Cell;
+use crate::course::Course;
 use atomic_table::Seat as TableSeat;
 use lock_program::mutex::{Found, LockCall, Place, decide};
 use lock_program::{End, Next};
 use std::marker::Model;
-use std::snapshot::Snapshot;
 use words_mutex::View;
 
 /// A party's place at a lock, with which it steps on the lock's words. It has no bytes, and borrows nothing.
@@ -19,8 +19,8 @@ use words_mutex::View;
 /// back what it has, and owes nothing.
 pub struct Seat<T> {
     pub(crate) inner: TableSeat<Cell<T>, View>,
-    // Where it is in its program: no bytes.
-    pub(crate) course: Snapshot<Next<Place, Place>>,
+    // Where it is in its program.
+    pub(crate) course: Course,
 }
 
 impl<T> Model for Seat<T> {
@@ -33,7 +33,7 @@ impl<T> Model for Seat<T> {
     ghost use Rattle.std.specs.Prelude.{◌≡◌, false};
     ghost use Rattle.mutex_core.specs.Locks.{seated, HasSlots};
 
-    ghost view = { λ s. seated s.inner.table_id s.inner.me.0 s.course.value };
+    ghost view = { λ s. seated s.inner.table_id s.inner.me.0 s.course.next };
 
     ghost invariant = { λ s. HasSlots s.inner.me.0.holds s.inner.me.1 × (s.inner.me.0.has_list ≡ false) × (s.inner.me.0.len ≡ 0) × (s.inner.me.0.marked ≡ 0) };
 }
@@ -47,7 +47,7 @@ impl<T> Seat<T> {
     {
         Seat {
             inner,
-            course: Snapshot::of(&Next::End(End::GivenBack, Place::Out)),
+            course: Course::of(&Next::End(End::GivenBack, Place::Out)),
         }
     }
 
@@ -58,7 +58,7 @@ impl<T> Seat<T> {
         ensures { self.new ≡ with_begun at self.old }
     {
         let _ = call;
-        self.course = Snapshot::of(&Next::Do(at));
+        self.course = Course::of(&Next::Do(at));
     }
 
     // The action of this place was done, and found this.
@@ -66,7 +66,7 @@ impl<T> Seat<T> {
     pub(crate) fn go(&mut self, at: Place, found: Found)
         ensures { self.new ≡ goes at found self.old }
     {
-        self.course = Snapshot::of(&decide(at, found));
+        self.course = Course::of(&decide(at, found));
     }
 
     /// Ends a seat that is outside every call, has nothing to give back, no entry in the list, and owes nothing.

@@ -8,6 +8,7 @@
 
 mod actions;
 mod calls;
+mod course;
 mod list;
 mod list_steps;
 mod polls;

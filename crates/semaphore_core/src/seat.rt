@@ -4,11 +4,11 @@ ghost use Rattle.std.specs.Prelude.{◌≡◌, false, []};
 ghost use Rattle.semaphore_core.specs.Courses.{IsOutside, IsStart, outside};
 ghost use Rattle.semaphore_core.specs.Semaphores.{goes, seated, with_begun};
 
+use crate::course::Course;
 use crate::queue::Queue;
 use atomic_table::Seat as TableSeat;
 use lock_program::{End, Next};
 use std::marker::Model;
-use std::snapshot::Snapshot;
 use sync_program::permits::{Found, Place, Position, SemaphoreCall, decide};
 use words_permits::View;
 
@@ -21,7 +21,7 @@ use words_permits::View;
 pub struct Seat {
     pub(crate) inner: TableSeat<Queue, View>,
     // Where it is in its program: no bytes.
-    course: Snapshot<Next<Place, Position>>,
+    course: Course,
 }
 
 impl Model for Seat {
@@ -34,7 +34,7 @@ impl Model for Seat {
     ghost use Rattle.std.specs.Prelude.{◌≡◌, false, []};
     ghost use Rattle.semaphore_core.specs.Semaphores.{seated};
 
-    ghost view = { λ s. seated s.inner.table_id s.inner.me.0 s.course.value };
+    ghost view = { λ s. seated s.inner.table_id s.inner.me.0 s.course.next };
 
     ghost invariant = { λ s. (s.inner.me.1 ≡ []) × (s.inner.me.0.has_list ≡ false) × (s.inner.me.0.waiters ≡ []) × (s.inner.me.0.marked ≡ 0) };
 }
@@ -48,7 +48,7 @@ impl Seat {
     {
         Seat {
             inner,
-            course: Snapshot::of(&Next::End(End::GivenBack, Position::Out)),
+            course: Course::of(&Next::End(End::GivenBack, Position::Out)),
         }
     }
 
@@ -59,7 +59,7 @@ impl Seat {
         ensures { self.new ≡ with_begun at self.old }
     {
         let _ = call;
-        self.course = Snapshot::of(&Next::Do(at));
+        self.course = Course::of(&Next::Do(at));
     }
 
     // The action of this place was done, and found this.
@@ -67,7 +67,7 @@ impl Seat {
     pub(crate) fn go(&mut self, at: Place, found: Found)
         ensures { self.new ≡ goes at found self.old }
     {
-        self.course = Snapshot::of(&decide(at, found));
+        self.course = Course::of(&decide(at, found));
     }
 
     /// Ends a seat that is outside every call, has no permits and nothing under way, no entry in the list, and owes nothing.
@@ -99,7 +99,7 @@ impl Seat {
 /// Contracts see what a seat's see: so what it has added and forgotten in all.
 pub struct Ended {
     inner: TableSeat<Queue, View>,
-    course: Snapshot<Next<Place, Position>>,
+    course: Course,
 }
 
 impl Model for Ended {
@@ -113,9 +113,9 @@ impl Model for Ended {
     ghost use Rattle.semaphore_core.specs.Courses.{IsOutside};
     ghost use Rattle.semaphore_core.specs.Semaphores.{seated};
 
-    ghost view = { λ e. seated e.inner.table_id e.inner.me.0 e.course.value };
+    ghost view = { λ e. seated e.inner.table_id e.inner.me.0 e.course.next };
 
-    ghost invariant = { λ e. IsOutside e.course.value × (e.inner.me.0.permits ≡ 0) × (e.inner.me.0.under_way ≡ 0) × (e.inner.me.0.listed ≡ false) × (e.inner.me.0.owes ≡ false) };
+    ghost invariant = { λ e. IsOutside e.course.next × (e.inner.me.0.permits ≡ 0) × (e.inner.me.0.under_way ≡ 0) × (e.inner.me.0.listed ≡ false) × (e.inner.me.0.owes ≡ false) };
 }
 
 impl Drop for Ended {
