@@ -1,6 +1,6 @@
 -- Which entries of a list wait, and what the calls on it do to them.
 use Rattle.words_base.specs.Waiting.{NoneWaits, Fewer, JoinedBy, LeftBy, StaysTold, last_of}
-use Rattle.std.specs.Prelude.{◌≡◌, ℕ, ◌<◌, ◌≤◌, ◌⊎◌, Bool, true, false, List, [], ◌∷◌}
+use Rattle.std.specs.Prelude.{◌≡◌, ℕ, ◌<◌, ◌≤◌, ◌⊎◌, Bool, true, false, List, [], ◌∷◌, ◌++◌}
 use Rattle.lock_event.specs.declared.event.Entry.{Entry}
 use Rattle.lock_event.specs.declared.event.Slot.{Slot}
 use Rattle.lock_event.specs.Lists.{is_marked, marked_count}
@@ -17,14 +17,20 @@ module _ {W : Type 0} where
   waiting_in [] = []
   waiting_in (e ∷ es) = unless_marked (is_marked e.mark) e.key.id.number (waiting_in es)
 
+  -- The numbers of all entries, notified or not, in their order.
+  abbrev pub numbers_in : List (Entry (Slot W)) → List ℕ
+  numbers_in [] = []
+  numbers_in (e ∷ es) = e.key.id.number ∷ numbers_in es
+
   -- Nobody waits that didn't before, and one entry has left at most.
   pub record HasFewer (old new : List (Entry (Slot W))) : Type 0 where
     pub fewer : Fewer (waiting_in old) (waiting_in new)
     pub size : IsOneLess old new
 
-  -- Nobody waits that didn't before, and if one was notified, one is, or nobody waits; and there are as many.
+  -- Nobody waits that didn't before, and if one was notified, one is, or nobody waits; and the same entries stand in it.
   pub record IsKept (old new : List (Entry (Slot W))) : Type 0 where
     pub fewer : Fewer (waiting_in old) (waiting_in new)
+    pub stand : numbers_in new ≡ numbers_in old
     pub told : StaysTold (marked_count old) (waiting_in new) (marked_count new)
     pub size : IsSameSize old new
 
@@ -32,26 +38,31 @@ module _ {W : Type 0} where
   pub record HasJoined (old new : List (Entry (Slot W))) (n : ℕ) : Type 0 where
     pub joined : JoinedBy n (waiting_in old) (waiting_in new)
     pub last : last_of (waiting_in new) ≡ n
+    pub stand : numbers_in new ≡ numbers_in old ++ n ∷ []
     pub marked : marked_count old ≤ marked_count new
     pub size : IsOneMore old new
 
-  -- One is notified, unless nobody waits.
+  -- One is notified, unless nobody waits; and the same entries stand in it.
   pub record IsTold (old new : List (Entry (Slot W))) : Type 0 where
     pub fewer : Fewer (waiting_in old) (waiting_in new)
+    pub stand : numbers_in new ≡ numbers_in old
     pub told : (0 < marked_count new) ⊎ NoneWaits (waiting_in new)
     pub size : IsOneNotified old new
 
-  -- All are notified.
-  pub record AreTold (new : List (Entry (Slot W))) : Type 0 where
+  -- All are notified; and the same entries stand in it.
+  pub record AreTold (old new : List (Entry (Slot W))) : Type 0 where
     pub none_waits : NoneWaits (waiting_in new)
+    pub stand : numbers_in new ≡ numbers_in old
 
-  -- No entry of this number waits any more, and nobody that didn't before.
+  -- No entry of this number is there any more, and none that wasn't before.
   pub record IsGone (old new : List (Entry (Slot W))) (n : ℕ) : Type 0 where
     pub left : LeftBy n (waiting_in old) (waiting_in new)
+    pub stand : LeftBy n (numbers_in old) (numbers_in new)
 
-  -- No entry of this number waits any more, and if one was notified, one is, or nobody waits.
+  -- The same; and if one was notified, one is, or nobody waits.
   pub record HasLeft (old new : List (Entry (Slot W))) (n : ℕ) : Type 0 where
     pub fewer : Fewer (waiting_in old) (waiting_in new)
     pub told : StaysTold (marked_count old) (waiting_in new) (marked_count new)
     pub left : LeftBy n (waiting_in old) (waiting_in new)
+    pub stand : LeftBy n (numbers_in old) (numbers_in new)
     pub size : IsOneGone old new

@@ -14,7 +14,7 @@ use Rattle.words_access.specs.Seats.{having_found, saw_writer_of, saw_readers_of
 use Rattle.words_access.specs.Steps.{Kept, Looked, LookedLeft, Entered, Upgraded, Won, Marked, Left, Peeked, Grabbed, CanJoinReaders, CanJoinWriter, CanHearReader, CanHearWriter, CanLeaveReaders, CanLeaveWriter, CanPayReaders, CanPayWriter, CanStay}
 use Rattle.words_access.specs.declared.view.View.{View}
 use Rattle.words_access.proofs.Flags.{never, SetsLow, or_odd, or_even}
-use Rattle.words_access.proofs.Views.{some-longer}
+use Rattle.words_base.proofs.Views.{some-longer}
 use Rattle.words_access.proofs.Keeps.{finds, sees_writer, sees_readers, bit_of, enters, is_inside, leaves_last, leaves, writes_free, writes_alone, writes_last, marks, upgrades, downs, unmarks, busy, eases, grabbed, joins_readers, joins_writer, hears_reader, hears_writer, leaves_readers, leaves_writer, pays_readers, pays_writer, remains}
 
 module _ (S : Type 0) (readers_of writer_of : S → Listed) where

@@ -14,7 +14,7 @@ use Rattle.words_access.specs.Seats.{having_found, saw_writer_of, saw_readers_of
 use Rattle.words_access.specs.Steps.{Stays}
 use Rattle.words_access.specs.declared.view.View.{View}
 use Rattle.words_access.proofs.Flags.{never, count_le, weight_le}
-use Rattle.words_access.proofs.Views.{own, apart, stays, fresh_stays}
+use Rattle.words_base.proofs.Views.{own, apart, stays, all_stay}
 
 nested_set : (vs : List View) (id : ℕ) (w : View) → AllNested vs → Nested w → AllNested (set vs id w)
 nested_set vs id w all good j v e = ⊎_elim (λ here. subst Nested here.1 good) (λ else. all j v else.1) (at_set vs id j w v e)
@@ -123,7 +123,7 @@ module _ (S : Type 0) (readers_of writer_of : S → Listed) where
 
     -- who has to notify and who is fresh stay
     none_lost : (O : View → Type 0) (P : ℕ → View → Type 0) (list : Listed) (w : View) → (O me.0 → O w) → ((n : ℕ) → P n me.0 → P n w) → LosesNone O P list s.views → LosesNone O P list (after w)
-    none_lost O P list w tells fresh l = ⊎_elim (λ m. inl m) (λ b. inr (⊎_elim (λ c. inl (stays s.views id me.0 at O w tells c)) (λ all. inr (fresh_stays s.views id me.0 at P list.waiting w fresh all)) b)) l
+    none_lost O P list w tells fresh l = ⊎_elim (λ m. inl m) (λ b. inr (⊎_elim (λ c. inl (stays s.views id me.0 at O w tells c)) (λ all. inr (all_stay s.views id me.0 at P list.waiting w fresh all)) b)) l
 
     clear_as : (w : View) → (OwesReaders me.0 → OwesReaders w) → ((n : ℕ) → IsFreshReader n me.0 → IsFreshReader n w) → x % 2 ≡ 0 → LosesNone OwesReaders IsFreshReader r.readers (after w)
     clear_as w tells fresh e = none_lost OwesReaders IsFreshReader r.readers w tells fresh (r.clear e)

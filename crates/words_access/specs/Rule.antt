@@ -4,7 +4,7 @@ use mathlib.Core.Option.{some}
 use lib.ListN.{get_elem?}
 use Rattle.atomic_table.specs.Table.{State}
 use Rattle.words_base.specs.Sums.{weight, number}
-use Rattle.words_base.specs.Waiting.{SomeSeat, AreFresh}
+use Rattle.words_base.specs.Waiting.{SomeSeat, AreOf}
 use Rattle.words_access.specs.Lists.{Listed, nobody}
 use Rattle.words_access.specs.declared.view.View.{View}
 
@@ -41,7 +41,7 @@ IsFreshWriter n v = (v.fresh ≡ true) × (v.in_writer ≡ true) × (v.entry ≡
 
 -- No wake-up is lost of a list: one in it is notified, or a seat has to notify one, or each that waits is fresh.
 abbrev pub LosesNone : (View → Type 0) → (ℕ → View → Type 0) → Listed → List View → Type 0
-LosesNone Tells IsFresh list views = (0 < list.notified) ⊎ (SomeSeat Tells views ⊎ AreFresh IsFresh list.waiting views)
+LosesNone Tells IsFresh list views = (0 < list.notified) ⊎ (SomeSeat Tells views ⊎ AreOf IsFresh list.waiting views)
 
 -- Who writes has set the writer's bit, and so has who stands in the writer's list.
 abbrev pub Nested : View → Type 0

@@ -14,7 +14,7 @@ use Rattle.words_barrier.specs.Seats.{saw_of, counted_of, finished_by, eased_of,
 use Rattle.words_barrier.specs.Steps.{Looked, Counted, Finished, Peeked, Grabbed, CanJoin, CanLeave, CanPay, CanStay}
 use Rattle.words_barrier.specs.declared.view.View.{View}
 use Rattle.words_barrier.proofs.Flags.{never, SetsLow}
-use Rattle.words_barrier.proofs.Views.{some-longer}
+use Rattle.words_base.proofs.Views.{some-longer}
 use Rattle.words_barrier.proofs.Keeps.{sees, counts, finishes, busy, eases, grabbed, joins, leaves, pays, remains}
 
 module _ (S : Type 0) (waiting_of : S → List ℕ) where

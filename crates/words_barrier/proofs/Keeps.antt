@@ -6,12 +6,12 @@ use Rattle.atomic_table.specs.Table.{State, Me, keeps, takes, gives, stepped, pu
 use Rattle.atomic_table.proofs.Lists.{set_here, at_set}
 use Rattle.words_base.specs.Sums.{weight, number}
 use Rattle.words_base.proofs.Sums.{number-set, number-at}
-use Rattle.words_barrier.specs.Rule.{first_view, has_list_out, Owes, WaitsFor, AreOf, LosesNone, IsListWord, SaysEmpty, Ruled}
+use Rattle.words_barrier.specs.Rule.{first_view, has_list_out, Owes, WaitsFor, LosesNone, IsListWord, SaysEmpty, Ruled}
 use Rattle.words_barrier.specs.Seats.{saw_of, counted_of, finished_by, eased_of, listing_of, back, joined_of, gone_of, paid_of}
-use Rattle.words_base.specs.Waiting.{Has, NoneWaits, Fewer, JoinedBy, LeftBy, SomeSeat}
+use Rattle.words_base.specs.Waiting.{Has, NoneWaits, Fewer, JoinedBy, LeftBy, SomeSeat, AreOf}
 use Rattle.words_barrier.specs.declared.view.View.{View}
 use Rattle.words_barrier.proofs.Flags.{never}
-use Rattle.words_barrier.proofs.Views.{own, apart, stays, all_stay}
+use Rattle.words_base.proofs.Views.{own, apart, stays, all_stay}
 
 module _ (S : Type 0) (waiting_of : S → List ℕ) where
   abbrev R : State S View → Type 0

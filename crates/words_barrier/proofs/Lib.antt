@@ -1,5 +1,4 @@
 pub mod Flags
-pub mod Views
 pub mod Keeps
 pub mod Allowed
 pub mod Holding

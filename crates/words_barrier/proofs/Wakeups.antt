@@ -2,7 +2,8 @@
 use Rattle.std.proofs.Common.{◌≡◌, ℕ, List, sym, ◌∙◌, subst, ⊎_elim}
 use Rattle.atomic_table.specs.Table.{State}
 use Rattle.words_base.specs.Sums.{number}
-use Rattle.words_barrier.specs.Rule.{has_list_out, Ruled, AreOf, WaitsFor, LosesNone}
+use Rattle.words_base.specs.Waiting.{AreOf}
+use Rattle.words_barrier.specs.Rule.{has_list_out, Ruled, WaitsFor, LosesNone}
 use Rattle.words_barrier.specs.Laws.{finished, IsListHome, Lies, IsOfThis, IsAtRest}
 use Rattle.words_barrier.specs.declared.view.View.{View}
 use Rattle.words_barrier.proofs.Flags.{never, number-no}

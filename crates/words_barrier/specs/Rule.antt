@@ -4,7 +4,7 @@ use mathlib.Core.Option.{some}
 use lib.ListN.{get_elem?}
 use Rattle.atomic_table.specs.Table.{State}
 use Rattle.words_base.specs.Sums.{number}
-use Rattle.words_base.specs.Waiting.{Has, SomeSeat}
+use Rattle.words_base.specs.Waiting.{SomeSeat, AreOf}
 use Rattle.words_barrier.specs.declared.view.View.{View}
 
 abbrev pub first_view : View
@@ -20,10 +20,6 @@ Owes v = v.owes ≡ true
 -- The entry n is the seat's, which has joined and not looked since, or has found, since it joined, as many generations finished as there are.
 abbrev pub WaitsFor : ℕ → ℕ → View → Type 0
 WaitsFor finished n v = (v.listed ≡ true) × (v.entry ≡ n) × ((v.fresh ≡ true) ⊎ (v.found ≡ finished))
-
--- Each of these entries is of such a seat.
-abbrev pub AreOf : (ℕ → View → Type 0) → List ℕ → List View → Type 0
-AreOf P waiting views = (n : ℕ) → Has n waiting → SomeSeat (P n) views
 
 -- No wake-up is lost: a seat owes the whole list a notification, or each entry that isn't notified is of a seat that waits for the
 -- generation which is under way, or has not looked yet since it joined.

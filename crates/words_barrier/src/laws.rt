@@ -2,7 +2,8 @@
 
 ghost use Rattle.std.specs.Prelude.{ℕ, ◌⊎◌};
 ghost use Rattle.atomic_table.specs.Table.{State};
-ghost use Rattle.words_barrier.specs.Rule.{Ruled, LosesNone, AreOf};
+ghost use Rattle.words_base.specs.Waiting.{AreOf};
+ghost use Rattle.words_barrier.specs.Rule.{Ruled, LosesNone};
 ghost use Rattle.words_barrier.specs.Laws.{finished, IsListHome, Lies, IsOfThis, IsAtRest};
 ghost use Rattle.words_barrier.specs.declared.view.View.{View};
 

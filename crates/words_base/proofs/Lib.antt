@@ -1,3 +1,4 @@
 pub mod Sums
 pub mod Exchanges
 pub mod MutexWord
+pub mod Views

@@ -37,6 +37,6 @@ module _ {V : Type 0} where
   abbrev pub SomeSeat : (V → Type 0) → List V → Type 0
   SomeSeat P views = (i : ℕ) × (v : V) × (get_elem? views i ≡ some v) × P v
 
-  -- Each of these entries is of a fresh seat.
-  abbrev pub AreFresh : (ℕ → V → Type 0) → List ℕ → List V → Type 0
-  AreFresh P waiting views = (n : ℕ) → Has n waiting → SomeSeat (P n) views
+  -- Each of these entries is of a seat whose view is so.
+  abbrev pub AreOf : (ℕ → V → Type 0) → List ℕ → List V → Type 0
+  AreOf P waiting views = (n : ℕ) → Has n waiting → SomeSeat (P n) views

@@ -15,7 +15,7 @@ use Rattle.words_cell.specs.Seats.{saw_of, saw_full_of, claimed_of, missed_of, l
 use Rattle.words_cell.specs.Steps.{Kept, Looked, Claimed, Took, Peeked, Grabbed, CanJoinActive, CanJoinPassive, CanHear, CanLeave, CanPay, CanPayActive, CanPayPassive, CanStay}
 use Rattle.words_cell.specs.declared.view.View.{View}
 use Rattle.words_cell.proofs.Flags.{never, SetsLow}
-use Rattle.words_cell.proofs.Views.{some-longer}
+use Rattle.words_base.proofs.Views.{some-longer}
 use Rattle.words_cell.proofs.Keeps.{few, sees, sees_full, claims, misses, comes_late, fills, empties, takes_value, finds, busy, eases, grabbed, joins_active, joins_passive, hears, leaves, pays, pays_active, pays_passive, remains}
 
 module _ (S : Type 0) (active_of passive_of : S → List ℕ) (marked_of : S → ℕ) (start : Bool) where

@@ -8,12 +8,12 @@ use Rattle.atomic_table.specs.Table.{State, Me, keeps, takes, gives, stepped, pu
 use Rattle.atomic_table.proofs.Lists.{set_here, set_else, at_set}
 use Rattle.words_base.specs.Sums.{weight, number, total}
 use Rattle.words_base.proofs.Sums.{number-set, number-at, total-set}
-use Rattle.words_base.specs.Waiting.{Has, NoneWaits, Fewer, JoinedBy, LeftBy, StaysTold, SomeSeat, AreFresh}
+use Rattle.words_base.specs.Waiting.{Has, NoneWaits, Fewer, JoinedBy, LeftBy, StaysTold, SomeSeat, AreOf}
 use Rattle.words_cell.specs.Rule.{first_view, makes_of, has_lists_out, filled_of, taken_of, Owes, OwesActive, OwesPassive, IsFreshActive, IsFreshPassive, LosesNoneEmpty, LosesNoneFull, IsCell, IsListWord, SaysEmpty, Ruled}
 use Rattle.words_cell.specs.Seats.{saw_of, saw_full_of, claimed_of, missed_of, late_of, filled_by, emptied_by, taken_by, having_found, eased_of, listing_of, back, joined_active_of, joined_passive_of, told_of, gone_of, paid_of, paid_active_of, paid_passive_of}
 use Rattle.words_cell.specs.declared.view.View.{View}
 use Rattle.words_cell.proofs.Flags.{never}
-use Rattle.words_cell.proofs.Views.{own, apart, stays, fresh_stays}
+use Rattle.words_base.proofs.Views.{own, apart, stays, all_stay as fresh_stays}
 
 module _ (S : Type 0) (active_of passive_of : S → List ℕ) (marked_of : S → ℕ) where
   module _ (lists : S) (a : active_of lists ≡ []) (p : passive_of lists ≡ []) where
@@ -75,7 +75,7 @@ module _ (S : Type 0) (active_of passive_of : S → List ℕ) (marked_of : S →
       some_stays : (P : View → Type 0) (w : View) → (P me.0 → P w) → SomeSeat P s.views → SomeSeat P (after w)
       some_stays = stays s.views id me.0 at
 
-      all_stay : (P : ℕ → View → Type 0) (waiting : List ℕ) (w : View) → ((n : ℕ) → P n me.0 → P n w) → AreFresh P waiting s.views → AreFresh P waiting (after w)
+      all_stay : (P : ℕ → View → Type 0) (waiting : List ℕ) (w : View) → ((n : ℕ) → P n me.0 → P n w) → AreOf P waiting s.views → AreOf P waiting (after w)
       all_stay = fresh_stays s.views id me.0 at
 
       out_set : (w : View) → (w.has_lists ≡ true → (w.active ≡ r.active) × (w.passive ≡ r.passive) × (w.marked ≡ r.marked)) → (i : ℕ) (v : View) → get_elem? (after w) i ≡ some v → v.has_lists ≡ true → (v.active ≡ r.active) × (v.passive ≡ r.passive) × (v.marked ≡ r.marked)
@@ -302,7 +302,7 @@ module _ (S : Type 0) (active_of passive_of : S → List ℕ) (marked_of : S →
         abbrev Stands : (ℕ → View → Type 0) → View → List ℕ → List ℕ → Type 0
         Stands P w old new = (k : ℕ) → Has k new → (Has k old × (P k me.0 → P k w)) ⊎ P k w
 
-        stand : (P : ℕ → View → Type 0) (w : View) (old new : List ℕ) → Stands P w old new → AreFresh P old s.views → AreFresh P new (after w)
+        stand : (P : ℕ → View → Type 0) (w : View) (old new : List ℕ) → Stands P w old new → AreOf P old s.views → AreOf P new (after w)
         stand P w old new all fresh k h = ⊎_elim (λ t. some_stays (P k) w t.1 (fresh k t.0)) (λ p. mine (P k) w p) (all k h)
 
         -- one is notified, or the seat owes, or nobody waits
@@ -315,16 +315,16 @@ module _ (S : Type 0) (active_of passive_of : S → List ℕ) (marked_of : S →
         emptying : (w : View) → (0 < me.0.marked → Ends w) → (Owes me.0 ⊎ OwesActive me.0 → Ends w) → Stands IsFreshActive w me.0.active new_active → x ≡ 0 → LosesNoneEmpty new_active new_marked (after w)
         emptying w told owed all e = let k = known in ⊎_elim (λ m. ends w (told (subst (λ (z : ℕ). 0 < z) (sym k.2) m)))
             (λ b. ⊎_elim (λ c. ⊎_elim (λ o. ends w (owed o)) (λ other. inr (inl (other w))) (apart s.views id me.0 at (λ v. Owes v ⊎ OwesActive v) c))
-            (λ fresh. inr (inr (stand IsFreshActive w me.0.active new_active all (subst (λ l. AreFresh IsFreshActive l s.views) (sym k.0) fresh)))) b) (r.empty e)
+            (λ fresh. inr (inr (stand IsFreshActive w me.0.active new_active all (subst (λ l. AreOf IsFreshActive l s.views) (sym k.0) fresh)))) b) (r.empty e)
 
-        half : (O : View → Type 0) (P : ℕ → View → Type 0) (w : View) (old new : List ℕ) → (O me.0 → O w ⊎ NoneWaits new) → Stands P w old new → SomeSeat O s.views ⊎ AreFresh P old s.views → SomeSeat O (after w) ⊎ AreFresh P new (after w)
+        half : (O : View → Type 0) (P : ℕ → View → Type 0) (w : View) (old new : List ℕ) → (O me.0 → O w ⊎ NoneWaits new) → Stands P w old new → SomeSeat O s.views ⊎ AreOf P old s.views → SomeSeat O (after w) ⊎ AreOf P new (after w)
         half O P w old new duty all f = ⊎_elim (λ c. ⊎_elim (λ own_duty. ⊎_elim (λ q. inl (mine O w q)) (λ none. inr (λ k h. absurd (none k h))) (duty own_duty)) (λ other. inl (other w)) (apart s.views id me.0 at O c))
             (λ fresh. inr (stand P w old new all fresh)) f
 
         filling : (w : View) → (OwesActive me.0 → OwesActive w ⊎ NoneWaits new_active) → (OwesPassive me.0 → OwesPassive w ⊎ NoneWaits new_passive) → Stands IsFreshActive w me.0.active new_active → Stands IsFreshPassive w me.0.passive new_passive → x ≡ 2 → LosesNoneFull new_active new_passive (after w)
         filling w active passive all_active all_passive e = let k = known in let f = r.filled e in (
-          half OwesActive IsFreshActive w me.0.active new_active active all_active (subst (λ l. SomeSeat OwesActive s.views ⊎ AreFresh IsFreshActive l s.views) (sym k.0) f.0),
-          half OwesPassive IsFreshPassive w me.0.passive new_passive passive all_passive (subst (λ l. SomeSeat OwesPassive s.views ⊎ AreFresh IsFreshPassive l s.views) (sym k.1) f.1),
+          half OwesActive IsFreshActive w me.0.active new_active active all_active (subst (λ l. SomeSeat OwesActive s.views ⊎ AreOf IsFreshActive l s.views) (sym k.0) f.0),
+          half OwesPassive IsFreshPassive w me.0.passive new_passive passive all_passive (subst (λ l. SomeSeat OwesPassive s.views ⊎ AreOf IsFreshPassive l s.views) (sym k.1) f.1),
         )
 
         fewer : (P : ℕ → View → Type 0) (w : View) (old new : List ℕ) → Fewer old new → ((k : ℕ) → P k me.0 → P k w) → Stands P w old new

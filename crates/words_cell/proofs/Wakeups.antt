@@ -2,7 +2,7 @@
 use Rattle.std.proofs.Common.{◌≡◌, ℕ, ◌<◌, Bool, List, sym, ◌∙◌, subst, arith, ◌⊎◌, inl, inr, ⊎_elim}
 use Rattle.atomic_table.specs.Table.{State}
 use Rattle.words_base.specs.Sums.{number}
-use Rattle.words_base.specs.Waiting.{NoneWaits, SomeSeat, AreFresh}
+use Rattle.words_base.specs.Waiting.{NoneWaits, SomeSeat, AreOf}
 use Rattle.words_cell.specs.Rule.{has_lists_out, Ruled, IsFreshActive, IsFreshPassive, LosesNoneEmpty, LosesNoneFull}
 use Rattle.words_cell.specs.Laws.{IsEmpty, IsFull, AreListsHome, Lie, IsAtRest}
 use Rattle.words_cell.specs.declared.view.View.{View}
@@ -26,10 +26,10 @@ module _ {S : Type 0} (active_of passive_of : S → List ℕ) (marked_of : S →
     nobody_out : number has_lists_out s.views ≡ 0
     nobody_out = number-no has_lists_out s.views (λ i v e. (rest i v e).4)
 
-    none-active : (waiting : List ℕ) → AreFresh IsFreshActive waiting s.views → NoneWaits waiting
+    none-active : (waiting : List ℕ) → AreOf IsFreshActive waiting s.views → NoneWaits waiting
     none-active waiting all n h = let c = all n h in never (sym ((rest c.0 c.1 c.2).3) ∙ c.3.0)
 
-    none-passive : (waiting : List ℕ) → AreFresh IsFreshPassive waiting s.views → NoneWaits waiting
+    none-passive : (waiting : List ℕ) → AreOf IsFreshPassive waiting s.views → NoneWaits waiting
     none-passive waiting all n h = let c = all n h in never (sym ((rest c.0 c.1 c.2).3) ∙ c.3.0)
 
     pub empty_at_rest : IsEmpty s → (lists : S) × Lie s lists × ((0 < marked_of lists) ⊎ NoneWaits (active_of lists))

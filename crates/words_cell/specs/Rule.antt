@@ -4,7 +4,7 @@ use mathlib.Core.Option.{some}
 use lib.ListN.{get_elem?}
 use Rattle.atomic_table.specs.Table.{State}
 use Rattle.words_base.specs.Sums.{weight, number, total}
-use Rattle.words_base.specs.Waiting.{SomeSeat, AreFresh}
+use Rattle.words_base.specs.Waiting.{SomeSeat, AreOf}
 use Rattle.words_cell.specs.declared.view.View.{View}
 
 abbrev pub first_view : View
@@ -43,11 +43,11 @@ IsFreshPassive n v = (v.fresh ≡ true) × (v.in_passive ≡ true) × (v.entry �
 
 -- No wake-up is lost of an empty cell: one that would make is notified, or a seat owes, or each that waits is fresh.
 abbrev pub LosesNoneEmpty : List ℕ → ℕ → List View → Type 0
-LosesNoneEmpty active marked views = (0 < marked) ⊎ (SomeSeat (λ v. Owes v ⊎ OwesActive v) views ⊎ AreFresh IsFreshActive active views)
+LosesNoneEmpty active marked views = (0 < marked) ⊎ (SomeSeat (λ v. Owes v ⊎ OwesActive v) views ⊎ AreOf IsFreshActive active views)
 
 -- No wake-up is lost of a full cell: of each list, a seat owes all of it, or each that waits is fresh.
 abbrev pub LosesNoneFull : List ℕ → List ℕ → List View → Type 0
-LosesNoneFull active passive views = (SomeSeat OwesActive views ⊎ AreFresh IsFreshActive active views) × (SomeSeat OwesPassive views ⊎ AreFresh IsFreshPassive passive views)
+LosesNoneFull active passive views = (SomeSeat OwesActive views ⊎ AreOf IsFreshActive active views) × (SomeSeat OwesPassive views ⊎ AreOf IsFreshPassive passive views)
 
 -- Word 0 is 0 while the cell is empty, 1 while its value is being made, and 2 while it is full.
 pub record IsCell (start : Bool) (words : List ℕ) (views : List View) : Type 0 where
