@@ -16,6 +16,7 @@ use Rattle.lock_event.proofs.Counts.{marked_count-notified}
 use Rattle.lock_event.proofs.Marks.{length-mark_waiting, marked_count-joined, marked_count-with_key}
 use Rattle.lock_queue.specs.Entries.{unless_marked, waiting_in, numbers_in, HasFewer, IsKept, HasJoined, IsTold, AreTold, IsGone, HasLeft}
 use Rattle.lock_queue.specs.Sizes.{IsOneGone}
+use Rattle.words_base.proofs.Waiting.{joined_by, last-pushed}
 use Rattle.lock_queue.proofs.Numbers.{numbers-mark, numbers-without_waker, numbers-with_key, numbers-joined, less-left, less_asked, gone_by}
 use Rattle.lock_queue.proofs.Sizing.{notified_size, left_size, keyed_size, joined_size, waker_size, notified_without_waker, gone_without_waker, asked_size}
 
@@ -40,18 +41,6 @@ marks b k old new all n h = skip b k old n (all n h)
 pushed : (b : Bool) (k x : ℕ) (l : List ℕ) → unless_marked b k (l ++ x ∷ []) ≡ unless_marked b k l ++ x ∷ []
 pushed true k x l = refl
 pushed false k x l = refl
-
-joined_by : (x : ℕ) (l : List ℕ) → JoinedBy x l (l ++ x ∷ [])
-joined_by x [] n h = ⊎_elim (λ e. inr (sym e)) (λ z. absurd z) h
-joined_by x (k ∷ ks) n h = ⊎_elim (λ e. inl (inl e)) (λ r. ⊎_elim (λ a. inl (inr a)) (λ b. inr b) (joined_by x ks n r)) h
-
-last-cons : (k : ℕ) (x : ℕ) (l : List ℕ) → last_of (k ∷ l ++ x ∷ []) ≡ last_of (l ++ x ∷ [])
-last-cons k x [] = refl
-last-cons k x (y ∷ ys) = refl
-
-last-pushed : (x : ℕ) (l : List ℕ) → last_of (l ++ x ∷ []) ≡ x
-last-pushed x [] = refl
-last-pushed x (k ∷ ks) = last-cons k x ks ∙ last-pushed x ks
 
 module _ {W : Type 0} where
   abbrev number : Entry (Slot W) → ℕ

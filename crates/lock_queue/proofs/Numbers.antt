@@ -1,6 +1,6 @@
 -- What the calls on a list do to the numbers of its entries.
 use Rattle.words_base.specs.Waiting.{Has, Fewer, LeftBy}
-use Rattle.std.proofs.Common.{◌≡◌, ◌≢◌, ℕ, ◌-◌, ◌==◌, ◌||◌, if◌then◌else◌, Bool, true, false, List, [], ◌∷◌, ◌++◌, refl, sym, ap, ◌∙◌, subst, inl, inr, ⊎_elim, Option, Some, None, eq-eqb, true≢false}
+use Rattle.std.proofs.Common.{◌≡◌, ◌≢◌, ℕ, ◌-◌, ◌==◌, ◌||◌, if◌then◌else◌, Bool, true, false, List, [], ◌∷◌, ◌++◌, length, suc, refl, sym, ap, ◌∙◌, subst, inl, inr, ⊎_elim, Option, Some, None, eq-eqb, true≢false}
 use Rattle.std.proofs.lemmas.Bool.{eqb-true}
 use Rattle.lock_event.specs.declared.event.Entry.{Entry}
 use Rattle.lock_event.specs.declared.event.EntryId.{EntryId}
@@ -19,6 +19,10 @@ module _ {W : Type 0} where
 
   abbrev Less : List (Entry (Slot W)) → List (Entry (Slot W)) → Type 0
   Less old new = Fewer (numbers_in old) (numbers_in new)
+
+  pub length-numbers : (es : List (Entry (Slot W))) → length (numbers_in es) ≡ length es
+  length-numbers [] = refl
+  length-numbers (e ∷ es) = ap suc (length-numbers es)
 
   mark_head : (b : Bool) (m : Mark) (e : Entry (Slot W)) (es fs gs : List (Entry (Slot W))) → numbers_in fs ≡ numbers_in es → numbers_in gs ≡ numbers_in es → numbers_in (if b then e ∷ fs else entry e.key m ∷ gs) ≡ number e ∷ numbers_in es
   mark_head true m e es fs gs f g = ap (λ l. number e ∷ l) f
