@@ -7,11 +7,9 @@ use Rattle.lock_event.specs.declared.event.Entry.{Entry}
 use Rattle.lock_event.specs.declared.event.EntryId.{EntryId}
 use Rattle.lock_event.specs.declared.event.Slot.{Slot}
 use Rattle.weighted_event.specs.declared.weighted.Load.{Load}
-use Rattle.lock_event.specs.declared.event.Asked.{Asked}
-use Rattle.lock_event.specs.declared.event.Asked.TheVariants as asked
 use Rattle.lock_event.specs.declared.event.Mark.TheVariants.{Notified}
 use Rattle.lock_event.specs.Lists.{entry, is_marked, marked_count, joined, without, with_key, is_listed, is_marked_at}
-use Rattle.weighted_event.specs.Loads.{weight_of, laden, weight_at, lightened, without_marked_waker, HasAskedFor}
+use Rattle.weighted_event.specs.Loads.{weight_of, laden, weight_at, lightened, without_marked_waker}
 use Rattle.lock_event.specs.Slots.{has_id}
 use Rattle.weighted_event.specs.Weights.{is_enough, fit_first, fitted, is_wanted}
 use Rattle.lock_event.proofs.Counts.{marked_count-without_waiting}
@@ -19,8 +17,8 @@ use Rattle.weighted_event.proofs.Weights.{fitted_none}
 use Rattle.lock_event.proofs.Marks.{marked_count-joined, marked_count-with_key}
 use Rattle.words_base.specs.Sums.{weight, number}
 use Rattle.words_mutex.proofs.Flags.{number-zero}
-use Rattle.words_permits.specs.Waiters.{Waiter, waiter, is_of, StandsIn, HasNo, IsSound}
-use Rattle.semaphore_core.specs.Entries.{waiters_in, HasJoined, HasLeft, IsSame, IsTold, StaysSound}
+use Rattle.words_permits.specs.Waiters.{Waiter, waiter, is_of, StandsIn, HasNo}
+use Rattle.semaphore_core.specs.Entries.{waiters_in, HasJoined, HasLeft, IsGone, IsSame, IsTold}
 
 apart : (a b : Bool) → (a || b) ≡ false → (a ≡ false) × (b ≡ false)
 apart true b h = absurd (cc)
@@ -94,14 +92,21 @@ module _ {W : Type 0} where
       by r true is = let w : weight (has_id id e.key) ≡ 1 = ap weight is in omega arith
       by r false is = let w : weight (has_id id e.key) ≡ 0 = ap weight is in let z = r (omega arith) in omega arith
 
-  pub sound-without : (es : List (Entry (Slot (Load W)))) (id : EntryId) → StaysSound es (without (has_id id) es)
-  sound-without es id sound = ((λ w s. sound.0 w (stood es id s.0 w s.1)), λ n. let f = fewer (is_of n) es id in let one = sound.1 n in omega arith)
+  pub gone-without : (old new : List (Entry (Slot (Load W)))) (id : EntryId) → new ≡ without (has_id id) old → IsGone old new id.number
+  gone-without old new id is = subst (λ (l : List (Entry (Slot (Load W)))). IsGone old l id.number) (sym is)
+      (λ sound. (
+        ((λ w s. sound.0 w (stood old id s.0 w s.1)), λ n. let f = fewer (is_of n) old id in let one = sound.1 n in omega arith),
+        λ w s. (stood old id s.0 w s.1, another (waiters_in (without (has_id id) old)) id.number w (gone old id (sound.1 id.number)) s),
+      ))
 
-  pub left-without : (es : List (Entry (Slot (Load W)))) (id : EntryId) → is_marked_at (has_id id) es ≡ false → HasLeft es (without (has_id id) es) id.number
-  left-without es id unmarked = (
-    (λ sound w s. (stood es id s.0 w s.1, another (waiters_in (without (has_id id) es)) id.number w (gone es id (sound.1 id.number)) s)),
-    marked_count-without_waiting (has_id id) es unmarked,
-  )
+  -- nor is one left that wasn't there
+  pub gone-unlisted : (old new : List (Entry (Slot (Load W)))) (id : EntryId) → is_listed (has_id id) old ≡ false → new ≡ old → IsGone old new id.number
+  gone-unlisted old new id absent is = subst (λ (l : List (Entry (Slot (Load W)))). IsGone old l id.number) (sym is) (λ sound. (sound, λ w s. (s, another (waiters_in old) id.number w (has-no old id absent) s)))
+
+  -- whoever leaves without asking
+  pub withdrawn : (id : EntryId) (old new : List (Entry (Slot (Load W)))) (b : Bool) → b ≡ is_marked_at (has_id id) old → new ≡ without (has_id id) old → MatchBool b (IsGone old new id.number) (HasLeft old new id.number)
+  withdrawn id old new true marked is = gone-without old new id is
+  withdrawn id old new false marked is = (gone-without old new id is, ap marked_count is ∙ marked_count-without_waiting (has_id id) old (sym marked))
 
   -- ---- telling
   abbrev its : Slot (Load W) → ℕ
@@ -167,18 +172,6 @@ module _ {W : Type 0} where
             let some : 1 ≤ marked_count (fitted its a old) = let m : marked_count mid ≡ marked_count (fitted its a old) = ap marked_count fit in omega arith in
             let c = chosen a old (is_wanted its a old) refl before some in (c.0, subst (λ (m : List Waiter). StandsIn m c.0) (sym same) c.1, c.2),
       )
-
-  -- ---- asking
-  -- whoever doesn't wait has left the list, or nothing has changed
-  pub sound-asked : (id : EntryId) (w : Option W) (old new : List (Entry (Slot (Load W)))) (a : Asked W) → HasAskedFor id w old a new → StaysSound old new
-  sound-asked id w old new (asked.Notified kept unused) h = subst (λ (l : List (Entry (Slot (Load W)))). StaysSound old l) (sym h.1) (sound-without old id)
-  sound-asked id w old new (asked.Waiting kept) h = let s = same-keyed old new id w h.2 in subst IsSound (sym s.0)
-  sound-asked id w old new (asked.Unlisted unused) h = subst (λ (l : List (Entry (Slot (Load W)))). StaysSound old l) (sym h.1) (λ sound. sound)
-
-  -- whoever leaves without asking
-  pub withdrawn : (id : EntryId) (old new : List (Entry (Slot (Load W)))) (b : Bool) → b ≡ is_marked_at (has_id id) old → new ≡ without (has_id id) old → MatchBool b (StaysSound old new) (StaysSound old new × HasLeft old new id.number)
-  withdrawn id old new true marked is = subst (λ (l : List (Entry (Slot (Load W)))). StaysSound old l) (sym is) (sound-without old id)
-  withdrawn id old new false marked is = (subst (λ (l : List (Entry (Slot (Load W)))). StaysSound old l) (sym is) (sound-without old id), subst (λ (l : List (Entry (Slot (Load W)))). HasLeft old l id.number) (sym is) (left-without old id (sym marked)))
 
   -- whoever has joined, if somebody has
   pub joined-ok : {B : Type 0} (old new : List (Entry (Slot (Load W)))) (k : ℕ) (r : Result EntryId B) → IfOk r (λ id. new ≡ joined old (laden id k None)) → IfOk r (λ id. is_listed (has_id id) old ≡ false) → IfOk r (λ id. HasJoined old new id.number k)

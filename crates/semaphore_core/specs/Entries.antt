@@ -1,11 +1,11 @@
 -- What calls on a list do, as far as the rule of the semaphore asks: who stands in it, and how many are notified.
-use Rattle.std.specs.Prelude.{◌≡◌, ◌≢◌, ℕ, ◌≤◌, List, [], ◌∷◌, ◌++◌}
+use Rattle.std.specs.Prelude.{◌≡◌, ℕ, ◌≤◌, List, [], ◌∷◌, ◌++◌}
 use Rattle.lock_event.specs.Lists.{marked_count}
 use Rattle.weighted_event.specs.Loads.{weight_of}
 use Rattle.lock_event.specs.declared.event.Entry.{Entry}
 use Rattle.lock_event.specs.declared.event.Slot.{Slot}
 use Rattle.weighted_event.specs.declared.weighted.Load.{Load}
-use Rattle.words_permits.specs.Waiters.{Waiter, waiter, StandsIn, HasNo, IsSound}
+use Rattle.words_permits.specs.Waiters.{Waiter, waiter, StandsIn, HasNo, LeftBy, IsSound}
 
 module _ {W : Type 0} where
   -- who stands in the entries
@@ -22,13 +22,13 @@ module _ {W : Type 0} where
     abbrev pub IsSame : Type 0
     IsSame = (waiters_in new ≡ waiters_in old) × (marked_count new ≡ marked_count old)
 
-    -- No two entries have one number, and none waits for nothing, if that was so before.
-    abbrev pub StaysSound : Type 0
-    StaysSound = IsSound (waiters_in old) → IsSound (waiters_in new)
+    -- No entry of this number is left: no two have one number, and none waits for nothing, if that was so before.
+    abbrev pub IsGone : ℕ → Type 0
+    IsGone entry = IsSound (waiters_in old) → IsSound (waiters_in new) × LeftBy entry (waiters_in old) (waiters_in new)
 
     -- This entry has left, which was not notified.
     abbrev pub HasLeft : ℕ → Type 0
-    HasLeft entry = (IsSound (waiters_in old) → (w : Waiter) → StandsIn (waiters_in new) w → StandsIn (waiters_in old) w × (w.entry ≢ entry)) × (marked_count new ≡ marked_count old)
+    HasLeft entry = IsGone entry × (marked_count new ≡ marked_count old)
 
     -- One is notified, if so many are enough for any, and none if they aren't and none was before.
     abbrev pub IsTold : ℕ → Type 0

@@ -152,7 +152,7 @@ impl RawSemaphore {
         let shared = &self.table.shared;
         let found = take_out(shared, rt, &mut seat.inner);
         let (heard, word) = ask_in(shared, &mut seat.inner, id, &self.source, cx, found);
-        let kept = give_asked(shared, &mut seat.inner, heard, word);
+        let kept = give_asked(shared, &mut seat.inner, id, heard, word);
         seat.go(at, answer(kept.is_none()));
         kept
     }
@@ -170,7 +170,7 @@ impl RawSemaphore {
         let shared = &self.table.shared;
         let found = take_out(shared, rt, &mut seat.inner);
         let (heard, word) = ask_again_in(shared, &mut seat.inner, id, found);
-        let waits = give_asked(shared, &mut seat.inner, heard, word).is_some();
+        let waits = give_asked(shared, &mut seat.inner, id, heard, word).is_some();
         seat.go(at, answer(!waits));
         waits
     }

@@ -5,7 +5,7 @@ ghost use Rattle.futures.specs.Task.{Keeps};
 ghost use Rattle.lock_event.specs.Lists.{is_marked_at};
 ghost use Rattle.lock_event.specs.Slots.{has_id};
 ghost use Rattle.lock_queue.specs.Asking.{ByHeard};
-ghost use Rattle.semaphore_core.specs.Entries.{HasJoined, HasLeft, IsSame, IsTold, StaysSound};
+ghost use Rattle.semaphore_core.specs.Entries.{HasJoined, HasLeft, IsGone, IsSame, IsTold};
 ghost use Rattle.lock_queue.specs.Receipts.{IsReceipt};
 ghost use Rattle.semaphore_core.specs.Receipts.{KeepsAt};
 
@@ -56,7 +56,7 @@ pub(crate) fn fit(event: &mut WeightedEvent<Waker>, available: u64) -> Option<Wa
 
 // An entry leaves: whether it was notified, and what it kept. One that isn't there counts as not notified.
 pub(crate) fn remove(event: &mut WeightedEvent<Waker>, id: EntryId) -> (bool, Option<Waker>)
-    ensures { MatchBool result.0 (StaysSound event.old.entries event.new.entries) (StaysSound event.old.entries event.new.entries × HasLeft event.old.entries event.new.entries id.number) }
+    ensures { MatchBool result.0 (IsGone event.old.entries event.new.entries id.number) (HasLeft event.old.entries event.new.entries id.number) }
 {
     let (was_notified, kept) = event.withdraw(id);
     (was_notified, kept)
@@ -71,7 +71,7 @@ pub(crate) fn ask(
     cx: &mut Context<'_>,
 ) -> Heard<Whose>
     ensures answer { ByHeard result ⊤ (λ _. is_marked_at (has_id id) event.old.entries ≡ false) }
-    ensures asked { ByHeard result (StaysSound event.old.entries event.new.entries) (λ _. IsSame event.old.entries event.new.entries) }
+    ensures asked { ByHeard result (IsGone event.old.entries event.new.entries id.number) (λ _. IsSame event.old.entries event.new.entries) }
     ensures waits { ByHeard result (cx.new ≡ cx.old) (λ whose. KeepsAt id whose event.new.entries × IsReceipt source.now.id cx.new whose) }
     ensures kept { Keeps cx.old cx.new }
 {
@@ -92,7 +92,7 @@ pub(crate) fn ask(
 // The same, of an entry that keeps the waker that it has.
 pub(crate) fn ask_again(event: &mut WeightedEvent<Waker>, id: EntryId) -> Heard<()>
     ensures answer { ByHeard result ⊤ (λ _. is_marked_at (has_id id) event.old.entries ≡ false) }
-    ensures asked { ByHeard result (StaysSound event.old.entries event.new.entries) (λ _. IsSame event.old.entries event.new.entries) }
+    ensures asked { ByHeard result (IsGone event.old.entries event.new.entries id.number) (λ _. IsSame event.old.entries event.new.entries) }
 {
     if event.contains(id) && !event.is_notified(id) {
         return Heard::Waits(());

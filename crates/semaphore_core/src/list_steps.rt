@@ -99,7 +99,7 @@ pub(crate) fn remove_in(
     ensures table { inner.new.table_id ≡ inner.old.table_id }
     ensures view { inner.new.me.0 ≡ inner.old.me.0 }
     ensures others { rest inner.new.me.1 ≡ rest inner.old.me.1 }
-    ensures ready { MatchBool result.0 (CanHear queue_waiters queue_marked inner.new.me result.2) (CanLeave queue_waiters queue_marked inner.new.me result.2 id.number) }
+    ensures ready { MatchBool result.0 (CanHear queue_waiters queue_marked inner.new.me result.2 id.number) (CanLeave queue_waiters queue_marked inner.new.me result.2 id.number) }
 {
     let list = inner.slot_mut(shared, LIST_SLOT);
     let (was_notified, kept) = list.remove(id);
@@ -120,7 +120,7 @@ pub(crate) fn ask_in(
     ensures table { inner.new.table_id ≡ inner.old.table_id }
     ensures view { inner.new.me.0 ≡ inner.old.me.0 }
     ensures others { rest inner.new.me.1 ≡ rest inner.old.me.1 }
-    ensures ready { ByHeard result.0 (CanHear queue_waiters queue_marked inner.new.me result.1) (λ _. CanStay queue_waiters queue_marked inner.new.me result.1) }
+    ensures ready { ByHeard result.0 (CanHear queue_waiters queue_marked inner.new.me result.1 id.number) (λ _. CanStay queue_waiters queue_marked inner.new.me result.1) }
     ensures waits { ByHeard result.0 (cx.new ≡ cx.old) (IsReceipt source.now.id cx.new) }
     ensures kept { Keeps cx.old cx.new }
 {
@@ -141,7 +141,7 @@ pub(crate) fn ask_again_in(
     ensures table { inner.new.table_id ≡ inner.old.table_id }
     ensures view { inner.new.me.0 ≡ inner.old.me.0 }
     ensures others { rest inner.new.me.1 ≡ rest inner.old.me.1 }
-    ensures ready { ByHeard result.0 (CanHear queue_waiters queue_marked inner.new.me result.1) (λ _. CanStay queue_waiters queue_marked inner.new.me result.1) }
+    ensures ready { ByHeard result.0 (CanHear queue_waiters queue_marked inner.new.me result.1 id.number) (λ _. CanStay queue_waiters queue_marked inner.new.me result.1) }
 {
     let list = inner.slot_mut(shared, LIST_SLOT);
     let heard = list.ask_again(id);
@@ -176,7 +176,7 @@ pub(crate) fn give_left(
     word: u64,
 ) -> u64
     requires table { (inner.old.table_id ≡ shared.now.table_id) × (shared.now.table_id.words ≡ 3) × (shared.now.table_id.slots ≡ 1) }
-    requires list { MatchBool was_notified (CanHear queue_waiters queue_marked inner.old.me word) (CanLeave queue_waiters queue_marked inner.old.me word id.number) }
+    requires list { MatchBool was_notified (CanHear queue_waiters queue_marked inner.old.me word id.number) (CanLeave queue_waiters queue_marked inner.old.me word id.number) }
     requires own { inner.old.me.0.entry ≡ id.number }
     ensures table { inner.new.table_id ≡ inner.old.table_id }
     ensures step { MatchBool was_notified (inner.new.me ≡ (told_of inner.old.me.0, rest inner.old.me.1)) (inner.new.me ≡ (gone_of inner.old.me.0, rest inner.old.me.1)) }
@@ -213,19 +213,22 @@ pub(crate) fn see_in(
     (len, is_notified, says)
 }
 
-// Gives the list back that an entry has asked, with this word: what the entry keeps, if it waits. What one kept that was told is dropped then.
+// Gives the list back that the entry of this id has asked, with this word: what it keeps, if it waits. What one kept that was told is dropped then.
 pub(crate) fn give_asked<K>(
     shared: &Listing,
     inner: &mut Lister,
+    id: EntryId,
     heard: Heard<K>,
     word: u64,
 ) -> Option<K>
     requires table { (inner.old.table_id ≡ shared.now.table_id) × (shared.now.table_id.words ≡ 3) × (shared.now.table_id.slots ≡ 1) }
-    requires list { ByHeard heard (CanHear queue_waiters queue_marked inner.old.me word) (λ _. CanStay queue_waiters queue_marked inner.old.me word) }
+    requires list { ByHeard heard (CanHear queue_waiters queue_marked inner.old.me word id.number) (λ _. CanStay queue_waiters queue_marked inner.old.me word) }
+    requires own { inner.old.me.0.entry ≡ id.number }
     ensures table { inner.new.table_id ≡ inner.old.table_id }
     ensures told { IfNone result ((inner.new.me ≡ (told_of inner.old.me.0, rest inner.old.me.1)) × ByHeard heard ⊤ (λ _. ⊥)) }
     ensures waits { IfSome result (λ kept. (inner.new.me ≡ (back inner.old.me.0, rest inner.old.me.1)) × (heard ≡ heard_as.Waits kept)) }
 {
+    let _ = id;
     match heard {
         Heard::Waits(kept) => {
             let found = give_same(shared, inner, word);

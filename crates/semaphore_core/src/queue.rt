@@ -5,7 +5,7 @@ ghost use Rattle.futures.specs.Task.{Keeps};
 ghost use Rattle.lock_event.specs.Lists.{is_marked_at};
 ghost use Rattle.lock_event.specs.Slots.{has_id};
 ghost use Rattle.lock_queue.specs.Asking.{ByHeard};
-ghost use Rattle.semaphore_core.specs.Entries.{HasJoined, HasLeft, IsSame, IsTold, StaysSound, waiters_in};
+ghost use Rattle.semaphore_core.specs.Entries.{HasJoined, HasLeft, IsGone, IsSame, IsTold, waiters_in};
 ghost use Rattle.semaphore_core.specs.Queues.{entries_of};
 ghost use Rattle.lock_queue.specs.Receipts.{IsReceipt};
 ghost use Rattle.semaphore_core.specs.Receipts.{KeepsAt};
@@ -137,7 +137,7 @@ impl Queue {
 
     // An entry leaves: whether it was notified, and what it kept.
     pub(crate) fn remove(&mut self, id: EntryId) -> (bool, Option<Waker>)
-        ensures { MatchBool result.0 (StaysSound (entries_of self.old) (entries_of self.new)) (StaysSound (entries_of self.old) (entries_of self.new) × HasLeft (entries_of self.old) (entries_of self.new) id.number) }
+        ensures { MatchBool result.0 (IsGone (entries_of self.old) (entries_of self.new) id.number) (HasLeft (entries_of self.old) (entries_of self.new) id.number) }
     {
         match &mut self.entries {
             Some(event) => list::remove(event, id),
@@ -148,7 +148,7 @@ impl Queue {
     // An entry asks for its notification. One that waits keeps a waker of the task of `cx`, which registers with `source`.
     pub(crate) fn ask(&mut self, id: EntryId, source: &Source, cx: &mut Context<'_>) -> Heard<Whose>
         ensures answer { ByHeard result ⊤ (λ _. is_marked_at (has_id id) (entries_of self.old) ≡ false) }
-        ensures asked { ByHeard result (StaysSound (entries_of self.old) (entries_of self.new)) (λ _. IsSame (entries_of self.old) (entries_of self.new)) }
+        ensures asked { ByHeard result (IsGone (entries_of self.old) (entries_of self.new) id.number) (λ _. IsSame (entries_of self.old) (entries_of self.new)) }
         ensures waits { ByHeard result (cx.new ≡ cx.old) (λ whose. KeepsAt id whose (entries_of self.new) × IsReceipt source.now.id cx.new whose) }
         ensures kept { Keeps cx.old cx.new }
     {
@@ -161,7 +161,7 @@ impl Queue {
     // The same, of an entry that keeps what it has.
     pub(crate) fn ask_again(&mut self, id: EntryId) -> Heard<()>
         ensures answer { ByHeard result ⊤ (λ _. is_marked_at (has_id id) (entries_of self.old) ≡ false) }
-        ensures asked { ByHeard result (StaysSound (entries_of self.old) (entries_of self.new)) (λ _. IsSame (entries_of self.old) (entries_of self.new)) }
+        ensures asked { ByHeard result (IsGone (entries_of self.old) (entries_of self.new) id.number) (λ _. IsSame (entries_of self.old) (entries_of self.new)) }
     {
         match &mut self.entries {
             Some(event) => list::ask_again(event, id),

@@ -1,5 +1,5 @@
 -- Each step on the table keeps its rule.
-use Rattle.std.proofs.Common.{◌≡◌, ◌≢◌, ℕ, zero, suc, ◌+◌, ◌-◌, ◌%◌, ◌^◌, ◌<◌, ◌≤◌, leb, eqb, bit_or, lt_of_not-le, true, false, List, [], ◌∷◌, ◌++◌, length, get_or, set, sym, refl, ap, ◌∙◌, subst, arith, ⊎_elim, inl, inr, length-set, get_or-set_same, get_or-set_other}
+use Rattle.std.proofs.Common.{◌≡◌, ℕ, zero, suc, ◌+◌, ◌-◌, ◌%◌, ◌^◌, ◌<◌, ◌≤◌, leb, eqb, bit_or, lt_of_not-le, true, false, List, [], ◌∷◌, ◌++◌, length, get_or, set, sym, refl, ap, ◌∙◌, subst, arith, ⊎_elim, inl, inr, length-set, get_or-set_same, get_or-set_other}
 use Rattle.std.proofs.lemmas.Bool.{le-leb}
 use mathlib.Core.Option.{none, some, some-injective, some-ne-none}
 use mathlib.Core.Logic.{dite}
@@ -12,10 +12,10 @@ use Rattle.words_base.specs.Sums.{weight, number, total}
 use Rattle.words_base.proofs.Sums.{number-set, number-at, number-none, total-set, total-at, total-snoc}
 use Rattle.words_base.proofs.Exchanges.{exchanged}
 use Rattle.words_mutex.proofs.Flags.{never, and_true, many-owes, SetsLow}
-use Rattle.words_permits.specs.Rule.{permits_of, under_way_of, added_of, forgotten_of, has_list_out, SaysEmpty, OwesOf, IsFreshIn, LosesNone, Ruled}
+use Rattle.words_permits.specs.Rule.{permits_of, under_way_of, added_of, forgotten_of, has_list_out, SaysEmpty, OwesOf, IsEntryOf, IsFreshIn, AreOfSeats, LosesNone, Ruled}
 use Rattle.words_permits.specs.Seats.{first_view, looking, having_taken, having_given, having_given_new, having_lowered, having_raised, having_found_limit, peeking, listing_of, back, joined_of, told_of, gone_of, paid_of}
 use Rattle.words_permits.specs.Steps.{Takes, Gives, GivesNew, Raises, Says, Grabbed, newest, CanJoin, CanHear, CanLeave, CanPay, CanStay}
-use Rattle.words_permits.specs.Waiters.{Waiter, waiter, StandsIn, last_or, HasNo, IsSound}
+use Rattle.words_permits.specs.Waiters.{Waiter, waiter, StandsIn, last_or, HasNo, LeftBy, IsSound}
 use Rattle.words_permits.specs.declared.view.View.{View}
 use Rattle.words_permits.proofs.Owners.{some-set, some-mine, some-snoc, stands-snoc, nobody-stands, last-snoc, sound-snoc}
 
@@ -48,6 +48,7 @@ module _ (S : Type 0) (waiters_of : S → List Waiter) (marked_of : S → ℕ) (
     waiters = [];
     marked = marked_of list;
     sound = ((λ w s. nobody-stands [] w refl s), λ _. omega arith);
+    standing = λ w s. nobody-stands [] w refl s;
     wakes = inr (inr (λ w s _. nobody-stands [] w refl s));
     unlisted = λ _. refl;
     home = λ _. (list, refl, empty, refl);
@@ -73,7 +74,7 @@ module _ (S : Type 0) (waiters_of : S → List Waiter) (marked_of : S → ℕ) (
 
     -- what a step leaves of a seat that isn't of the list
     abbrev pub Leaves : View → Type 0
-    Leaves w = (w.has_list ≡ me.0.has_list) × (w.waiters ≡ me.0.waiters) × (w.marked ≡ me.0.marked)
+    Leaves w = (w.has_list ≡ me.0.has_list) × (w.waiters ≡ me.0.waiters) × (w.marked ≡ me.0.marked) × ((e : Waiter) → IsEntryOf e me.0 → IsEntryOf e w)
 
     -- what a step leaves of a seat that isn't of the list's word
     abbrev pub Counts : View → Type 0
@@ -86,6 +87,13 @@ module _ (S : Type 0) (waiters_of : S → List Waiter) (marked_of : S → ℕ) (
 
     same_out : (w : View) → w.has_list ≡ me.0.has_list → number has_list_out (after w) ≡ number has_list_out s.views
     same_out w hs = let h = number-set has_list_out s.views id me.0 w at in let h' : weight (has_list_out w) ≡ weight (has_list_out me.0) = ap weight hs in omega arith
+
+    -- who stands in the list stood there, and the seat's own entry is its own, if it still stands there
+    stand-by : (l : List Waiter) (w : View) → ((e : Waiter) → StandsIn l e → StandsIn r.waiters e × (IsEntryOf e me.0 → IsEntryOf e w)) → AreOfSeats (after w) l
+    stand-by l w good e stands = let g = good e stands in some-set (IsEntryOf e) (IsEntryOf e) s.views id me.0 w at g.1 (λ u f. f) (r.standing e g.0)
+
+    stand-still : (w : View) → Leaves w → AreOfSeats (after w) r.waiters
+    stand-still w left = stand-by r.waiters w (λ e stands. (stands, left.3 e))
 
     -- no more are available than before, and the seat's duty and its entry are as they were, as far as the rule asks
     wakes-by : (b : ℕ) (w : View) → b ≤ x → (OwesOf x me.0 → OwesOf b w) → ((e : Waiter) → e.weight ≤ b → IsFreshIn e me.0 → IsFreshIn e w) → LosesNone (after w) b r.waiters r.marked
@@ -118,6 +126,7 @@ module _ (S : Type 0) (waiters_of : S → List Waiter) (marked_of : S → ℕ) (
           waiters = r.waiters;
           marked = r.marked;
           sound = r.sound;
+          standing = stand-still w left;
           wakes = subst (λ (k : ℕ). LosesNone (after w) k r.waiters r.marked) (sym here) wakes;
           unlisted = λ low. r.unlisted (subst SaysEmpty beside low);
           home = λ absent. r.home (sym outs ∙ absent);
@@ -145,6 +154,7 @@ module _ (S : Type 0) (waiters_of : S → List Waiter) (marked_of : S → ℕ) (
           waiters = r.waiters;
           marked = r.marked;
           sound = r.sound;
+          standing = stand-still w left;
           wakes = subst (λ (k : ℕ). LosesNone (after w) k r.waiters r.marked) (sym there) wakes;
           unlisted = λ low. r.unlisted (subst SaysEmpty beside low);
           home = λ absent. r.home (sym outs ∙ absent);
@@ -152,10 +162,10 @@ module _ (S : Type 0) (waiters_of : S → List Waiter) (marked_of : S → ℕ) (
         }
 
     -- the list's word becomes n, and this stands in the list now
-    list_word : (w : View) (n : ℕ) (a : Act S) (l : List Waiter) (m : ℕ) → Counts w → number has_list_out (after w) ≤ 1 → n % 2 ≡ number has_list_out (after w) → IsSound l → LosesNone (after w) x l m → (SaysEmpty n → l ≡ [])
+    list_word : (w : View) (n : ℕ) (a : Act S) (l : List Waiter) (m : ℕ) → Counts w → number has_list_out (after w) ≤ 1 → n % 2 ≡ number has_list_out (after w) → IsSound l → AreOfSeats (after w) l → LosesNone (after w) x l m → (SaysEmpty n → l ≡ [])
         → (number has_list_out (after w) ≡ 0 → (list : S) × (get_elem? (homes_after s.homes me.1 a) 0 ≡ some (some list)) × (waiters_of list ≡ l) × (marked_of list ≡ m))
         → ((i : ℕ) (v : View) → get_elem? (after w) i ≡ some v → v.has_list ≡ true → (v.waiters ≡ l) × (v.marked ≡ m)) → R (stepped s 1 n id me.1 w a)
-    list_word w n a l m counts one odd sound wakes low home out =
+    list_word w n a l m counts one odd sound standing wakes low home out =
         let ps = total-set permits_of s.views id me.0 w at in let us = total-set under_way_of s.views id me.0 w at in let is = r.permits in
         let ds = total-set added_of s.views id me.0 w at in let fs = total-set forgotten_of s.views id me.0 w at in let was = r.limit in let wide = r.words in
         let cp = counts.0 in let cu = counts.1 in let ca = counts.2 in let cf = counts.3 in
@@ -173,6 +183,7 @@ module _ (S : Type 0) (waiters_of : S → List Waiter) (marked_of : S → ℕ) (
           waiters = l;
           marked = m;
           sound = sound;
+          standing = standing;
           wakes = subst (λ (k : ℕ). LosesNone (after w) k l m) (sym beside) wakes;
           unlisted = λ empty. low (subst SaysEmpty here empty);
           home = home;
@@ -185,22 +196,22 @@ module _ (S : Type 0) (waiters_of : S → List Waiter) (marked_of : S → ℕ) (
 
     -- nothing changes
     pub still : R (stepped s 0 x id me.1 me.0 keeps)
-    still = first_word me.0 x refl refl refl (refl, refl, refl) still-wakes
+    still = first_word me.0 x refl refl refl (refl, refl, refl, λ _ f. f) still-wakes
 
     pub sees : R (stepped s 0 x id me.1 (looking x me.0) keeps)
-    sees = let w : View = looking x me.0 in first_word w x refl refl refl (refl, refl, refl) (wakes-by x w (omega arith) (λ o. (o.0, inr (omega arith)))
-        (λ e few f. (f.0, and_true me.0.fresh (leb me.0.weight x) (le-leb me.0.weight x (let k = f.3 in omega arith)) ∙ f.1, f.2, f.3)))
+    sees = let w : View = looking x me.0 in first_word w x refl refl refl (refl, refl, refl, λ _ f. f) (wakes-by x w (omega arith) (λ o. (o.0, inr (omega arith)))
+        (λ e few f. (f.0, and_true me.0.fresh (leb me.0.weight x) (le-leb me.0.weight x (let k = f.0.2 in omega arith)) ∙ f.1)))
 
     pub takes_some : (k n : ℕ) → n + k ≡ x → R (stepped s 0 n id me.1 (having_taken k n me.0) keeps)
-    takes_some k n less = let w : View = having_taken k n me.0 in first_word w n (omega arith) refl refl (refl, refl, refl) (dite (ℕ_discrete n 0)
+    takes_some k n less = let w : View = having_taken k n me.0 in first_word w n (omega arith) refl refl (refl, refl, refl, λ _ f. f) (dite (ℕ_discrete n 0)
         (λ none. inr (inr (λ e stands few. let some = r.sound.0 e stands in absurd (omega arith))))
         (λ some. wakes-by n w (omega arith) (λ o. (and_true me.0.owes (leb 1 n) (le-leb 1 n (omega arith)) ∙ o.0, inr (omega arith))) (λ _ _ f. f)))
 
     pub gives_some : (k n : ℕ) → k ≤ me.0.permits → x + k ≡ n → R (stepped s 0 n id me.1 (having_given k n me.0) keeps)
-    gives_some k n has more = let w : View = having_given k n me.0 in first_word w n (omega arith) refl refl (refl, refl, refl) (wakes-owing n r.waiters r.marked w (refl, inr (omega arith)))
+    gives_some k n has more = let w : View = having_given k n me.0 in first_word w n (omega arith) refl refl (refl, refl, refl, λ _ f. f) (wakes-owing n r.waiters r.marked w (refl, inr (omega arith)))
 
     pub gives_added : (k n : ℕ) → k ≤ me.0.under_way → x + k ≡ n → R (stepped s 0 n id me.1 (having_given_new k n me.0) keeps)
-    gives_added k n has more = let w : View = having_given_new k n me.0 in first_word w n (omega arith) refl refl (refl, refl, refl) (wakes-owing n r.waiters r.marked w (refl, inr (omega arith)))
+    gives_added k n has more = let w : View = having_given_new k n me.0 in first_word w n (omega arith) refl refl (refl, refl, refl, λ _ f. f) (wakes-owing n r.waiters r.marked w (refl, inr (omega arith)))
 
     -- what the seat has, what is available and what is under way is no more than the limit
     pub within : (x + me.0.permits + me.0.under_way ≤ z) × (z < 18446744073709551616)
@@ -208,31 +219,31 @@ module _ (S : Type 0) (waiters_of : S → List Waiter) (marked_of : S → ℕ) (
 
     -- ---- on the limit
     pub limit_still : R (stepped s 2 z id me.1 me.0 keeps)
-    limit_still = third_word me.0 z r.fits refl refl (refl, refl, refl) still-wakes
+    limit_still = third_word me.0 z r.fits refl refl (refl, refl, refl, λ _ f. f) still-wakes
 
     pub sees_limit : R (stepped s 2 z id me.1 (having_found_limit z me.0) keeps)
-    sees_limit = let w : View = having_found_limit z me.0 in third_word w z r.fits refl refl (refl, refl, refl) (wakes-by x w (omega arith) (λ o. o) (λ _ _ f. f))
+    sees_limit = let w : View = having_found_limit z me.0 in third_word w z r.fits refl refl (refl, refl, refl, λ _ f. f) (wakes-by x w (omega arith) (λ o. o) (λ _ _ f. f))
 
     pub raises_by : (k n : ℕ) → n < 2 ^ 64 → z + k ≡ n → R (stepped s 2 n id me.1 (having_raised k me.0) keeps)
-    raises_by k n fits more = let w : View = having_raised k me.0 in third_word w n fits (omega arith) (omega arith) (refl, refl, refl) (wakes-by x w (omega arith) (λ o. o) (λ _ _ f. f))
+    raises_by k n fits more = let w : View = having_raised k me.0 in third_word w n fits (omega arith) (omega arith) (refl, refl, refl, λ _ f. f) (wakes-by x w (omega arith) (λ o. o) (λ _ _ f. f))
 
     pub lowers_by : (k n : ℕ) → n < 2 ^ 64 → k ≤ me.0.permits → n + k ≡ z → R (stepped s 2 n id me.1 (having_lowered k me.0) keeps)
-    lowers_by k n fits has less = let w : View = having_lowered k me.0 in third_word w n fits (omega arith) (omega arith) (refl, refl, refl) (wakes-by x w (omega arith) (λ o. o) (λ _ _ f. f))
+    lowers_by k n fits has less = let w : View = having_lowered k me.0 in third_word w n fits (omega arith) (omega arith) (refl, refl, refl, λ _ f. f) (wakes-by x w (omega arith) (λ o. o) (λ _ _ f. f))
 
     -- ---- on the list
     -- who has the list out stays
     at_list : (n : ℕ) (w : View) → n % 2 ≡ y % 2 → (SaysEmpty n → SaysEmpty y) → Leaves w → Counts w → LosesNone (after w) x r.waiters r.marked → R (stepped s 1 n id me.1 w keeps)
     at_list n w parity below left counts wakes = let outs = same_out w left.0 in let one = r.one_out in let odd = r.is_out in
-        list_word w n keeps r.waiters r.marked counts (omega arith) (omega arith) r.sound wakes (λ low. r.unlisted (below low)) (λ absent. r.home (sym outs ∙ absent)) (out_set w left)
+        list_word w n keeps r.waiters r.marked counts (omega arith) (omega arith) r.sound (stand-still w left) wakes (λ low. r.unlisted (below low)) (λ absent. r.home (sym outs ∙ absent)) (out_set w left)
 
     pub peeked : R (stepped s 1 y id me.1 (peeking y me.0) keeps)
-    peeked = let w : View = peeking y me.0 in at_list y w refl (λ low. low) (refl, refl, refl) (refl, refl, refl, refl)
+    peeked = let w : View = peeking y me.0 in at_list y w refl (λ low. low) (refl, refl, refl, λ _ f. f) (refl, refl, refl, refl)
         (dite (dec_le 4 (y % 8)) (λ many. wakes-by x w (omega arith) (λ o. (many-owes (y % 8) me.0.owes many ∙ o.0, o.1)) (λ _ _ f. f))
         (λ few. inr (inr (λ e stands _. nobody-stands r.waiters e (r.unlisted (lt_of_not-le few)) stands))))
 
     -- the list's lock is taken by another
     pub busy : (n : ℕ) → n % 2 ≡ y % 2 → (SaysEmpty n → SaysEmpty y) → R (stepped s 1 n id me.1 me.0 keeps)
-    busy n parity below = at_list n me.0 parity below (refl, refl, refl) (refl, refl, refl, refl) still-wakes
+    busy n parity below = at_list n me.0 parity below (refl, refl, refl, λ _ f. f) (refl, refl, refl, refl) still-wakes
 
     lies : y % 2 ≡ 0 → (list : S) × (get_elem? s.homes 0 ≡ some (some list)) × (waiters_of list ≡ r.waiters) × (marked_of list ≡ r.marked)
     lies even = r.home (sym r.is_out ∙ even)
@@ -248,7 +259,7 @@ module _ (S : Type 0) (waiters_of : S → List Waiter) (marked_of : S → ℕ) (
         let one : number has_list_out (after w) ≡ 1 = omega arith in (
           h.0,
           h.1,
-          list_word w n (takes 0 h.0) r.waiters r.marked (refl, refl, refl, refl) (omega arith) (omega arith) r.sound (wakes-by x w (omega arith) (λ o. o) (λ _ _ f. f)) (λ low. r.unlisted (below low)) (λ absent. absurd (omega arith))
+          list_word w n (takes 0 h.0) r.waiters r.marked (refl, refl, refl, refl) (omega arith) (omega arith) r.sound (stand-by r.waiters w (λ e stands. (stands, λ f. f))) (wakes-by x w (omega arith) (λ o. o) (λ _ _ f. f)) (λ low. r.unlisted (below low)) (λ absent. absurd (omega arith))
               (λ i v e has. ⊎_elim (λ here. subst (λ (u : View). (u.waiters ≡ r.waiters) × (u.marked ≡ r.marked)) here.1 (h.2, h.3))
               (λ else. let n = number-at has_list_out s.views i v else.1 in let q : weight (has_list_out v) ≡ 1 = ap weight has in absurd (omega arith)) (at_set s.views id i w v e)),
           subst IsSound (sym h.2) r.sound,
@@ -256,12 +267,12 @@ module _ (S : Type 0) (waiters_of : S → List Waiter) (marked_of : S → ℕ) (
 
     -- the seat gives the list back, and has this view then
     module _ (list : S) (n : ℕ) (lists : me.0.has_list ≡ true) (has : me.1 ≡ (0, list) ∷ rest me.1) (wide : 0 < length s.homes) (says : Says (waiters_of list) n) where
-      returned : (w : View) → w.has_list ≡ false → Counts w → IsSound (waiters_of list) → LosesNone (after w) x (waiters_of list) (marked_of list) → R (stepped s 1 n id me.1 w gives)
-      returned w off counts sound wakes =
+      returned : (w : View) → w.has_list ≡ false → Counts w → IsSound (waiters_of list) → AreOfSeats (after w) (waiters_of list) → LosesNone (after w) x (waiters_of list) (marked_of list) → R (stepped s 1 n id me.1 w gives)
+      returned w off counts sound standing wakes =
           let c = number-set has_list_out s.views id me.0 w at in let c' : weight (has_list_out w) ≡ 0 = ap weight off in let l : weight (has_list_out me.0) ≡ 1 = ap weight lists in
           let one = r.one_out in let four = says.0 in
           let nobody : number has_list_out (after w) ≡ 0 = omega arith in
-          list_word w n gives (waiters_of list) (marked_of list) counts (omega arith) (omega arith) sound wakes says.1
+          list_word w n gives (waiters_of list) (marked_of list) counts (omega arith) (omega arith) sound standing wakes says.1
           (λ _. (list, subst (λ (t : List (ℕ × S)). get_elem? (put_back s.homes t) 0 ≡ some (some list)) (sym has) (set_here s.homes 0 (some list) wide), refl, refl))
           (λ i v e is. let m = number-at has_list_out (after w) i v e in let q : weight (has_list_out v) ≡ 1 = ap weight is in absurd (omega arith))
 
@@ -272,36 +283,52 @@ module _ (S : Type 0) (waiters_of : S → List Waiter) (marked_of : S → ℕ) (
       stood : (l : List Waiter) → l ≡ me.0.waiters → (e : Waiter) → StandsIn l e → StandsIn r.waiters e
       stood l same e = subst (λ (m : List Waiter). StandsIn m e) (same ∙ known.0)
 
+      -- each stood in the list when it was taken out
+      knew : (e : Waiter) → StandsIn me.0.waiters e → StandsIn r.waiters e
+      knew e = subst (λ (m : List Waiter). StandsIn m e) known.0
+
+      -- the seat's own entry has left
+      left-alone : LeftBy me.0.entry me.0.waiters (waiters_of list) → (w : View) → AreOfSeats (after w) (waiters_of list)
+      left-alone others w = stand-by (waiters_of list) w (λ e stands. let o = others e stands in (knew e o.0, λ f. absurd (o.1 (sym f.1))))
+
+      -- nobody has joined or left
+      unmoved : (w : View) → ((e : Waiter) → IsEntryOf e me.0 → IsEntryOf e w) → waiters_of list ≡ me.0.waiters → AreOfSeats (after w) (waiters_of list)
+      unmoved w own same = stand-by (waiters_of list) w (λ e stands. (stood (waiters_of list) same e stands, own e))
+
       -- its entry has joined: it has not looked yet
       pub joins : (j : Waiter) → waiters_of list ≡ me.0.waiters ++ j ∷ [] → marked_of list ≡ me.0.marked → HasNo j.entry me.0.waiters → 0 < j.weight → me.0.listed ≡ false → R (stepped s 1 n id me.1 (joined_of j me.0) gives)
       joins j longer same absent counts away = let w : View = joined_of j me.0 in
           returned w refl (refl, refl, refl, refl) (subst IsSound (sym longer) (sound-snoc me.0.waiters j (subst IsSound (sym known.0) r.sound) absent counts))
+          (λ e stands. ⊎_elim
+          (λ old. some-set (IsEntryOf e) (IsEntryOf e) s.views id me.0 w at (λ f. never (sym away ∙ f.0)) (λ u f. f) (r.standing e (knew e old)))
+          (λ new. some-mine (IsEntryOf e) s.views id me.0 w at (refl, ap (λ (u : Waiter). u.entry) new, ap (λ (u : Waiter). u.weight) new))
+          (stands-snoc me.0.waiters j e (subst (λ (m : List Waiter). StandsIn m e) longer stands)))
           (⊎_elim (λ m. inl (let k = known.1 in omega arith))
           (λ more. inr (⊎_elim
           (λ k. inl (some-set (OwesOf x) (OwesOf x) s.views id me.0 w at (λ o. (o.0, inl refl)) (λ u o. o) k))
           (λ each. inr (λ e stands few. ⊎_elim
-          (λ old. some-set (IsFreshIn e) (IsFreshIn e) s.views id me.0 w at (λ f. never (sym away ∙ f.0)) (λ u f. f) (each e (subst (λ (m : List Waiter). StandsIn m e) known.0 old) few))
-          (λ new. some-mine (IsFreshIn e) s.views id me.0 w at (refl, refl, ap (λ (u : Waiter). u.entry) new, ap (λ (u : Waiter). u.weight) new))
+          (λ old. some-set (IsFreshIn e) (IsFreshIn e) s.views id me.0 w at (λ f. never (sym away ∙ f.0.0)) (λ u f. f) (each e (knew e old) few))
+          (λ new. some-mine (IsFreshIn e) s.views id me.0 w at ((refl, ap (λ (u : Waiter). u.entry) new, ap (λ (u : Waiter). u.weight) new), refl))
           (stands-snoc me.0.waiters j e (subst (λ (m : List Waiter). StandsIn m e) longer stands)))) more)) r.wakes)
 
       -- its entry was notified, and has left: it owes
-      pub hears : IsSound (waiters_of list) → R (stepped s 1 n id me.1 (told_of me.0) gives)
-      hears sound = let w : View = told_of me.0 in returned w refl (refl, refl, refl, refl) sound (wakes-owing x (waiters_of list) (marked_of list) w (refl, inl refl))
+      pub hears : IsSound (waiters_of list) → LeftBy me.0.entry me.0.waiters (waiters_of list) → R (stepped s 1 n id me.1 (told_of me.0) gives)
+      hears sound others = let w : View = told_of me.0 in returned w refl (refl, refl, refl, refl) sound (left-alone others w) (wakes-owing x (waiters_of list) (marked_of list) w (refl, inl refl))
 
       -- its entry has left
-      pub leaves : IsSound (waiters_of list) → ((e : Waiter) → StandsIn (waiters_of list) e → StandsIn me.0.waiters e × (e.entry ≢ me.0.entry)) → marked_of list ≡ me.0.marked → R (stepped s 1 n id me.1 (gone_of me.0) gives)
+      pub leaves : IsSound (waiters_of list) → LeftBy me.0.entry me.0.waiters (waiters_of list) → marked_of list ≡ me.0.marked → R (stepped s 1 n id me.1 (gone_of me.0) gives)
       leaves sound others same = let w : View = gone_of me.0 in
-          returned w refl (refl, refl, refl, refl) sound
+          returned w refl (refl, refl, refl, refl) sound (left-alone others w)
           (⊎_elim (λ m. inl (let k = known.1 in omega arith))
           (λ more. inr (⊎_elim
           (λ k. inl (some-set (OwesOf x) (OwesOf x) s.views id me.0 w at (λ o. o) (λ u o. o) k))
           (λ each. inr (λ e stands few. let o = others e stands in
-          some-set (IsFreshIn e) (IsFreshIn e) s.views id me.0 w at (λ f. absurd (o.1 (sym f.2))) (λ u f. f) (each e (subst (λ (m : List Waiter). StandsIn m e) known.0 o.0) few))) more)) r.wakes)
+          some-set (IsFreshIn e) (IsFreshIn e) s.views id me.0 w at (λ f. absurd (o.1 (sym f.0.1))) (λ u f. f) (each e (knew e o.0) few))) more)) r.wakes)
 
       -- it has notified of as many as it saw
       pub pays : waiters_of list ≡ me.0.waiters → me.0.marked ≤ marked_of list → ((e : Waiter) → StandsIn (waiters_of list) e → e.weight ≤ me.0.found → 1 ≤ marked_of list) → me.0.seen ≡ true → R (stepped s 1 n id me.1 (paid_of me.0) gives)
       pays same more fits seen = let w : View = paid_of me.0 in
-          returned w refl (refl, refl, refl, refl) (subst IsSound (sym (same ∙ known.0)) r.sound)
+          returned w refl (refl, refl, refl, refl) (subst IsSound (sym (same ∙ known.0)) r.sound) (unmoved w (λ _ f. f) same)
           (dite (dec_le 1 (marked_of list)) (λ m. inl m)
           (λ none. inr (⊎_elim (λ m. absurd (none (let k = known.1 in omega arith)))
           (λ rest. ⊎_elim
@@ -315,7 +342,7 @@ module _ (S : Type 0) (waiters_of : S → List Waiter) (marked_of : S → ℕ) (
       -- nothing has changed
       pub stays : waiters_of list ≡ me.0.waiters → marked_of list ≡ me.0.marked → R (stepped s 1 n id me.1 (back me.0) gives)
       stays same marks = let w : View = back me.0 in
-          returned w refl (refl, refl, refl, refl) (subst IsSound (sym (same ∙ known.0)) r.sound)
+          returned w refl (refl, refl, refl, refl) (subst IsSound (sym (same ∙ known.0)) r.sound) (unmoved w (λ _ f. f) same)
           (subst (λ (l : List Waiter). LosesNone (after w) x l (marked_of list)) (sym (same ∙ known.0)) (subst (λ (m : ℕ). LosesNone (after w) x r.waiters m) (sym (marks ∙ known.1)) (wakes-by x w (omega arith) (λ o. o) (λ _ _ f. f))))
 
   -- ---- the steps
@@ -371,12 +398,12 @@ module _ (S : Type 0) (waiters_of : S → List Waiter) (marked_of : S → ℕ) (
       ap (λ (u : Waiter). (joined_of u me.0, rest me.1)) (sym (newest-is waiters_of marked_of me new w c)),
     )
 
-    pub gives-told : (new : ℕ) → CanHear waiters_of marked_of me new → 0 < slots → Allows R slots id me 1 (λ _. new) (λ _ m'. m' ≡ (told_of me.0, rest me.1))
-    gives-told new c wide s r len at _ = (told_of me.0, gives, tt, hears s id me r at c.0 new c.1.0 c.1.1 (subst (λ (z : ℕ). 0 < z) (sym len) wide) c.1.2 c.2, refl)
+    pub gives-told : (new : ℕ) → CanHear waiters_of marked_of me new me.0.entry → 0 < slots → Allows R slots id me 1 (λ _. new) (λ _ m'. m' ≡ (told_of me.0, rest me.1))
+    gives-told new c wide s r len at _ = (told_of me.0, gives, tt, hears s id me r at c.0 new c.1.0 c.1.1 (subst (λ (z : ℕ). 0 < z) (sym len) wide) c.1.2 c.2 c.3, refl)
 
-    pub gives-gone : (new entry : ℕ) → CanLeave waiters_of marked_of me new entry → me.0.entry ≡ entry → 0 < slots → Allows R slots id me 1 (λ _. new) (λ _ m'. m' ≡ (gone_of me.0, rest me.1))
-    gives-gone new entry c own wide s r len at _ =
-        (gone_of me.0, gives, tt, leaves s id me r at c.0 new c.1.0 c.1.1 (subst (λ (z : ℕ). 0 < z) (sym len) wide) c.1.2 c.2 (λ w stands. let o = c.3 w stands in (o.0, λ same. o.1 (same ∙ own))) c.4, refl)
+    pub gives-gone : (new : ℕ) → CanLeave waiters_of marked_of me new me.0.entry → 0 < slots → Allows R slots id me 1 (λ _. new) (λ _ m'. m' ≡ (gone_of me.0, rest me.1))
+    gives-gone new c wide s r len at _ =
+        (gone_of me.0, gives, tt, leaves s id me r at c.0 new c.1.0 c.1.1 (subst (λ (z : ℕ). 0 < z) (sym len) wide) c.1.2 c.2 c.3 c.4, refl)
 
     pub gives-paid : (new available : ℕ) → CanPay waiters_of marked_of me new available → available ≡ me.0.found → 0 < slots → me.0.seen ≡ true → Allows R slots id me 1 (λ _. new) (λ _ m'. m' ≡ (paid_of me.0, rest me.1))
     gives-paid new available c found wide seen s r len at _ =
@@ -400,6 +427,7 @@ module _ (S : Type 0) (waiters_of : S → List Waiter) (marked_of : S → ℕ) (
         waiters = r.waiters;
         marked = r.marked;
         sound = r.sound;
+        standing = λ e stands. some-snoc (IsEntryOf e) s.views w (r.standing e stands);
         wakes = ⊎_elim (λ m. inl m) (λ more. inr (⊎_elim (λ k. inl (some-snoc (OwesOf (get_or s.words 0 0)) s.views w k)) (λ each. inr (λ e stands few. some-snoc (IsFreshIn e) s.views w (each e stands few))) more)) r.wakes;
         unlisted = r.unlisted;
         home = λ absent. r.home (sym outs ∙ absent);

@@ -2,7 +2,7 @@
 use Rattle.std.proofs.Common.{◌≡◌, ℕ, ◌<◌, ◌≤◌, true, List, sym, ◌∙◌, subst, arith, ◌⊎◌, inl, inr, ⊎_elim}
 use Rattle.atomic_table.specs.Table.{State}
 use Rattle.words_mutex.proofs.Flags.{never, number-no}
-use Rattle.words_permits.specs.Rule.{has_list_out, SomeSeat, IsFreshIn, Ruled}
+use Rattle.words_permits.specs.Rule.{has_list_out, SomeSeat, IsFreshIn, AreOfSeats, Ruled}
 use Rattle.words_permits.specs.Laws.{available, IsListHome, Lies, IsAtRest}
 use Rattle.words_permits.specs.Waiters.{Waiter, StandsIn}
 use Rattle.words_permits.specs.declared.view.View.{View}
@@ -25,3 +25,6 @@ module _ {S : Type 0} (waiters_of : S → List Waiter) (marked_of : S → ℕ) (
             (λ more. ⊎_elim (λ o. never (sym (rest o.0 o.1 o.2).0 ∙ o.3.0))
             (λ each. let o = each w (subst (λ (l : List Waiter). StandsIn l w) h.2 stands) few in never (sym (rest o.0 o.1 o.2).1 ∙ o.3.1)) more) r.wakes,
       )
+
+  pub standing : IsListHome s → (list : S) × Lies s list × AreOfSeats s.views (waiters_of list)
+  standing even = let h = r.home (sym r.is_out ∙ even) in (h.0, h.1, subst (AreOfSeats s.views) (sym h.2) r.standing)

@@ -30,13 +30,21 @@ SaysEmpty word = word % 8 < 4
 abbrev pub OwesOf : ℕ → View → Type 0
 OwesOf available v = (v.owes ≡ true) × ((v.seen ≡ false) ⊎ (available ≤ v.found))
 
+-- The seat stands in the list, and this is its entry.
+abbrev pub IsEntryOf : Waiter → View → Type 0
+IsEntryOf w v = (v.listed ≡ true) × (v.entry ≡ w.entry) × (v.weight ≡ w.weight)
+
 -- The seat has this entry, and no look of it has found too few since it joined.
 abbrev pub IsFreshIn : Waiter → View → Type 0
-IsFreshIn w v = (v.listed ≡ true) × (v.fresh ≡ true) × (v.entry ≡ w.entry) × (v.weight ≡ w.weight)
+IsFreshIn w v = IsEntryOf w v × (v.fresh ≡ true)
 
 module _ (views : List View) where
   abbrev pub SomeSeat : (View → Type 0) → Type 0
   SomeSeat P = (i : ℕ) × (v : View) × (get_elem? views i ≡ some v) × P v
+
+  -- Each of these entries is of a seat that stands in the list.
+  abbrev pub AreOfSeats : List Waiter → Type 0
+  AreOfSeats waiters = (w : Waiter) → StandsIn waiters w → SomeSeat (IsEntryOf w)
 
   -- No wake-up is lost, where so many permits are available, these stand in the list and so many of them are notified: one is notified, or a
   -- seat owes a notification of as many permits as are available, or whoever these are enough for has joined and found no fewer since.
@@ -59,6 +67,8 @@ pub record Ruled {S : Type 0} (waiters_of : S → List Waiter) (marked_of : S �
   pub waiters : List Waiter
   pub marked : ℕ
   pub sound : IsSound waiters
+  -- each entry of the list, notified or not, is of a seat that stands in it
+  pub standing : AreOfSeats s.views waiters
   pub wakes : LosesNone s.views (slice_index s.words 0) waiters marked
   pub unlisted : SaysEmpty (slice_index s.words 1) → waiters ≡ []
   pub home : number has_list_out s.views ≡ 0 → (list : S) × (get_elem? s.homes 0 ≡ some (some list)) × (waiters_of list ≡ waiters) × (marked_of list ≡ marked)

@@ -3,7 +3,7 @@ use Rattle.std.specs.Prelude.{◌≡◌, ◌≢◌, ℕ, ◌%◌, ◌+◌, ◌-�
 use Rattle.atomic_table.specs.Table.{Me, Step, rest}
 use Rattle.words_permits.specs.Rule.{SaysEmpty}
 use Rattle.words_permits.specs.Seats.{having_taken, having_given, having_given_new, having_raised, listing_of}
-use Rattle.words_permits.specs.Waiters.{Waiter, waiter, StandsIn, last_or, HasNo, IsSound}
+use Rattle.words_permits.specs.Waiters.{Waiter, waiter, StandsIn, last_or, HasNo, LeftBy, IsSound}
 use Rattle.words_permits.specs.declared.view.View.{View}
 
 -- From the word expected: the permits are those that the word is lower by.
@@ -55,16 +55,11 @@ module _ {S : Type 0} (waiters_of : S → List Waiter) (marked_of : S → ℕ) (
   abbrev pub CanJoin : Waiter → Type 0
   CanJoin w = (list : S) × Has list × (waiters_of list ≡ m.0.waiters ++ w ∷ []) × (marked_of list ≡ m.0.marked) × HasNo w.entry m.0.waiters × (0 < w.weight)
 
-  abbrev pub CanHear : Type 0
-  CanHear = (list : S) × Has list × IsSound (waiters_of list)
+  abbrev pub CanHear : ℕ → Type 0
+  CanHear entry = (list : S) × Has list × IsSound (waiters_of list) × LeftBy entry m.0.waiters (waiters_of list)
 
   abbrev pub CanLeave : ℕ → Type 0
-  CanLeave entry =
-      (list : S)
-      × Has list
-      × IsSound (waiters_of list)
-      × ((w : Waiter) → StandsIn (waiters_of list) w → StandsIn m.0.waiters w × (w.entry ≢ entry))
-      × (marked_of list ≡ m.0.marked)
+  CanLeave entry = (list : S) × Has list × IsSound (waiters_of list) × LeftBy entry m.0.waiters (waiters_of list) × (marked_of list ≡ m.0.marked)
 
   abbrev pub CanPay : ℕ → Type 0
   CanPay available =

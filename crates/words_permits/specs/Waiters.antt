@@ -1,5 +1,5 @@
 -- Who stands in a semaphore's list.
-use Rattle.std.specs.Prelude.{◌≡◌, ℕ, ◌<◌, ◌≤◌, Bool, ◌==◌, List, [], ◌∷◌, refl}
+use Rattle.std.specs.Prelude.{◌≡◌, ◌≢◌, ℕ, ◌<◌, ◌≤◌, Bool, ◌==◌, List, [], ◌∷◌, refl}
 use Rattle.std.specs.Coded.{Coded, code_by, coded×, coded_ℕ, coded_list}
 use mathlib.Core.Option.{some}
 use lib.ListN.{get_elem?}
@@ -35,6 +35,10 @@ last_or w (x ∷ xs) = last_or x xs
 -- no entry has this number
 abbrev pub HasNo : ℕ → List Waiter → Type 0
 HasNo entry l = number (is_of entry) l ≡ 0
+
+-- whoever stands in the new list stood in the old one, and no entry of this number is left
+abbrev pub LeftBy : ℕ → List Waiter → List Waiter → Type 0
+LeftBy entry old new = (w : Waiter) → StandsIn new w → StandsIn old w × (w.entry ≢ entry)
 
 -- an entry waits for one permit at least, and no two have one number
 abbrev pub IsSound : List Waiter → Type 0

@@ -7,7 +7,7 @@ use Rattle.lock_event.specs.Slots.{has_id}
 use Rattle.async_driver.specs.Tasks.{woken_by}
 use Rattle.async_driver.proofs.Keeping.{unmarked-with_key, listed-with_key}
 use Rattle.semaphore_core.proofs.Keeping.{kept_at-with_key}
-use Rattle.semaphore_core.proofs.Listed.{sound-asked, same-keyed, same-twice}
+use Rattle.semaphore_core.proofs.Listed.{gone-without, gone-unlisted, same-keyed, same-twice}
 use Rattle.lock_queue.proofs.Receiving.{is_kept}
 use Rattle.semaphore_core.proofs.list.ask.Goals as goal
 
@@ -24,10 +24,10 @@ returns-clause-waits c =
     )
 
 pub returns-in-Notified-clause-asked : goal.returns-in-Notified-clause-asked
-returns-in-Notified-clause-asked c = sound-asked c.args.id _ c.args.event.now.entries _ c.ask.result c.ask.ensures.asked
+returns-in-Notified-clause-asked c = gone-without c.args.event.now.entries _ c.args.id c.in-Notified.ensures.asked.1
 
 pub returns-in-Unlisted-clause-asked : goal.returns-in-Unlisted-clause-asked
-returns-in-Unlisted-clause-asked c = sound-asked c.args.id _ c.args.event.now.entries _ c.ask.result c.ask.ensures.asked
+returns-in-Unlisted-clause-asked c = gone-unlisted c.args.event.now.entries _ c.args.id c.in-Unlisted.ensures.asked.0 c.in-Unlisted.ensures.asked.1
 
 pub returns-clause-asked : goal.returns-clause-asked
 returns-clause-asked c = same-twice c.args.event.now.entries _ _ (same-keyed c.args.event.now.entries _ c.args.id None c.in-Waiting.ensures.asked.2) (same-keyed _ _ c.args.id c.register.new.slot c.in-Waiting-ask.ensures.asked.2)

@@ -6,4 +6,4 @@ pub slot_mut-list-requires : goal.slot_mut-list-requires
 slot_mut-list-requires c = (c.requires.table, lent queue_waiters queue_marked c.args.inner.now.me c.requires.held)
 
 pub returns-clause-ready : goal.returns-clause-ready
-returns-clause-ready c = asks queue_waiters queue_marked c.args.inner.now.me c.requires.held c.slot_mut-list.result.now c.ask_again-heard.new.self c.says-says.result c.ask_again-heard.result c.slot_mut-list.ensures.value c.says-says.ensures c.ask_again-heard.ensures.asked
+returns-clause-ready c = asks queue_waiters queue_marked c.args.inner.now.me c.requires.held c.args.id.number c.slot_mut-list.result.now c.ask_again-heard.new.self c.says-says.result c.ask_again-heard.result c.slot_mut-list.ensures.value c.says-says.ensures c.ask_again-heard.ensures.asked
