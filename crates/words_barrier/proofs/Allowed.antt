@@ -1,12 +1,12 @@
 -- Each step on the table keeps its rule: as the table asks it of a call.
-use Rattle.std.proofs.Common.{◌≡◌, ℕ, ◌+◌, ◌%◌, ◌<◌, bit_or, lt_of_not-le, false, List, [], ◌∷◌, get_or, sym, refl, ap, ◌∙◌, subst, arith, ⊎_elim, inl, inr}
+use Rattle.std.proofs.Common.{◌≡◌, ℕ, ◌+◌, ◌%◌, ◌<◌, bit_or, lt_of_not-le, false, List, [], ◌∷◌, get_or, sym, refl, ap, ◌∙◌, subst, arith, ⊎_elim, inl, inr, true, ◌≤◌}
 use mathlib.Core.Logic.{dite}
 use native.Mathlib.Decide.{dec_le, ℕ_discrete}
 use Rattle.atomic_table.specs.Table.{State, Me, keeps, takes, gives, rest, Enters, Allows}
 use Rattle.atomic_table.proofs.Lists.{at_snoc}
 use Rattle.words_base.specs.Waiting.{last_of}
 use Rattle.words_base.proofs.Sums.{number-none}
-use Rattle.words_barrier.specs.Rule.{first_view, has_list_out, Owes, WaitsFor, IsEntryOf, Ruled}
+use Rattle.words_barrier.specs.Rule.{first_view, is_listed, has_list_out, Owes, WaitsFor, IsEntryOf, Ruled}
 use Rattle.words_barrier.specs.Seats.{saw_of, counted_of, finished_by, eased_of, listing_of, back, joined_of, gone_of, paid_of}
 use Rattle.words_barrier.specs.Steps.{Looked, Counted, Finished, Peeked, Grabbed, CanJoin, CanLeave, CanPay, CanStay}
 use Rattle.words_barrier.specs.declared.view.View.{View}
@@ -55,8 +55,8 @@ module _ (S : Type 0) (waiting_of entries_of : S → List ℕ) where
         (c.0, c.1.1, ap (λ j. (joined_of j me.0, rest me.1)) (sym c.3)),
       )
 
-      pub given_gone : CanLeave waiting_of entries_of me new → Allows R slots id me 1 (λ _. new) (λ _ m'. m' ≡ (gone_of me.0, rest me.1))
-      given_gone c s r len at _ = (gone_of me.0, gives, tt, leaves S waiting_of entries_of s id me r at c.0 new c.1.0 c.1.1 (subst (λ (z : ℕ). 0 < z) (sym len) wide) c.1.2 c.1.3 c.2 c.3, refl)
+      pub given_gone : CanLeave waiting_of entries_of me new → me.0.listed ≡ true → Allows R slots id me 1 (λ _. new) (λ _ m'. m' ≡ (gone_of me.0, rest me.1))
+      given_gone c was s r len at _ = (gone_of me.0, gives, tt, leaves S waiting_of entries_of s id me r at c.0 new c.1.0 c.1.1 (subst (λ (z : ℕ). 0 < z) (sym len) wide) c.1.2 c.1.3 c.2 c.3 c.4 was, refl)
 
       pub given_paid : CanPay waiting_of entries_of me new → Allows R slots id me 1 (λ _. new) (λ _ m'. m' ≡ (paid_of me.0, rest me.1))
       given_paid c s r len at _ = (paid_of me.0, gives, tt, pays S waiting_of entries_of s id me r at c.0 new c.1.0 c.1.1 (subst (λ (z : ℕ). 0 < z) (sym len) wide) c.1.2 c.1.3 c.2 c.3, refl)
@@ -76,6 +76,7 @@ module _ (S : Type 0) (waiting_of entries_of : S → List ℕ) where
           waiting = r.waiting;
           entries = r.entries;
           standing = λ k h. some-longer (IsEntryOf k) s.views w (r.standing k h);
+          placed = (let d = number-none is_listed s.views w refl in let p = r.placed in omega arith);
           wakes = ⊎_elim (λ c. inl (some-longer Owes s.views w c)) (λ all. inr (λ k h. some-longer (WaitsFor n k) s.views w (all k h))) r.wakes;
           unlisted = r.unlisted;
           home = λ absent. r.home (sym o ∙ absent);

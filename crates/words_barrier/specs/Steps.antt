@@ -1,5 +1,5 @@
 -- What steps tell, and what a seat has that has the list out.
-use Rattle.std.specs.Prelude.{◌≡◌, ℕ, ◌+◌, ◌%◌, ◌<◌, ◌≤◌, true, List, [], ◌∷◌}
+use Rattle.std.specs.Prelude.{◌≡◌, ℕ, ◌+◌, ◌%◌, ◌<◌, ◌≤◌, true, List, [], ◌∷◌, ◌++◌, length}
 use Rattle.atomic_table.specs.Table.{Me, rest}
 use Rattle.words_base.specs.Waiting.{NoneWaits, Fewer, JoinedBy, LeftBy, last_of}
 use Rattle.words_barrier.specs.Rule.{SaysEmpty}
@@ -44,16 +44,16 @@ module _ {S : Type 0} (waiting_of entries_of : S → List ℕ) (m : Me S View) (
 
   -- One has joined.
   abbrev pub CanJoin : ℕ → Type 0
-  CanJoin k = (list : S) × Out list × JoinedBy k m.0.waiting (waiting_of list) × (last_of (waiting_of list) ≡ k) × JoinedBy k m.0.entries (entries_of list)
+  CanJoin k = (list : S) × Out list × JoinedBy k m.0.waiting (waiting_of list) × (last_of (waiting_of list) ≡ k) × (entries_of list ≡ m.0.entries ++ k ∷ [])
 
   -- The seat's entry has left.
   abbrev pub CanLeave : Type 0
-  CanLeave = (list : S) × Out list × LeftBy m.0.entry m.0.waiting (waiting_of list) × LeftBy m.0.entry m.0.entries (entries_of list)
+  CanLeave = (list : S) × Out list × LeftBy m.0.entry m.0.waiting (waiting_of list) × LeftBy m.0.entry m.0.entries (entries_of list) × (length m.0.entries ≤ length (entries_of list) + 1)
 
   -- All are notified.
   abbrev pub CanPay : Type 0
-  CanPay = (list : S) × Out list × NoneWaits (waiting_of list) × Fewer m.0.entries (entries_of list)
+  CanPay = (list : S) × Out list × NoneWaits (waiting_of list) × (entries_of list ≡ m.0.entries)
 
   -- Nobody waits that didn't before.
   abbrev pub CanStay : Type 0
-  CanStay = (list : S) × Out list × Fewer m.0.waiting (waiting_of list) × Fewer m.0.entries (entries_of list)
+  CanStay = (list : S) × Out list × Fewer m.0.waiting (waiting_of list) × (entries_of list ≡ m.0.entries)

@@ -1,6 +1,6 @@
 //! The single steps on the table.
 
-ghost use Rattle.std.specs.Prelude.{◌≡◌, ◌≢◌, ◌<◌, ◌%◌, false};
+ghost use Rattle.std.specs.Prelude.{◌≡◌, ◌≢◌, ◌<◌, ◌%◌, false, true};
 ghost use Rattle.atomic_table.specs.Table.{rest};
 ghost use Rattle.words_barrier.specs.Seats.{finished_by, joined_of, gone_of, paid_of, back};
 ghost use Rattle.words_barrier.specs.Steps.{Looked, Counted, Peeked, IsHeld, IsSame, CanJoin, CanLeave, CanPay, CanStay};
@@ -124,6 +124,7 @@ pub fn give_joined<S: Content, N: Numbered>(
 pub fn give_gone<S: Content>(shared: &Ruled<S>, inner: &mut TableSeat<S, View>, new: u64) -> u64
     requires table { (inner.old.table_id ≡ shared.now.table_id) × (shared.now.table_id.words ≡ 2) × (shared.now.table_id.slots ≡ 1) }
     requires list { CanLeave S.waiting S.entries inner.old.me new }
+    requires stands { inner.old.me.0.listed ≡ true }
     ensures table { inner.new.table_id ≡ inner.old.table_id }
     ensures step { inner.new.me ≡ (gone_of inner.old.me.0, rest inner.old.me.1) }
 {

@@ -1,5 +1,5 @@
 -- Seats of which something is so, as one of them changes; and who stands in a list.
-use Rattle.std.proofs.Common.{◌≡◌, ℕ, zero, suc, ◌<◌, ◌≤◌, ◌⊎◌, inl, inr, ⊎_elim, Bool, true, false, List, [], ◌∷◌, ◌++◌, set, sym, refl, ap, ◌∙◌, subst, arith, ne_eqb}
+use Rattle.std.proofs.Common.{◌≡◌, ℕ, zero, suc, ◌<◌, ◌≤◌, ◌⊎◌, inl, inr, ⊎_elim, Bool, true, false, List, [], ◌∷◌, ◌++◌, set, sym, refl, ap, ◌∙◌, subst, arith, ne_eqb, length, ◌+◌}
 use mathlib.Core.Option.{some, some-injective, some-ne-none}
 use mathlib.Core.Logic.{dite}
 use native.Mathlib.Decide.{ℕ_discrete}
@@ -54,3 +54,7 @@ sound-snoc l w sound absent counts = (
       (λ same. let z : number (is_of n) l ≡ 0 = subst (λ (m : ℕ). number (is_of m) l ≡ 0) same absent in omega arith)
       (λ ne. let z : weight (is_of n w) ≡ 0 = ap weight (ne_eqb w.entry n ne) in omega arith),
 )
+
+pub length-snoc : (l : List Waiter) (w : Waiter) → length (l ++ w ∷ []) ≡ length l + 1
+length-snoc [] w = refl
+length-snoc (x ∷ xs) w = let r = length-snoc xs w in omega arith

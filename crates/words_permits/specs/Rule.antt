@@ -19,6 +19,9 @@ added_of v = v.added
 abbrev pub forgotten_of : View → ℕ
 forgotten_of v = v.forgotten
 
+abbrev pub is_listed : View → Bool
+is_listed v = v.listed
+
 abbrev pub has_list_out : View → Bool
 has_list_out v = v.has_list
 
@@ -69,6 +72,8 @@ pub record Ruled {S : Type 0} (waiters_of : S → List Waiter) (marked_of : S �
   pub sound : IsSound waiters
   -- each entry of the list, notified or not, is of a seat that stands in it
   pub standing : AreOfSeats s.views waiters
+  -- and no more seats stand in it than it has entries
+  pub placed : number is_listed s.views ≤ length waiters
   pub wakes : LosesNone s.views (slice_index s.words 0) waiters marked
   pub unlisted : SaysEmpty (slice_index s.words 1) → waiters ≡ []
   pub home : number has_list_out s.views ≡ 0 → (list : S) × (get_elem? s.homes 0 ≡ some (some list)) × (waiters_of list ≡ waiters) × (marked_of list ≡ marked)

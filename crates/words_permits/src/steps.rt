@@ -176,6 +176,7 @@ pub fn give_joined<S: Content>(shared: &Ruled<S>, inner: &mut TableSeat<S, View>
 pub fn give_told<S: Content>(shared: &Ruled<S>, inner: &mut TableSeat<S, View>, new: u64) -> u64
     requires table { (inner.old.table_id ≡ shared.now.table_id) × (shared.now.table_id.words ≡ 3) × (shared.now.table_id.slots ≡ 1) }
     requires list { CanHear S.waiters S.marked inner.old.me new inner.old.me.0.entry }
+    requires stands { inner.old.me.0.listed ≡ true }
     ensures table { inner.new.table_id ≡ inner.old.table_id }
     ensures step { inner.new.me ≡ (told_of inner.old.me.0, rest inner.old.me.1) }
 {
@@ -187,6 +188,7 @@ pub fn give_told<S: Content>(shared: &Ruled<S>, inner: &mut TableSeat<S, View>, 
 pub fn give_gone<S: Content>(shared: &Ruled<S>, inner: &mut TableSeat<S, View>, new: u64) -> u64
     requires table { (inner.old.table_id ≡ shared.now.table_id) × (shared.now.table_id.words ≡ 3) × (shared.now.table_id.slots ≡ 1) }
     requires list { CanLeave S.waiters S.marked inner.old.me new inner.old.me.0.entry }
+    requires stands { inner.old.me.0.listed ≡ true }
     ensures table { inner.new.table_id ≡ inner.old.table_id }
     ensures step { inner.new.me ≡ (gone_of inner.old.me.0, rest inner.old.me.1) }
 {
