@@ -1,22 +1,21 @@
 -- What is known of lists that are about to be given back.
 use Rattle.std.proofs.Common.{◌≡◌, ℕ, List, [], ◌∷◌, refl, sym, ap, ◌∙◌, subst, Result, Ok, Err, IfOk, OnErr, MatchResult, inl}
 use Rattle.atomic_table.specs.Table.{Me, rest}
-use Rattle.words_base.specs.Waiting.{Fewer, LeftBy}
 use Rattle.words_access.specs.Lists.{Listed}
-use Rattle.words_access.specs.Steps.{IsHeld, Out, Stays, Joins, CanJoinReaders, CanJoinWriter, CanHearReader, CanHearWriter, CanLeaveReaders, CanLeaveWriter, CanPayReaders, CanPayWriter, CanStay}
+use Rattle.words_access.specs.Steps.{IsHeld, Out, Stays, Joins, Hears, Goes, Pays, CanJoinReaders, CanJoinWriter, CanHearReader, CanHearWriter, CanLeaveReaders, CanLeaveWriter, CanPayReaders, CanPayWriter, CanStay}
 use Rattle.words_access.specs.declared.view.View.{View}
 use Rattle.lock_queue.specs.Asking.{ByHeard}
 use Rattle.lock_queue.specs.declared.heard.Heard.{Heard}
 use Rattle.lock_queue.specs.declared.heard.Heard.TheVariants.{Told, Waits}
-use Rattle.access_core.specs.Contents.{readers_of, writer_of, Says, IsKept, HasJoined, HasFewer, HasLeft, IsTold}
+use Rattle.access_core.specs.Contents.{readers_of, writer_of, Says, IsKept, HasJoined, HasHeard, HasLeft, IsTold}
 use Rattle.access_core.specs.declared.lists.Lists.{Lists}
 
 -- a list that is as it was
 same_stays : (old new : Listed) → new ≡ old → Stays old new
-same_stays old new is = subst (λ l. Stays old l) (sym is) ((λ n h. h), λ some. inl some)
+same_stays old new is = subst (λ l. Stays old l) (sym is) ((λ n h. h), (λ some. inl some), refl)
 
 kept_stays : (old new : Listed) → IsKept old new → Stays old new
-kept_stays old new k = (k.fewer, k.told)
+kept_stays old new k = (k.fewer, k.told, k.stand)
 
 module _ (m : Me Lists View) (held : IsHeld readers_of writer_of m) where
   -- the slot that the seat took last is the lists'
@@ -65,18 +64,18 @@ module _ (m : Me Lists View) (held : IsHeld readers_of writer_of m) where
 
       pub joined_readers : {A B : Type 0} (number : A → ℕ) (r : Result A B) → IfOk r (λ id. HasJoined (readers_of now) (readers_of left) (number id)) → OnErr r (IsKept (readers_of now) (readers_of left))
           → MatchResult r (λ id. CanJoinReaders readers_of writer_of After n (number id)) (λ _. CanStay readers_of writer_of After n)
-      joined_readers number (Ok id) f g = (left, out, subst (λ l. Joins (number id) l (readers_of left)) readers-now (f.joined, f.last, f.notified), writer_same other)
+      joined_readers number (Ok id) f g = (left, out, subst (λ l. Joins (number id) l (readers_of left)) readers-now (f.joined, f.last, f.notified, f.stand), writer_same other)
       joined_readers number (Err b) f g = stays_readers g
 
-      pub asked_readers : {K : Type 0} (h : Heard K) → ByHeard h (HasFewer (readers_of now) (readers_of left)) (λ _. IsKept (readers_of now) (readers_of left)) → ByHeard h (CanHearReader readers_of writer_of After n) (λ _. CanStay readers_of writer_of After n)
-      asked_readers (Told kept) f = (left, out, subst (λ (l : Listed). Fewer l.waiting (readers_of left).waiting) readers-now f.fewer, writer_same other)
-      asked_readers (Waits k) f = stays_readers f
+      pub asked_readers : {K : Type 0} (k : ℕ) (h : Heard K) → m.0.entry ≡ k → ByHeard h (HasHeard (readers_of now) (readers_of left) k) (λ _. IsKept (readers_of now) (readers_of left)) → ByHeard h (CanHearReader readers_of writer_of After n) (λ _. CanStay readers_of writer_of After n)
+      asked_readers k (Told kept) is f = (left, out, subst (λ j. Hears j m.0.readers (readers_of left)) (sym is) (subst (λ l. Hears k l (readers_of left)) readers-now (f.fewer, f.stand)), writer_same other)
+      asked_readers k (Waits kept) is f = stays_readers f
 
       pub left_readers : (k : ℕ) → HasLeft (readers_of now) (readers_of left) k → m.0.entry ≡ k → CanLeaveReaders readers_of writer_of After n
-      left_readers k f is = (left, out, readers (kept_stays (readers_of now) (readers_of left) f.kept), writer_same other, subst (λ j. LeftBy j m.0.readers.waiting (readers_of left).waiting) (sym is) (subst (λ (l : Listed). LeftBy k l.waiting (readers_of left).waiting) readers-now f.left))
+      left_readers k f is = (left, out, subst (λ j. Goes j m.0.readers (readers_of left)) (sym is) (subst (λ l. Goes k l (readers_of left)) readers-now (f.left, f.told, f.stand)), writer_same other)
 
       pub pays_readers : IsTold (readers_of now) (readers_of left) → CanPayReaders readers_of writer_of After n
-      pays_readers f = (left, out, subst (λ (l : Listed). Fewer l.waiting (readers_of left).waiting) readers-now f.fewer, f.settled, writer_same other)
+      pays_readers f = (left, out, subst (λ l. Pays l (readers_of left)) readers-now (f.fewer, f.settled, f.stand), writer_same other)
 
     module _ (other : readers_of left ≡ readers_of now) where
       pub stays_writer : IsKept (writer_of now) (writer_of left) → CanStay readers_of writer_of After n
@@ -84,15 +83,15 @@ module _ (m : Me Lists View) (held : IsHeld readers_of writer_of m) where
 
       pub joined_writer : {A B : Type 0} (number : A → ℕ) (r : Result A B) → IfOk r (λ id. HasJoined (writer_of now) (writer_of left) (number id)) → OnErr r (IsKept (writer_of now) (writer_of left))
           → MatchResult r (λ id. CanJoinWriter readers_of writer_of After n (number id)) (λ _. CanStay readers_of writer_of After n)
-      joined_writer number (Ok id) f g = (left, out, readers_same other, subst (λ l. Joins (number id) l (writer_of left)) writer-now (f.joined, f.last, f.notified))
+      joined_writer number (Ok id) f g = (left, out, readers_same other, subst (λ l. Joins (number id) l (writer_of left)) writer-now (f.joined, f.last, f.notified, f.stand))
       joined_writer number (Err b) f g = stays_writer g
 
-      pub asked_writer : {K : Type 0} (h : Heard K) → ByHeard h (HasFewer (writer_of now) (writer_of left)) (λ _. IsKept (writer_of now) (writer_of left)) → ByHeard h (CanHearWriter readers_of writer_of After n) (λ _. CanStay readers_of writer_of After n)
-      asked_writer (Told kept) f = (left, out, readers_same other, subst (λ (l : Listed). Fewer l.waiting (writer_of left).waiting) writer-now f.fewer)
-      asked_writer (Waits k) f = stays_writer f
+      pub asked_writer : {K : Type 0} (k : ℕ) (h : Heard K) → m.0.entry ≡ k → ByHeard h (HasHeard (writer_of now) (writer_of left) k) (λ _. IsKept (writer_of now) (writer_of left)) → ByHeard h (CanHearWriter readers_of writer_of After n) (λ _. CanStay readers_of writer_of After n)
+      asked_writer k (Told kept) is f = (left, out, readers_same other, subst (λ j. Hears j m.0.writer (writer_of left)) (sym is) (subst (λ l. Hears k l (writer_of left)) writer-now (f.fewer, f.stand)))
+      asked_writer k (Waits kept) is f = stays_writer f
 
       pub left_writer : (k : ℕ) → HasLeft (writer_of now) (writer_of left) k → m.0.entry ≡ k → CanLeaveWriter readers_of writer_of After n
-      left_writer k f is = (left, out, readers_same other, writer (kept_stays (writer_of now) (writer_of left) f.kept), subst (λ j. LeftBy j m.0.writer.waiting (writer_of left).waiting) (sym is) (subst (λ (l : Listed). LeftBy k l.waiting (writer_of left).waiting) writer-now f.left))
+      left_writer k f is = (left, out, readers_same other, subst (λ j. Goes j m.0.writer (writer_of left)) (sym is) (subst (λ l. Goes k l (writer_of left)) writer-now (f.left, f.told, f.stand)))
 
       pub pays_writer : IsTold (writer_of now) (writer_of left) → CanPayWriter readers_of writer_of After n
-      pays_writer f = (left, out, readers_same other, subst (λ (l : Listed). Fewer l.waiting (writer_of left).waiting) writer-now f.fewer, f.settled)
+      pays_writer f = (left, out, readers_same other, subst (λ l. Pays l (writer_of left)) writer-now (f.fewer, f.settled, f.stand))

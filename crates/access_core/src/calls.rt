@@ -15,24 +15,14 @@ use crate::lists::MOST;
 use crate::seat::Seat;
 use futures::task::Context;
 use lock_event::{EntryId, Memory};
-use lock_queue::{Heard, Whose};
+use lock_queue::{Heard, Joining, Whose};
 use std::sync::Wait;
 use words_access::steps::{
     LIST, NOTIFICATION, give_joined_readers, give_joined_writer, give_left_readers,
     give_left_writer, give_paid_readers, give_paid_writer, give_same, give_told_reader,
     give_told_writer,
 };
-use words_access::{Numbered, take_out, wake_next};
-
-// An entry that has joined, by which the rule names it.
-#[derive(Drop)]
-struct Joining {
-    id: EntryId,
-}
-
-impl Numbered for Joining {
-    ghost number = { λ joining. joining.id.number };
-}
+use words_access::{take_out, wake_next};
 
 /// An entry that has joined with a waker of its task, and the word that its list had then.
 #[derive(Drop)]

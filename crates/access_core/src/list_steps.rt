@@ -78,6 +78,7 @@ pub(crate) fn ask_readers_in(
 ) -> (Heard<Whose>, u64)
     requires table { inner.old.table_id ≡ shared.now.table_id }
     requires held { IsHeld readers_of writer_of inner.old.me }
+    requires entry { inner.old.me.0.entry ≡ id.number }
     ensures seat { (inner.new.table_id ≡ inner.old.table_id) × (inner.new.id ≡ inner.old.id) }
     ensures view { inner.new.me.0 ≡ inner.old.me.0 }
     ensures others { rest inner.new.me.1 ≡ rest inner.old.me.1 }
@@ -99,6 +100,7 @@ pub(crate) fn ask_readers_again_in(
 ) -> (Heard<()>, u64)
     requires table { inner.old.table_id ≡ shared.now.table_id }
     requires held { IsHeld readers_of writer_of inner.old.me }
+    requires entry { inner.old.me.0.entry ≡ id.number }
     ensures seat { (inner.new.table_id ≡ inner.old.table_id) × (inner.new.id ≡ inner.old.id) }
     ensures view { inner.new.me.0 ≡ inner.old.me.0 }
     ensures others { rest inner.new.me.1 ≡ rest inner.old.me.1 }
@@ -196,6 +198,7 @@ pub(crate) fn ask_writer_in(
 ) -> (Heard<Whose>, u64)
     requires table { inner.old.table_id ≡ shared.now.table_id }
     requires held { IsHeld readers_of writer_of inner.old.me }
+    requires entry { inner.old.me.0.entry ≡ id.number }
     ensures seat { (inner.new.table_id ≡ inner.old.table_id) × (inner.new.id ≡ inner.old.id) }
     ensures view { inner.new.me.0 ≡ inner.old.me.0 }
     ensures others { rest inner.new.me.1 ≡ rest inner.old.me.1 }
@@ -217,6 +220,7 @@ pub(crate) fn ask_writer_again_in(
 ) -> (Heard<()>, u64)
     requires table { inner.old.table_id ≡ shared.now.table_id }
     requires held { IsHeld readers_of writer_of inner.old.me }
+    requires entry { inner.old.me.0.entry ≡ id.number }
     ensures seat { (inner.new.table_id ≡ inner.old.table_id) × (inner.new.id ≡ inner.old.id) }
     ensures view { inner.new.me.0 ≡ inner.old.me.0 }
     ensures others { rest inner.new.me.1 ≡ rest inner.old.me.1 }

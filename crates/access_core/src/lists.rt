@@ -1,10 +1,11 @@
 //! What lies in the slot of a lock's table: its two lists.
 
-ghost use Rattle.std.specs.Prelude.{◌≡◌, ◌%◌, [], IfOk, OnErr};
+ghost use Rattle.std.specs.Prelude.{◌≡◌, IfOk, OnErr};
 ghost use Rattle.futures.specs.Task.{Keeps};
+ghost use Rattle.words_access.specs.Lists.{nobody};
 ghost use Rattle.lock_queue.specs.Asking.{ByHeard};
 ghost use Rattle.lock_queue.specs.Receipts.{IsReceipt};
-ghost use Rattle.access_core.specs.Contents.{readers_of, writer_of, Says, IsKept, HasJoined, HasFewer, HasLeft, IsTold};
+ghost use Rattle.access_core.specs.Contents.{readers_of, writer_of, Says, IsKept, HasJoined, HasHeard, HasLeft, IsTold};
 
 use crate::watch::Side;
 use futures::task::{Context, Source, Waker};
@@ -45,7 +46,7 @@ impl Content for Lists {
 impl Lists {
     // Lists that nobody has joined.
     pub(crate) fn new() -> Lists
-        ensures { ((readers_of result).waiting ≡ []) × ((writer_of result).waiting ≡ []) }
+        ensures { (readers_of result ≡ nobody) × (writer_of result ≡ nobody) }
     {
         Lists {
             readers: Queue::new(),
@@ -96,7 +97,7 @@ impl Lists {
         source: &Source,
         cx: &mut Context<'_>,
     ) -> Heard<Whose>
-        ensures asked { ByHeard result (HasFewer (readers_of self.old) (readers_of self.new)) (λ _. IsKept (readers_of self.old) (readers_of self.new)) }
+        ensures asked { ByHeard result (HasHeard (readers_of self.old) (readers_of self.new) id.number) (λ _. IsKept (readers_of self.old) (readers_of self.new)) }
         ensures other { writer_of self.new ≡ writer_of self.old }
         ensures waits { ByHeard result (cx.new ≡ cx.old) (IsReceipt source.now.id cx.new) }
         ensures kept { Keeps cx.old cx.new }
@@ -105,7 +106,7 @@ impl Lists {
     }
 
     pub(crate) fn ask_readers_again(&mut self, id: EntryId) -> Heard<()>
-        ensures asked { ByHeard result (HasFewer (readers_of self.old) (readers_of self.new)) (λ _. IsKept (readers_of self.old) (readers_of self.new)) }
+        ensures asked { ByHeard result (HasHeard (readers_of self.old) (readers_of self.new) id.number) (λ _. IsKept (readers_of self.old) (readers_of self.new)) }
         ensures other { writer_of self.new ≡ writer_of self.old }
     {
         self.readers.ask_again(id)
@@ -154,7 +155,7 @@ impl Lists {
         source: &Source,
         cx: &mut Context<'_>,
     ) -> Heard<Whose>
-        ensures asked { ByHeard result (HasFewer (writer_of self.old) (writer_of self.new)) (λ _. IsKept (writer_of self.old) (writer_of self.new)) }
+        ensures asked { ByHeard result (HasHeard (writer_of self.old) (writer_of self.new) id.number) (λ _. IsKept (writer_of self.old) (writer_of self.new)) }
         ensures other { readers_of self.new ≡ readers_of self.old }
         ensures waits { ByHeard result (cx.new ≡ cx.old) (IsReceipt source.now.id cx.new) }
         ensures kept { Keeps cx.old cx.new }
@@ -163,7 +164,7 @@ impl Lists {
     }
 
     pub(crate) fn ask_writer_again(&mut self, id: EntryId) -> Heard<()>
-        ensures asked { ByHeard result (HasFewer (writer_of self.old) (writer_of self.new)) (λ _. IsKept (writer_of self.old) (writer_of self.new)) }
+        ensures asked { ByHeard result (HasHeard (writer_of self.old) (writer_of self.new) id.number) (λ _. IsKept (writer_of self.old) (writer_of self.new)) }
         ensures other { readers_of self.new ≡ readers_of self.old }
     {
         self.writer.ask_again(id)

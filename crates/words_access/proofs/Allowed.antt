@@ -9,7 +9,7 @@ use Rattle.words_base.specs.Waiting.{last_of}
 use Rattle.words_base.proofs.Sums.{number-none}
 use Rattle.words_base.proofs.Exchanges.{exchanged}
 use Rattle.words_access.specs.Lists.{Listed}
-use Rattle.words_access.specs.Rule.{first_view, marks_of, reads_of, writes_of, has_lists_out, Nested, Ruled, LosesNone}
+use Rattle.words_access.specs.Rule.{first_view, marks_of, reads_of, writes_of, has_lists_out, Nested, Ruled, IsEntryOfReaders, IsEntryOfWriter, LosesNone}
 use Rattle.words_access.specs.Seats.{having_found, saw_writer_of, saw_readers_of, reading_of, left_of, last_left_of, writing_of, marking_of, upgraded_of, down_of, unmarked_of, eased_of, listing_of, back, joined_readers_of, joined_writer_of, told_reader_of, told_writer_of, gone_reader_of, gone_writer_of, paid_readers_of, paid_writer_of}
 use Rattle.words_access.specs.Steps.{Kept, Looked, LookedLeft, Entered, Upgraded, Won, Marked, Left, Peeked, Grabbed, CanJoinReaders, CanJoinWriter, CanHearReader, CanHearWriter, CanLeaveReaders, CanLeaveWriter, CanPayReaders, CanPayWriter, CanStay}
 use Rattle.words_access.specs.declared.view.View.{View}
@@ -107,7 +107,7 @@ module _ (S : Type 0) (readers_of writer_of : S → Listed) where
         joined_readers_of k me.0,
         gives,
         tt,
-        joins_readers S readers_of writer_of s id me r at c.0 new c.1.0 c.1.1 (subst (λ (z : ℕ). 0 < z) (sym len) wide) c.1.2 c.1.3 k c.2.0 c.2.2 c.3 away off,
+        joins_readers S readers_of writer_of s id me r at c.0 new c.1.0 c.1.1 (subst (λ (z : ℕ). 0 < z) (sym len) wide) c.1.2 c.1.3 k c.2 c.3 away off,
         (c.0, c.1.1, ap (λ j. (joined_readers_of j me.0, rest me.1)) (sym c.2.1)),
       )
 
@@ -117,7 +117,7 @@ module _ (S : Type 0) (readers_of writer_of : S → Listed) where
         joined_writer_of k me.0,
         gives,
         tt,
-        joins_writer S readers_of writer_of s id me r at c.0 new c.1.0 c.1.1 (subst (λ (z : ℕ). 0 < z) (sym len) wide) c.1.2 c.1.3 k c.2 c.3.0 c.3.2 away off is,
+        joins_writer S readers_of writer_of s id me r at c.0 new c.1.0 c.1.1 (subst (λ (z : ℕ). 0 < z) (sym len) wide) c.1.2 c.1.3 k c.2 c.3 away off is,
         (c.0, c.1.1, ap (λ j. (joined_writer_of j me.0, rest me.1)) (sym c.3.1)),
       )
 
@@ -128,16 +128,16 @@ module _ (S : Type 0) (readers_of writer_of : S → Listed) where
       given_told_writer c looks s r len at _ = (told_writer_of me.0, gives, tt, hears_writer S readers_of writer_of s id me r at c.0 new c.1.0 c.1.1 (subst (λ (z : ℕ). 0 < z) (sym len) wide) c.1.2 c.1.3 c.2 c.3 looks, refl)
 
       pub given_left_readers : CanLeaveReaders readers_of writer_of me new → me.0.in_writer ≡ false → Allows R slots id me 1 (λ _. new) (λ _ m'. m' ≡ (gone_reader_of me.0, rest me.1))
-      given_left_readers c off s r len at _ = (gone_reader_of me.0, gives, tt, leaves_readers S readers_of writer_of s id me r at c.0 new c.1.0 c.1.1 (subst (λ (z : ℕ). 0 < z) (sym len) wide) c.1.2 c.1.3 c.2 c.3 c.4 off, refl)
+      given_left_readers c off s r len at _ = (gone_reader_of me.0, gives, tt, leaves_readers S readers_of writer_of s id me r at c.0 new c.1.0 c.1.1 (subst (λ (z : ℕ). 0 < z) (sym len) wide) c.1.2 c.1.3 c.2 c.3 off, refl)
 
       pub given_left_writer : CanLeaveWriter readers_of writer_of me new → me.0.in_readers ≡ false → Allows R slots id me 1 (λ _. new) (λ _ m'. m' ≡ (gone_writer_of me.0, rest me.1))
-      given_left_writer c away s r len at _ = (gone_writer_of me.0, gives, tt, leaves_writer S readers_of writer_of s id me r at c.0 new c.1.0 c.1.1 (subst (λ (z : ℕ). 0 < z) (sym len) wide) c.1.2 c.1.3 c.2 c.3 c.4 away, refl)
+      given_left_writer c away s r len at _ = (gone_writer_of me.0, gives, tt, leaves_writer S readers_of writer_of s id me r at c.0 new c.1.0 c.1.1 (subst (λ (z : ℕ). 0 < z) (sym len) wide) c.1.2 c.1.3 c.2 c.3 away, refl)
 
       pub given_paid_readers : CanPayReaders readers_of writer_of me new → Allows R slots id me 1 (λ _. new) (λ _ m'. m' ≡ (paid_readers_of me.0, rest me.1))
-      given_paid_readers c s r len at _ = (paid_readers_of me.0, gives, tt, pays_readers S readers_of writer_of s id me r at c.0 new c.1.0 c.1.1 (subst (λ (z : ℕ). 0 < z) (sym len) wide) c.1.2 c.1.3 c.2 c.3 c.4, refl)
+      given_paid_readers c s r len at _ = (paid_readers_of me.0, gives, tt, pays_readers S readers_of writer_of s id me r at c.0 new c.1.0 c.1.1 (subst (λ (z : ℕ). 0 < z) (sym len) wide) c.1.2 c.1.3 c.2 c.3, refl)
 
       pub given_paid_writer : CanPayWriter readers_of writer_of me new → Allows R slots id me 1 (λ _. new) (λ _ m'. m' ≡ (paid_writer_of me.0, rest me.1))
-      given_paid_writer c s r len at _ = (paid_writer_of me.0, gives, tt, pays_writer S readers_of writer_of s id me r at c.0 new c.1.0 c.1.1 (subst (λ (z : ℕ). 0 < z) (sym len) wide) c.1.2 c.1.3 c.2 c.3 c.4, refl)
+      given_paid_writer c s r len at _ = (paid_writer_of me.0, gives, tt, pays_writer S readers_of writer_of s id me r at c.0 new c.1.0 c.1.1 (subst (λ (z : ℕ). 0 < z) (sym len) wide) c.1.2 c.1.3 c.2 c.3, refl)
 
       pub given_same : CanStay readers_of writer_of me new → Allows R slots id me 1 (λ _. new) (λ _ m'. m' ≡ (back me.0, rest me.1))
       given_same c s r len at _ = (back me.0, gives, tt, remains S readers_of writer_of s id me r at c.0 new c.1.0 c.1.1 (subst (λ (z : ℕ). 0 < z) (sym len) wide) c.1.2 c.1.3 c.2 c.3, refl)
@@ -160,6 +160,8 @@ module _ (S : Type 0) (readers_of writer_of : S → Listed) where
           writer = r.writer;
           clear = λ e. longer _ _ r.readers vs w (r.clear e);
           left = λ e. longer _ _ r.writer vs w (r.left e);
+          standing_readers = λ n h. some-longer (IsEntryOfReaders n) vs w (r.standing_readers n h);
+          standing_writer = λ n h. some-longer (IsEntryOfWriter n) vs w (r.standing_writer n h);
           unlisted = r.unlisted;
           home = λ absent. r.home (sym o ∙ absent);
           out = λ j v e has. ⊎_elim (λ old. r.out j v old has) (λ same. never (ap (λ (u : View). u.has_lists) same ∙ has)) (at_snoc vs w v j e);

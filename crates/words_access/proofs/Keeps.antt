@@ -5,15 +5,16 @@ use lib.ListN.{get_elem?}
 use Rattle.atomic_table.specs.Table.{State, Me, keeps, takes, gives, stepped, put_back, rest, opening}
 use Rattle.atomic_table.proofs.Lists.{set_here, set_else, at_set}
 use Rattle.words_base.specs.Sums.{weight, number}
-use Rattle.words_base.specs.Waiting.{Has, NoneWaits, SomeSeat, Fewer, JoinedBy, LeftBy}
+use Rattle.words_base.specs.Waiting.{Has, NoneWaits, SomeSeat, AreOf, JoinedBy, LeftBy}
 use Rattle.words_base.proofs.Sums.{number-set, number-at}
-use Rattle.words_access.specs.Lists.{Listed}
-use Rattle.words_access.specs.Rule.{first_view, marks_of, reads_of, writes_of, has_lists_out, OwesReaders, TellsWriter, IsFreshReader, IsFreshWriter, LosesNone, Nested, AllNested, IsState, SaysEmpty, Ruled}
+use Rattle.words_access.specs.Lists.{Listed, nobody}
+use Rattle.words_access.specs.Rule.{first_view, marks_of, reads_of, writes_of, has_lists_out, OwesReaders, TellsWriter, IsEntryOfReaders, IsEntryOfWriter, IsFreshReader, IsFreshWriter, LosesNone, Nested, AllNested, IsState, SaysEmpty, Ruled}
 use Rattle.words_access.specs.Laws.{IsSettled}
 use Rattle.words_access.specs.Seats.{having_found, saw_writer_of, saw_readers_of, reading_of, left_of, last_left_of, writing_of, marking_of, upgraded_of, down_of, unmarked_of, eased_of, listing_of, back, joined_readers_of, joined_writer_of, told_reader_of, told_writer_of, gone_reader_of, gone_writer_of, paid_readers_of, paid_writer_of}
-use Rattle.words_access.specs.Steps.{Stays}
+use Rattle.words_access.specs.Steps.{Stays, Joins, Hears, Goes, Pays}
 use Rattle.words_access.specs.declared.view.View.{View}
 use Rattle.words_access.proofs.Flags.{never, count_le, weight_le}
+use Rattle.words_base.proofs.Waiting.{joined_by}
 use Rattle.words_base.proofs.Views.{own, apart, stays, all_stay}
 
 nested_set : (vs : List View) (id : ℕ) (w : View) → AllNested vs → Nested w → AllNested (set vs id w)
@@ -26,7 +27,7 @@ module _ (S : Type 0) (readers_of writer_of : S → Listed) where
   abbrev R : State S View → Type 0
   R = Ruled readers_of writer_of
 
-  module _ (lists : S) (a : (readers_of lists).waiting ≡ []) (p : (writer_of lists).waiting ≡ []) where
+  module _ (lists : S) (a : readers_of lists ≡ nobody) (p : writer_of lists ≡ nobody) where
     nobody_out : (i : ℕ) (v : View) → get_elem? (first_view ∷ []) i ≡ some v → v.has_lists ≡ true → (v.readers ≡ readers_of lists) × (v.writer ≡ writer_of lists)
     nobody_out zero v e is = never (ap (λ (u : View). u.has_lists) (some-injective first_view v e) ∙ is)
     nobody_out (suc i) v e is = absurd (some-ne-none v (sym e))
@@ -44,9 +45,11 @@ module _ (S : Type 0) (readers_of writer_of : S → Listed) where
       list_word = (omega arith, refl);
       readers = readers_of lists;
       writer = writer_of lists;
-      clear = λ _. inr (inr (λ n h. absurd (subst (Has n) a h)));
+      clear = λ _. inr (inr (λ n h. absurd (subst (λ (l : Listed). Has n l.waiting) a h)));
       left = λ e. absurd (omega (arith, e));
-      unlisted = λ _. (a, p);
+      standing_readers = λ n h. absurd (subst (λ (l : Listed). Has n l.entries) a h);
+      standing_writer = λ n h. absurd (subst (λ (l : Listed). Has n l.entries) p h);
+      unlisted = λ _. (ap (λ (l : Listed). l.waiting) a, ap (λ (l : Listed). l.waiting) p);
       home = λ _. (lists, refl, refl, refl);
       out = nobody_out;
     }
@@ -70,9 +73,9 @@ module _ (S : Type 0) (readers_of writer_of : S → Listed) where
     its : (P : View → Type 0) (w : View) → P w → SomeSeat P (after w)
     its = own s.views id me.0 at
 
-    -- what a step on the word 0 leaves of a seat, and what one on the word 1 does
+    -- what a step leaves of a seat while the lists stay where they are, and what one on the word 1 does
     abbrev Leaves : View → Type 0
-    Leaves w = (w.has_lists ≡ me.0.has_lists) × (w.readers ≡ me.0.readers) × (w.writer ≡ me.0.writer)
+    Leaves w = (w.has_lists ≡ me.0.has_lists) × (w.readers ≡ me.0.readers) × (w.writer ≡ me.0.writer) × (w.in_readers ≡ me.0.in_readers) × (w.in_writer ≡ me.0.in_writer) × (w.entry ≡ me.0.entry)
 
     abbrev Does : View → Type 0
     Does w = (w.marks ≡ me.0.marks) × (w.reads ≡ me.0.reads) × (w.writes ≡ me.0.writes)
@@ -82,6 +85,13 @@ module _ (S : Type 0) (readers_of writer_of : S → Listed) where
 
     out_left : (w : View) → Leaves w → (i : ℕ) (v : View) → get_elem? (after w) i ≡ some v → v.has_lists ≡ true → (v.readers ≡ r.readers) × (v.writer ≡ r.writer)
     out_left w left = out_set w (λ is. let o = r.out id me.0 at (sym left.0 ∙ is) in (left.1 ∙ o.0, left.2 ∙ o.1))
+
+    -- who stands in a list stays there
+    readers_stand : (w : View) → Leaves w → AreOf IsEntryOfReaders r.readers.entries (after w)
+    readers_stand w left = all_stay s.views id me.0 at IsEntryOfReaders r.readers.entries w (λ n f. (left.3 ∙ f.0, left.5 ∙ f.1)) r.standing_readers
+
+    writer_stands : (w : View) → Leaves w → AreOf IsEntryOfWriter r.writer.entries (after w)
+    writer_stands w left = all_stay s.views id me.0 at IsEntryOfWriter r.writer.entries w (λ n f. (left.4 ∙ f.0, left.5 ∙ f.1)) r.standing_writer
 
     same : (f : View → Bool) (w : View) → f w ≡ f me.0 → number f (after w) ≡ number f s.views
     same f w e = let c = number-set f s.views id me.0 w at in let e' : weight (f w) ≡ weight (f me.0) = ap weight e in omega arith
@@ -100,6 +110,8 @@ module _ (S : Type 0) (readers_of writer_of : S → Listed) where
           writer = r.writer;
           clear = λ e. clear (subst (λ k. k % 2 ≡ 0) here e);
           left = λ e. gone (sym here ∙ e);
+          standing_readers = readers_stand w left;
+          standing_writer = writer_stands w left;
           unlisted = λ low. r.unlisted (subst SaysEmpty there low);
           home = λ absent. r.home (sym out' ∙ absent);
           out = out_left w left;
@@ -114,12 +126,12 @@ module _ (S : Type 0) (readers_of writer_of : S → Listed) where
         let one = r.state.one_marks in let few = r.state.few in let word = r.state.word in
         record { one_marks = omega arith; few = omega arith; word = is ∙ (omega arith); alone = λ some_one. rs ∙ r.state.alone (omega arith) }
 
-    tidy_same : (w : View) → Does w → w.in_writer ≡ me.0.in_writer → Nested w
-    tidy_same w does e = let a : weight w.marks ≡ weight me.0.marks = ap weight does.0 in let b : weight w.writes ≡ weight me.0.writes = ap weight does.2 in let c : weight w.in_writer ≡ weight me.0.in_writer = ap weight e in let m = mine.0 in let k = mine.1 in (omega arith, omega arith)
+    tidy_same : (w : View) → Does w → Leaves w → Nested w
+    tidy_same w does left = let a : weight w.marks ≡ weight me.0.marks = ap weight does.0 in let b : weight w.writes ≡ weight me.0.writes = ap weight does.2 in let c : weight w.in_writer ≡ weight me.0.in_writer = ap weight left.4 in let m = mine.0 in let k = mine.1 in (omega arith, omega arith)
 
     -- the state stays
-    unmoved : (w : View) → Leaves w → Does w → w.in_writer ≡ me.0.in_writer → (x % 2 ≡ 0 → LosesNone OwesReaders IsFreshReader r.readers (after w)) → (x ≡ 1 → LosesNone TellsWriter IsFreshWriter r.writer (after w)) → R (stepped s 0 x id me.1 w keeps)
-    unmoved w left does listed = moved x w (state_same (set s.words 0 x) w (get_or-set_same s.words 0 x 0 one_word) does) (tidy_same w does listed) left
+    unmoved : (w : View) → Leaves w → Does w → (x % 2 ≡ 0 → LosesNone OwesReaders IsFreshReader r.readers (after w)) → (x ≡ 1 → LosesNone TellsWriter IsFreshWriter r.writer (after w)) → R (stepped s 0 x id me.1 w keeps)
+    unmoved w left does = moved x w (state_same (set s.words 0 x) w (get_or-set_same s.words 0 x 0 one_word) does) (tidy_same w does left) left
 
     -- who has to notify and who is fresh stay
     none_lost : (O : View → Type 0) (P : ℕ → View → Type 0) (list : Listed) (w : View) → (O me.0 → O w) → ((n : ℕ) → P n me.0 → P n w) → LosesNone O P list s.views → LosesNone O P list (after w)
@@ -133,15 +145,15 @@ module _ (S : Type 0) (readers_of writer_of : S → Listed) where
 
     -- ---- the state word
     pub finds : (n : ℕ) → R (stepped s 0 x id me.1 (having_found n me.0) keeps)
-    finds n = let w : View = having_found n me.0 in unmoved w (refl, refl, refl) (refl, refl, refl) refl (clear_as w (λ o. o) (λ k f. f)) (left_as w (λ o. o) (λ k f. f))
+    finds n = let w : View = having_found n me.0 in unmoved w (refl, refl, refl, refl, refl, refl) (refl, refl, refl) (clear_as w (λ o. o) (λ k f. f)) (left_as w (λ o. o) (λ k f. f))
 
     -- a look that found the writer's bit set
     pub sees_writer : x % 2 ≡ 1 → me.0.in_writer ≡ false → R (stepped s 0 x id me.1 (saw_writer_of x me.0) keeps)
-    sees_writer odd away = let w : View = saw_writer_of x me.0 in unmoved w (refl, refl, refl) (refl, refl, refl) refl (λ e. absurd (omega (arith, e, odd))) (left_as w (λ o. o) (λ k f. never (sym away ∙ f.1)))
+    sees_writer odd away = let w : View = saw_writer_of x me.0 in unmoved w (refl, refl, refl, refl, refl, refl) (refl, refl, refl) (λ e. absurd (omega (arith, e, odd))) (left_as w (λ o. o) (λ k f. never (sym away ∙ f.1.0)))
 
     -- one that found readers inside
     pub sees_readers : 1 < x → x % 2 ≡ 1 → R (stepped s 0 x id me.1 (saw_readers_of x me.0) keeps)
-    sees_readers many odd = let w : View = saw_readers_of x me.0 in unmoved w (refl, refl, refl) (refl, refl, refl) refl (λ e. absurd (omega (arith, e, odd))) (λ e. absurd (omega (arith, e, many)))
+    sees_readers many odd = let w : View = saw_readers_of x me.0 in unmoved w (refl, refl, refl, refl, refl, refl) (refl, refl, refl) (λ e. absurd (omega (arith, e, odd))) (λ e. absurd (omega (arith, e, many)))
 
     pub bit_of : me.0.marks ≡ true → x % 2 ≡ 1
     bit_of is = let m' : weight (marks_of me.0) ≡ 1 = ap weight is in let m = number-at marks_of s.views id me.0 at in let one = r.state.one_marks in let word = r.state.word in omega arith
@@ -152,7 +164,7 @@ module _ (S : Type 0) (readers_of writer_of : S → Listed) where
         let ms = same marks_of w refl in let ws = same writes_of w refl in let rs = number-set reads_of s.views id me.0 w at in
         let r' : weight (reads_of w) ≡ 1 = refl in let r0 : weight (reads_of me.0) ≡ 0 = ap weight not in
         let one = r.state.one_marks in let word = r.state.word in let le = writes_le s.views r.nested in
-        moved (x + 2) w (state_of w (x + 2) (omega arith) (omega arith) (omega arith) (λ some_one. absurd (omega arith))) mine (refl, refl, refl)
+        moved (x + 2) w (state_of w (x + 2) (omega arith) (omega arith) (omega arith) (λ some_one. absurd (omega arith))) mine (refl, refl, refl, refl, refl, refl)
         (λ e. clear_as w (λ o. o) (λ k f. f) even) (λ e. absurd (omega (arith, e)))
 
     -- a reader goes
@@ -167,20 +179,20 @@ module _ (S : Type 0) (readers_of writer_of : S → Listed) where
       down_two = let m = some_reads in let one = r.state.one_marks in let few = r.state.few in let word = r.state.word in
           let small : (x + 18446744073709551614) % 18446744073709551616 ≡ x - 2 = omega arith in small
 
-      goes : (w : View) → w.marks ≡ me.0.marks → w.reads ≡ false → w.writes ≡ me.0.writes → w.in_writer ≡ me.0.in_writer → Leaves w → (x % 2 ≡ 0 → LosesNone OwesReaders IsFreshReader r.readers (after w)) → (x ≡ 3 → LosesNone TellsWriter IsFreshWriter r.writer (after w)) → R (stepped s 0 ((x + (2 ^ 64 - 2)) % 2 ^ 64) id me.1 w keeps)
-      goes w m not wr listed left clear gone =
+      goes : (w : View) → w.marks ≡ me.0.marks → w.reads ≡ false → w.writes ≡ me.0.writes → Leaves w → (x % 2 ≡ 0 → LosesNone OwesReaders IsFreshReader r.readers (after w)) → (x ≡ 3 → LosesNone TellsWriter IsFreshWriter r.writer (after w)) → R (stepped s 0 ((x + (2 ^ 64 - 2)) % 2 ^ 64) id me.1 w keeps)
+      goes w m not wr left clear gone =
           let ms = same marks_of w m in let ws = same writes_of w wr in let rs = number-set reads_of s.views id me.0 w at in
           let r0 : weight (reads_of w) ≡ 0 = ap weight not in let r' : weight (reads_of me.0) ≡ 1 = ap weight does in
           let one = r.state.one_marks in let few = r.state.few in let word = r.state.word in let least = some_reads in let n : ℕ = (x + (2 ^ 64 - 2)) % 2 ^ 64 in let is : n ≡ x - 2 = down_two in
-          let a : weight w.marks ≡ weight me.0.marks = ap weight m in let b : weight w.writes ≡ weight me.0.writes = ap weight wr in let c : weight w.in_writer ≡ weight me.0.in_writer = ap weight listed in let t0 = mine.0 in let t1 = mine.1 in
+          let a : weight w.marks ≡ weight me.0.marks = ap weight m in let b : weight w.writes ≡ weight me.0.writes = ap weight wr in let c : weight w.in_writer ≡ weight me.0.in_writer = ap weight left.4 in let t0 = mine.0 in let t1 = mine.1 in
           moved n w (state_of w n (omega arith) (omega arith) (is ∙ (omega arith)) (λ some_one. let none' = r.state.alone (omega arith) in absurd (omega arith))) (omega arith, omega arith) left
           (λ e. clear (omega (arith, e, is, least))) (λ e. gone (omega (arith, e, is, least)))
 
       pub leaves_last : x ≡ 3 → R (stepped s 0 ((x + (2 ^ 64 - 2)) % 2 ^ 64) id me.1 (last_left_of x me.0) keeps)
-      leaves_last three = let w : View = last_left_of x me.0 in goes w refl refl refl refl (refl, refl, refl) (λ e. absurd (omega (arith, e, three))) (λ _. inr (inl (its TellsWriter w (inl refl))))
+      leaves_last three = let w : View = last_left_of x me.0 in goes w refl refl refl (refl, refl, refl, refl, refl, refl) (λ e. absurd (omega (arith, e, three))) (λ _. inr (inl (its TellsWriter w (inl refl))))
 
       pub leaves : x ≢ 3 → R (stepped s 0 ((x + (2 ^ 64 - 2)) % 2 ^ 64) id me.1 (left_of x me.0) keeps)
-      leaves ne = let w : View = left_of x me.0 in goes w refl refl refl refl (refl, refl, refl) (clear_as w (λ o. o) (λ k f. f)) (λ e. absurd (ne e))
+      leaves ne = let w : View = left_of x me.0 in goes w refl refl refl (refl, refl, refl, refl, refl, refl) (clear_as w (λ o. o) (λ k f. f)) (λ e. absurd (ne e))
 
     -- the seat writes, where nobody else is inside
     wins : number marks_of s.views ≡ weight me.0.marks → number reads_of s.views ≡ weight me.0.reads → R (stepped s 0 1 id me.1 (writing_of me.0) keeps)
@@ -189,7 +201,7 @@ module _ (S : Type 0) (readers_of writer_of : S → Listed) where
         let ms = number-set marks_of s.views id me.0 w at in let rs = number-set reads_of s.views id me.0 w at in
         let m' : weight (marks_of w) ≡ 1 = refl in let r' : weight (reads_of w) ≡ 0 = refl in let l = weight_le me.0.in_writer in
         let m0 : weight (marks_of me.0) ≡ weight me.0.marks = refl in let r0 : weight (reads_of me.0) ≡ weight me.0.reads = refl in
-        moved 1 w (state_of w 1 (omega arith) (omega arith) (omega arith) (λ _. omega arith)) (omega arith, l) (refl, refl, refl) (λ e. absurd (omega (arith, e))) (λ _. inr (inl (its TellsWriter w (inr refl))))
+        moved 1 w (state_of w 1 (omega arith) (omega arith) (omega arith) (λ _. omega arith)) (omega arith, l) (refl, refl, refl, refl, refl, refl) (λ e. absurd (omega (arith, e))) (λ _. inr (inl (its TellsWriter w (inr refl))))
 
     pub writes_free : x ≡ 0 → R (stepped s 0 1 id me.1 (writing_of me.0) keeps)
     writes_free free = let word = r.state.word in let a = number-at marks_of s.views id me.0 at in let b = number-at reads_of s.views id me.0 at in
@@ -210,7 +222,7 @@ module _ (S : Type 0) (readers_of writer_of : S → Listed) where
         let ms = number-set marks_of s.views id me.0 w at in let rs = same reads_of w refl in let ws = same writes_of w refl in
         let m' : weight (marks_of w) ≡ 1 = refl in let least = number-at marks_of s.views id me.0 at in let one = r.state.one_marks in let few = r.state.few in let word = r.state.word in let le = writes_le s.views r.nested in
         let l = weight_le me.0.in_writer in let l' = weight_le me.0.writes in
-        moved (x + 1) w (state_of w (x + 1) (omega arith) (omega arith) (omega arith) (λ some_one. absurd (omega arith))) (l', l) (refl, refl, refl) (λ e. absurd (omega (arith, e, even))) (λ e. absurd (ne (omega (arith, e))))
+        moved (x + 1) w (state_of w (x + 1) (omega arith) (omega arith) (omega arith) (λ some_one. absurd (omega arith))) (l', l) (refl, refl, refl, refl, refl, refl) (λ e. absurd (omega (arith, e, even))) (λ e. absurd (ne (omega (arith, e))))
 
     pub upgrades : x % 2 ≡ 0 → 2 < x → me.0.reads ≡ true → R (stepped s 0 (x - 1) id me.1 (upgraded_of me.0) keeps)
     upgrades even many does =
@@ -219,7 +231,7 @@ module _ (S : Type 0) (readers_of writer_of : S → Listed) where
         let m' : weight (marks_of w) ≡ 1 = refl in let r' : weight (reads_of w) ≡ 0 = refl in let y' : weight (reads_of me.0) ≡ 1 = ap weight does in
         let least = number-at marks_of s.views id me.0 at in let one = r.state.one_marks in let few = r.state.few in let word = r.state.word in let le = writes_le s.views r.nested in
         let l = weight_le me.0.in_writer in let l' = weight_le me.0.writes in
-        moved (x - 1) w (state_of w (x - 1) (omega arith) (omega arith) (omega arith) (λ some_one. absurd (omega arith))) (l', l) (refl, refl, refl) (λ e. absurd (omega (arith, e, even, many))) (λ e. absurd (omega (arith, e, many)))
+        moved (x - 1) w (state_of w (x - 1) (omega arith) (omega arith) (omega arith) (λ some_one. absurd (omega arith))) (l', l) (refl, refl, refl, refl, refl, refl) (λ e. absurd (omega (arith, e, even, many))) (λ e. absurd (omega (arith, e, many)))
 
     -- the seat reads in place of writing
     pub downs : me.0.writes ≡ true → me.0.in_writer ≡ false → R (stepped s 0 ((x + 1) % 2 ^ 64) id me.1 (down_of me.0) keeps)
@@ -232,7 +244,7 @@ module _ (S : Type 0) (readers_of writer_of : S → Listed) where
         let b = number-at reads_of s.views id me.0 at in
         let off : weight me.0.in_writer ≡ 0 = ap weight away in
         let n : ℕ = (x + 1) % 2 ^ 64 in let is : (x + 1) % 18446744073709551616 ≡ 2 = omega arith in
-        moved n w (state_of w n (omega arith) (omega arith) (is ∙ (omega arith)) (λ some_one. absurd (omega arith))) (omega arith, omega arith) (refl, refl, refl)
+        moved n w (state_of w n (omega arith) (omega arith) (is ∙ (omega arith)) (λ some_one. absurd (omega arith))) (omega arith, omega arith) (refl, refl, refl, refl, refl, refl)
         (λ _. inr (inl (its OwesReaders w refl))) (λ e. absurd (omega (arith, e, is)))
 
     -- the seat clears the bit
@@ -245,25 +257,27 @@ module _ (S : Type 0) (readers_of writer_of : S → Listed) where
         let off : weight me.0.in_writer ≡ 0 = ap weight away in
         let tidy : Nested w = (omega arith, omega arith) in let le = writes_le (after w) (nested_set s.views id w r.nested tidy) in
         let n : ℕ = (x + (2 ^ 64 - 1)) % 2 ^ 64 in let is : (x + 18446744073709551615) % 18446744073709551616 ≡ x - 1 = omega arith in
-        moved n w (state_of w n (omega arith) (omega arith) (is ∙ (omega arith)) (λ some_one. absurd (omega arith))) tidy (refl, refl, refl)
+        moved n w (state_of w n (omega arith) (omega arith) (is ∙ (omega arith)) (λ some_one. absurd (omega arith))) tidy (refl, refl, refl, refl, refl, refl)
         (λ _. inr (inl (its OwesReaders w refl))) (λ e. let odd = bit_of does in absurd (omega (arith, e, is, odd)))
 
     -- ---- the word of the lists
     beside : (n : ℕ) → get_or (set s.words 1 n) 0 0 ≡ x
     beside n = get_or-set_other s.words 1 0 n 0 (λ q. omega arith)
 
-    at_list : (n : ℕ) (w : View) → n % 2 ≡ y % 2 → (SaysEmpty n → SaysEmpty y) → Leaves w → Does w → w.in_writer ≡ me.0.in_writer → (x % 2 ≡ 0 → LosesNone OwesReaders IsFreshReader r.readers (after w)) → (x ≡ 1 → LosesNone TellsWriter IsFreshWriter r.writer (after w)) → R (stepped s 1 n id me.1 w keeps)
-    at_list n w parity below left does listed clear gone =
+    at_list : (n : ℕ) (w : View) → n % 2 ≡ y % 2 → (SaysEmpty n → SaysEmpty y) → Leaves w → Does w → (x % 2 ≡ 0 → LosesNone OwesReaders IsFreshReader r.readers (after w)) → (x ≡ 1 → LosesNone TellsWriter IsFreshWriter r.writer (after w)) → R (stepped s 1 n id me.1 w keeps)
+    at_list n w parity below left does clear gone =
         let out' = same has_lists_out w left.0 in let one = r.list_word.0 in let is = r.list_word.1 in
         let here : get_or (set s.words 1 n) 1 0 ≡ n = get_or-set_same s.words 1 n 0 r.two_words in let there = beside n in record {
           two_words = subst (λ (z : ℕ). 1 < z) (sym (length-set s.words 1 n)) r.two_words;
           state = state_same (set s.words 1 n) w there does;
-          nested = nested_set s.views id w r.nested (tidy_same w does listed);
+          nested = nested_set s.views id w r.nested (tidy_same w does left);
           list_word = (omega arith, ap (λ k. k % 2) here ∙ parity ∙ is ∙ sym out');
           readers = r.readers;
           writer = r.writer;
           clear = λ e. clear (subst (λ k. k % 2 ≡ 0) there e);
           left = λ e. gone (sym there ∙ e);
+          standing_readers = readers_stand w left;
+          standing_writer = writer_stands w left;
           unlisted = λ low. r.unlisted (below (subst SaysEmpty here low));
           home = λ absent. r.home (sym out' ∙ absent);
           out = out_left w left;
@@ -271,11 +285,11 @@ module _ (S : Type 0) (readers_of writer_of : S → Listed) where
 
     -- the lists' word is read, or set by another that finds them out
     pub busy : (n : ℕ) → n % 2 ≡ y % 2 → (SaysEmpty n → SaysEmpty y) → R (stepped s 1 n id me.1 me.0 keeps)
-    busy n parity below = let w : View = me.0 in at_list n w parity below (refl, refl, refl) (refl, refl, refl) refl (clear_as w (λ o. o) (λ k f. f)) (left_as w (λ o. o) (λ k f. f))
+    busy n parity below = let w : View = me.0 in at_list n w parity below (refl, refl, refl, refl, refl, refl) (refl, refl, refl) (clear_as w (λ o. o) (λ k f. f)) (left_as w (λ o. o) (λ k f. f))
 
     -- the lists are empty
     pub eases : SaysEmpty y → R (stepped s 1 y id me.1 (eased_of me.0) keeps)
-    eases low = let z = r.unlisted low in at_list y (eased_of me.0) refl (λ l. l) (refl, refl, refl) (refl, refl, refl) refl (λ _. inr (inr (λ n h. absurd (subst (Has n) z.0 h)))) (λ _. inr (inr (λ n h. absurd (subst (Has n) z.1 h))))
+    eases low = let z = r.unlisted low in at_list y (eased_of me.0) refl (λ l. l) (refl, refl, refl, refl, refl, refl) (refl, refl, refl) (λ _. inr (inr (λ n h. absurd (subst (Has n) z.0 h)))) (λ _. inr (inr (λ n h. absurd (subst (Has n) z.1 h))))
 
     abbrev pub listing : S → View
     listing lists = listing_of (readers_of lists) (writer_of lists) me.0
@@ -298,6 +312,8 @@ module _ (S : Type 0) (readers_of writer_of : S → Listed) where
             writer = r.writer;
             clear = λ e. clear_as w (λ o. o) (λ k f. f) (subst (λ k. k % 2 ≡ 0) there e);
             left = λ e. left_as w (λ o. o) (λ k f. f) (sym there ∙ e);
+            standing_readers = all_stay s.views id me.0 at IsEntryOfReaders r.readers.entries w (λ k f. f) r.standing_readers;
+            standing_writer = all_stay s.views id me.0 at IsEntryOfWriter r.writer.entries w (λ k f. f) r.standing_writer;
             unlisted = λ low. r.unlisted (below (subst SaysEmpty here low));
             home = λ absent. absurd (omega arith);
             out = out_set w (λ _. (h.2, h.3));
@@ -312,8 +328,18 @@ module _ (S : Type 0) (readers_of writer_of : S → Listed) where
       abbrev new_writer : Listed
       new_writer = writer_of lists
 
-      returned : (w : View) → w.has_lists ≡ false → Does w → Nested w → (LosesNone OwesReaders IsFreshReader me.0.readers s.views → LosesNone OwesReaders IsFreshReader new_readers (after w)) → (LosesNone TellsWriter IsFreshWriter me.0.writer s.views → LosesNone TellsWriter IsFreshWriter new_writer (after w)) → R (stepped s 1 n id me.1 w gives)
-      returned w off does tidy clear gone =
+      -- of one list no wake-up is lost then, and each entry is of a seat that stands in it, if it was so before
+      abbrev Turns : (View → Type 0) → (ℕ → View → Type 0) → (ℕ → View → Type 0) → Listed → Listed → View → Type 0
+      Turns O P Q old new w = (LosesNone O P old s.views → LosesNone O P new (after w)) × (AreOf Q old.entries s.views → AreOf Q new.entries (after w))
+
+      abbrev ReadersTurn : View → Type 0
+      ReadersTurn w = Turns OwesReaders IsFreshReader IsEntryOfReaders me.0.readers new_readers w
+
+      abbrev WriterTurns : View → Type 0
+      WriterTurns w = Turns TellsWriter IsFreshWriter IsEntryOfWriter me.0.writer new_writer w
+
+      returned : (w : View) → w.has_lists ≡ false → Does w → Nested w → ReadersTurn w → WriterTurns w → R (stepped s 1 n id me.1 w gives)
+      returned w off does tidy readers writer =
           let c = number-set has_lists_out s.views id me.0 w at in let c' : weight (has_lists_out w) ≡ 0 = ap weight off in let l : weight (has_lists_out me.0) ≡ 1 = ap weight is_out in
           let one = r.list_word.0 in let known = r.out id me.0 at is_out in
           let none_out : number has_lists_out (after w) ≡ 0 = omega arith in
@@ -324,19 +350,34 @@ module _ (S : Type 0) (readers_of writer_of : S → Listed) where
             list_word = (omega arith, ap (λ k. k % 2) here ∙ (omega arith));
             readers = new_readers;
             writer = new_writer;
-            clear = λ e. clear (subst (λ l'. LosesNone OwesReaders IsFreshReader l' s.views) (sym known.0) (r.clear (subst (λ k. k % 2 ≡ 0) there e)));
-            left = λ e. gone (subst (λ l'. LosesNone TellsWriter IsFreshWriter l' s.views) (sym known.1) (r.left (sym there ∙ e)));
+            clear = λ e. readers.0 (subst (λ l'. LosesNone OwesReaders IsFreshReader l' s.views) (sym known.0) (r.clear (subst (λ k. k % 2 ≡ 0) there e)));
+            left = λ e. writer.0 (subst (λ l'. LosesNone TellsWriter IsFreshWriter l' s.views) (sym known.1) (r.left (sym there ∙ e)));
+            standing_readers = readers.1 (subst (λ (l' : Listed). AreOf IsEntryOfReaders l'.entries s.views) (sym known.0) r.standing_readers);
+            standing_writer = writer.1 (subst (λ (l' : Listed). AreOf IsEntryOfWriter l'.entries s.views) (sym known.1) r.standing_writer);
             unlisted = λ below. low (subst SaysEmpty here below);
             home = λ _. (lists, subst (λ (t : List (ℕ × S)). get_elem? (put_back s.homes t) 0 ≡ some (some lists)) (sym has) (set_here s.homes 0 (some lists) wide), refl, refl);
             out = λ i v e is. let m = number-at has_lists_out (after w) i v e in let q : weight (has_lists_out v) ≡ 1 = ap weight is in absurd (omega arith);
           }
 
-      -- what becomes of one list, of those who have to notify it, and of the fresh
-      module _ (O : View → Type 0) (P : ℕ → View → Type 0) (w : View) (old new : Listed) where
-        -- who waits now waited before, or is the seat's own
+      -- whose each of these numbers is now: the seat's that it was, or this seat's own
+      module _ (P : ℕ → View → Type 0) (w : View) (old new : List ℕ) where
         abbrev Stands : Type 0
-        Stands = (k : ℕ) → Has k new.waiting → (Has k old.waiting × (P k me.0 → P k w)) ⊎ P k w
+        Stands = (k : ℕ) → Has k new → (Has k old × (P k me.0 → P k w)) ⊎ P k w
 
+        same_stand : new ≡ old → ((k : ℕ) → P k me.0 → P k w) → Stands
+        same_stand is same k h = inl (subst (Has k) is h, same k)
+
+        joined_stand : (n : ℕ) → JoinedBy n old new → ((k : ℕ) → P k me.0 → ⊥) → P n w → Stands
+        joined_stand n joined none p k h = ⊎_elim (λ was. inl (was, λ q. absurd (none k q))) (λ e. inr (subst (λ j. P j w) (sym e) p)) (joined k h)
+
+        left_stand : LeftBy me.0.entry old new → ((k : ℕ) → P k me.0 → me.0.entry ≡ k) → Stands
+        left_stand left its k h = let t = left k h in inl (t.0, λ p. absurd (t.1 (sym (its k p))))
+
+        stand : Stands → AreOf P old s.views → AreOf P new (after w)
+        stand all were k h = ⊎_elim (λ t. stays s.views id me.0 at (P k) w t.1 (were k t.0)) (λ p. its (P k) w p) (all k h)
+
+      -- what becomes of one list, of those who have to notify it, and of the fresh
+      module _ (O : View → Type 0) (P Q : ℕ → View → Type 0) (w : View) (old new : Listed) where
         -- one is notified, or the seat owes, or nobody waits
         abbrev Ends : Type 0
         Ends = (0 < new.notified) ⊎ (O w ⊎ NoneWaits new.waiting)
@@ -344,85 +385,107 @@ module _ (S : Type 0) (readers_of writer_of : S → Listed) where
         ends : Ends → LosesNone O P new (after w)
         ends e = ⊎_elim (λ m. inl m) (λ b. inr (⊎_elim (λ o. inl (its O w o)) (λ none. inr (λ k h. absurd (none k h))) b)) e
 
-        turned : (0 < old.notified → Ends) → (O me.0 → Ends) → Stands → LosesNone O P old s.views → LosesNone O P new (after w)
-        turned told owed all l = ⊎_elim (λ m. ends (told m))
-            (λ b. ⊎_elim (λ c. ⊎_elim (λ o. ends (owed o)) (λ other. inr (inl (other w))) (apart s.views id me.0 at O c))
-            (λ fresh. inr (inr (λ k h. ⊎_elim (λ t. stays s.views id me.0 at (P k) w t.1 (fresh k t.0)) (λ p. its (P k) w p) (all k h)))) b) l
+        turned : (0 < old.notified → Ends) → (O me.0 → Ends) → Stands P w old.waiting new.waiting → Stands Q w old.entries new.entries → Turns O P Q old new w
+        turned told owed waits all = (
+          (λ l. ⊎_elim (λ m. ends (told m))
+              (λ b. ⊎_elim (λ c. ⊎_elim (λ o. ends (owed o)) (λ other. inr (inl (other w))) (apart s.views id me.0 at O c)) (λ fresh. inr (inr (stand P w old.waiting new.waiting waits fresh))) b) l),
+          stand Q w old.entries new.entries all,
+        )
 
         settled : IsSettled new → Ends
         settled i = ⊎_elim (λ a. inl a) (λ none. inr (inr none)) i
 
         -- the list stays, as far as the rule asks
-        untouched : Stays old new → (O me.0 → O w) → ((k : ℕ) → P k me.0 → P k w) → LosesNone O P old s.views → LosesNone O P new (after w)
-        untouched st tells fresh = turned (λ m. settled (st.1 m)) (λ o. inr (inl (tells o))) (λ k h. inl (st.0 k h, fresh k))
+        untouched : Stays old new → (O me.0 → O w) → ((k : ℕ) → P k me.0 → P k w) → ((k : ℕ) → Q k me.0 → Q k w) → Turns O P Q old new w
+        untouched st tells fresh same = turned (λ m. settled (st.1 m)) (λ o. inr (inl (tells o))) (λ k h. inl (st.0 k h, fresh k)) (same_stand Q w old.entries new.entries st.2 same)
 
       module _ (w : View) where
-        abbrev readers_turned : (0 < me.0.readers.notified → Ends OwesReaders IsFreshReader w me.0.readers new_readers) → (OwesReaders me.0 → Ends OwesReaders IsFreshReader w me.0.readers new_readers) → Stands OwesReaders IsFreshReader w me.0.readers new_readers → LosesNone OwesReaders IsFreshReader me.0.readers s.views → LosesNone OwesReaders IsFreshReader new_readers (after w)
-        readers_turned = turned OwesReaders IsFreshReader w me.0.readers new_readers
+        abbrev EndsReaders : Type 0
+        EndsReaders = Ends OwesReaders IsFreshReader IsEntryOfReaders w me.0.readers new_readers
 
-        abbrev writer_turned : (0 < me.0.writer.notified → Ends TellsWriter IsFreshWriter w me.0.writer new_writer) → (TellsWriter me.0 → Ends TellsWriter IsFreshWriter w me.0.writer new_writer) → Stands TellsWriter IsFreshWriter w me.0.writer new_writer → LosesNone TellsWriter IsFreshWriter me.0.writer s.views → LosesNone TellsWriter IsFreshWriter new_writer (after w)
-        writer_turned = turned TellsWriter IsFreshWriter w me.0.writer new_writer
+        abbrev EndsWriter : Type 0
+        EndsWriter = Ends TellsWriter IsFreshWriter IsEntryOfWriter w me.0.writer new_writer
 
-        abbrev readers_stay : Stays me.0.readers new_readers → (OwesReaders me.0 → OwesReaders w) → ((k : ℕ) → IsFreshReader k me.0 → IsFreshReader k w) → LosesNone OwesReaders IsFreshReader me.0.readers s.views → LosesNone OwesReaders IsFreshReader new_readers (after w)
-        readers_stay = untouched OwesReaders IsFreshReader w me.0.readers new_readers
+        readers_settled : IsSettled new_readers → EndsReaders
+        readers_settled = settled OwesReaders IsFreshReader IsEntryOfReaders w me.0.readers new_readers
 
-        abbrev writer_stays : Stays me.0.writer new_writer → (TellsWriter me.0 → TellsWriter w) → ((k : ℕ) → IsFreshWriter k me.0 → IsFreshWriter k w) → LosesNone TellsWriter IsFreshWriter me.0.writer s.views → LosesNone TellsWriter IsFreshWriter new_writer (after w)
-        writer_stays = untouched TellsWriter IsFreshWriter w me.0.writer new_writer
+        writer_settled : IsSettled new_writer → EndsWriter
+        writer_settled = settled TellsWriter IsFreshWriter IsEntryOfWriter w me.0.writer new_writer
+
+        readers_turned : (0 < me.0.readers.notified → EndsReaders) → (OwesReaders me.0 → EndsReaders) → Stands IsFreshReader w me.0.readers.waiting new_readers.waiting → Stands IsEntryOfReaders w me.0.readers.entries new_readers.entries → ReadersTurn w
+        readers_turned = turned OwesReaders IsFreshReader IsEntryOfReaders w me.0.readers new_readers
+
+        writer_turned : (0 < me.0.writer.notified → EndsWriter) → (TellsWriter me.0 → EndsWriter) → Stands IsFreshWriter w me.0.writer.waiting new_writer.waiting → Stands IsEntryOfWriter w me.0.writer.entries new_writer.entries → WriterTurns w
+        writer_turned = turned TellsWriter IsFreshWriter IsEntryOfWriter w me.0.writer new_writer
+
+        readers_stay : Stays me.0.readers new_readers → (OwesReaders me.0 → OwesReaders w) → ((k : ℕ) → IsFreshReader k me.0 → IsFreshReader k w) → ((k : ℕ) → IsEntryOfReaders k me.0 → IsEntryOfReaders k w) → ReadersTurn w
+        readers_stay = untouched OwesReaders IsFreshReader IsEntryOfReaders w me.0.readers new_readers
+
+        writer_stays : Stays me.0.writer new_writer → (TellsWriter me.0 → TellsWriter w) → ((k : ℕ) → IsFreshWriter k me.0 → IsFreshWriter k w) → ((k : ℕ) → IsEntryOfWriter k me.0 → IsEntryOfWriter k w) → WriterTurns w
+        writer_stays = untouched TellsWriter IsFreshWriter IsEntryOfWriter w me.0.writer new_writer
 
       -- its entry has joined
-      pub joins_readers : (k : ℕ) → JoinedBy k me.0.readers.waiting new_readers.waiting → me.0.readers.notified ≤ new_readers.notified → Stays me.0.writer new_writer → me.0.in_readers ≡ false → me.0.in_writer ≡ false → R (stepped s 1 n id me.1 (joined_readers_of k me.0) gives)
-      joins_readers k joined more writer away off = let w : View = joined_readers_of k me.0 in
+      pub joins_readers : (k : ℕ) → Joins k me.0.readers new_readers → Stays me.0.writer new_writer → me.0.in_readers ≡ false → me.0.in_writer ≡ false → R (stepped s 1 n id me.1 (joined_readers_of k me.0) gives)
+      joins_readers k readers writer away off = let w : View = joined_readers_of k me.0 in let more = readers.2 in
           returned w refl (refl, refl, refl) mine
-          (readers_turned w (λ m. inl (omega arith)) (λ o. inr (inl o)) (λ j h. ⊎_elim (λ old. inl (old, λ f. never (sym away ∙ f.1))) (λ e. inr (refl, refl, sym e)) (joined j h)))
-          (writer_stays w writer (λ o. o) (λ j f. never (sym off ∙ f.1)))
+          (readers_turned w (λ m. inl (omega arith)) (λ o. inr (inl o))
+          (joined_stand IsFreshReader w me.0.readers.waiting new_readers.waiting k readers.0 (λ j f. never (sym away ∙ f.1.0)) (refl, (refl, refl)))
+          (joined_stand IsEntryOfReaders w me.0.readers.entries new_readers.entries k (subst (JoinedBy k me.0.readers.entries) (sym readers.3) (joined_by k me.0.readers.entries)) (λ j f. never (sym away ∙ f.0)) (refl, refl)))
+          (writer_stays w writer (λ o. o) (λ j f. never (sym off ∙ f.1.0)) (λ j f. never (sym off ∙ f.0)))
 
-      pub joins_writer : (k : ℕ) → Stays me.0.readers new_readers → JoinedBy k me.0.writer.waiting new_writer.waiting → me.0.writer.notified ≤ new_writer.notified → me.0.in_readers ≡ false → me.0.in_writer ≡ false → me.0.marks ≡ true → R (stepped s 1 n id me.1 (joined_writer_of k me.0) gives)
-      joins_writer k readers joined more away off is = let w : View = joined_writer_of k me.0 in
-          let m' : weight me.0.marks ≡ 1 = ap weight is in let t = mine.0 in
+      pub joins_writer : (k : ℕ) → Stays me.0.readers new_readers → Joins k me.0.writer new_writer → me.0.in_readers ≡ false → me.0.in_writer ≡ false → me.0.marks ≡ true → R (stepped s 1 n id me.1 (joined_writer_of k me.0) gives)
+      joins_writer k readers writer away off is = let w : View = joined_writer_of k me.0 in
+          let m' : weight me.0.marks ≡ 1 = ap weight is in let t = mine.0 in let more = writer.2 in
           returned w refl (refl, refl, refl) (t, omega arith)
-          (readers_stay w readers (λ o. o) (λ j f. never (sym away ∙ f.1)))
-          (writer_turned w (λ m. inl (omega arith)) (λ o. inr (inl o)) (λ j h. ⊎_elim (λ old. inl (old, λ f. never (sym off ∙ f.1))) (λ e. inr (refl, refl, sym e)) (joined j h)))
+          (readers_stay w readers (λ o. o) (λ j f. never (sym away ∙ f.1.0)) (λ j f. never (sym away ∙ f.0)))
+          (writer_turned w (λ m. inl (omega arith)) (λ o. inr (inl o))
+          (joined_stand IsFreshWriter w me.0.writer.waiting new_writer.waiting k writer.0 (λ j f. never (sym off ∙ f.1.0)) (refl, (refl, refl)))
+          (joined_stand IsEntryOfWriter w me.0.writer.entries new_writer.entries k (subst (JoinedBy k me.0.writer.entries) (sym writer.3) (joined_by k me.0.writer.entries)) (λ j f. never (sym off ∙ f.0)) (refl, refl)))
 
       -- its entry was notified, and has left: it owes
-      pub hears_reader : Fewer me.0.readers.waiting new_readers.waiting → Stays me.0.writer new_writer → me.0.fresh ≡ false → R (stepped s 1 n id me.1 (told_reader_of me.0) gives)
+      pub hears_reader : Hears me.0.entry me.0.readers new_readers → Stays me.0.writer new_writer → me.0.fresh ≡ false → R (stepped s 1 n id me.1 (told_reader_of me.0) gives)
       hears_reader readers writer looked = let w : View = told_reader_of me.0 in
           returned w refl (refl, refl, refl) mine
-          (readers_turned w (λ _. inr (inl refl)) (λ _. inr (inl refl)) (λ j h. inl (readers j h, λ f. never (sym looked ∙ f.0))))
-          (writer_stays w writer (λ o. o) (λ j f. f))
+          (readers_turned w (λ _. inr (inl refl)) (λ _. inr (inl refl)) (λ j h. inl (readers.0 j h, λ f. never (sym looked ∙ f.0))) (left_stand IsEntryOfReaders w me.0.readers.entries new_readers.entries readers.1 (λ j f. f.1)))
+          (writer_stays w writer (λ o. o) (λ j f. f) (λ j f. f))
 
-      pub hears_writer : Stays me.0.readers new_readers → Fewer me.0.writer.waiting new_writer.waiting → me.0.fresh ≡ false → R (stepped s 1 n id me.1 (told_writer_of me.0) gives)
+      pub hears_writer : Stays me.0.readers new_readers → Hears me.0.entry me.0.writer new_writer → me.0.fresh ≡ false → R (stepped s 1 n id me.1 (told_writer_of me.0) gives)
       hears_writer readers writer looked = let w : View = told_writer_of me.0 in let t = mine.0 in
           returned w refl (refl, refl, refl) (t, omega arith)
-          (readers_stay w readers (λ o. o) (λ j f. f))
-          (writer_turned w (λ _. inr (inl (inl refl))) (λ _. inr (inl (inl refl))) (λ j h. inl (writer j h, λ f. never (sym looked ∙ f.0))))
+          (readers_stay w readers (λ o. o) (λ j f. f) (λ j f. f))
+          (writer_turned w (λ _. inr (inl (inl refl))) (λ _. inr (inl (inl refl))) (λ j h. inl (writer.0 j h, λ f. never (sym looked ∙ f.0))) (left_stand IsEntryOfWriter w me.0.writer.entries new_writer.entries writer.1 (λ j f. f.1)))
 
       -- its entry has left, and what it was told has gone on
-      pub leaves_readers : Stays me.0.readers new_readers → Stays me.0.writer new_writer → LeftBy me.0.entry me.0.readers.waiting new_readers.waiting → me.0.in_writer ≡ false → R (stepped s 1 n id me.1 (gone_reader_of me.0) gives)
-      leaves_readers readers writer left off = let w : View = gone_reader_of me.0 in
+      pub leaves_readers : Goes me.0.entry me.0.readers new_readers → Stays me.0.writer new_writer → me.0.in_writer ≡ false → R (stepped s 1 n id me.1 (gone_reader_of me.0) gives)
+      leaves_readers readers writer off = let w : View = gone_reader_of me.0 in
           returned w refl (refl, refl, refl) mine
-          (readers_turned w (λ m. settled OwesReaders IsFreshReader w me.0.readers new_readers (readers.1 m)) (λ o. inr (inl o)) (λ j h. inl (readers.0 j h, λ f. absurd ((left j h).1 (sym f.2)))))
-          (writer_stays w writer (λ o. o) (λ j f. never (sym off ∙ f.1)))
+          (readers_turned w (λ m. readers_settled w (readers.1 m)) (λ o. inr (inl o)) (left_stand IsFreshReader w me.0.readers.waiting new_readers.waiting readers.0 (λ j f. f.1.1)) (left_stand IsEntryOfReaders w me.0.readers.entries new_readers.entries readers.2 (λ j f. f.1)))
+          (writer_stays w writer (λ o. o) (λ j f. never (sym off ∙ f.1.0)) (λ j f. f))
 
-      pub leaves_writer : Stays me.0.readers new_readers → Stays me.0.writer new_writer → LeftBy me.0.entry me.0.writer.waiting new_writer.waiting → me.0.in_readers ≡ false → R (stepped s 1 n id me.1 (gone_writer_of me.0) gives)
-      leaves_writer readers writer left away = let w : View = gone_writer_of me.0 in let t = mine.0 in
+      pub leaves_writer : Stays me.0.readers new_readers → Goes me.0.entry me.0.writer new_writer → me.0.in_readers ≡ false → R (stepped s 1 n id me.1 (gone_writer_of me.0) gives)
+      leaves_writer readers writer away = let w : View = gone_writer_of me.0 in let t = mine.0 in
           returned w refl (refl, refl, refl) (t, omega arith)
-          (readers_stay w readers (λ o. o) (λ j f. never (sym away ∙ f.1)))
-          (writer_turned w (λ m. settled TellsWriter IsFreshWriter w me.0.writer new_writer (writer.1 m)) (λ o. inr (inl o)) (λ j h. inl (writer.0 j h, λ f. absurd ((left j h).1 (sym f.2)))))
+          (readers_stay w readers (λ o. o) (λ j f. never (sym away ∙ f.1.0)) (λ j f. f))
+          (writer_turned w (λ m. writer_settled w (writer.1 m)) (λ o. inr (inl o)) (left_stand IsFreshWriter w me.0.writer.waiting new_writer.waiting writer.0 (λ j f. f.1.1)) (left_stand IsEntryOfWriter w me.0.writer.entries new_writer.entries writer.2 (λ j f. f.1)))
 
       -- it has notified one
-      pub pays_readers : Fewer me.0.readers.waiting new_readers.waiting → IsSettled new_readers → Stays me.0.writer new_writer → R (stepped s 1 n id me.1 (paid_readers_of me.0) gives)
-      pays_readers readers told writer = let w : View = paid_readers_of me.0 in
-          let end : Ends OwesReaders IsFreshReader w me.0.readers new_readers = settled OwesReaders IsFreshReader w me.0.readers new_readers told in
-          returned w refl (refl, refl, refl) mine (readers_turned w (λ _. end) (λ _. end) (λ j h. inl (readers j h, λ f. f))) (writer_stays w writer (λ o. o) (λ j f. f))
+      pub pays_readers : Pays me.0.readers new_readers → Stays me.0.writer new_writer → R (stepped s 1 n id me.1 (paid_readers_of me.0) gives)
+      pays_readers readers writer = let w : View = paid_readers_of me.0 in
+          let end : EndsReaders w = readers_settled w readers.1 in
+          returned w refl (refl, refl, refl) mine
+          (readers_turned w (λ _. end) (λ _. end) (λ j h. inl (readers.0 j h, λ f. f)) (same_stand IsEntryOfReaders w me.0.readers.entries new_readers.entries readers.2 (λ j f. f)))
+          (writer_stays w writer (λ o. o) (λ j f. f) (λ j f. f))
 
-      pub pays_writer : Stays me.0.readers new_readers → Fewer me.0.writer.waiting new_writer.waiting → IsSettled new_writer → R (stepped s 1 n id me.1 (paid_writer_of me.0) gives)
-      pays_writer readers writer told = let w : View = paid_writer_of me.0 in
-          let end : Ends TellsWriter IsFreshWriter w me.0.writer new_writer = settled TellsWriter IsFreshWriter w me.0.writer new_writer told in
-          returned w refl (refl, refl, refl) mine (readers_stay w readers (λ o. o) (λ j f. f)) (writer_turned w (λ _. end) (λ _. end) (λ j h. inl (writer j h, λ f. f)))
+      pub pays_writer : Stays me.0.readers new_readers → Pays me.0.writer new_writer → R (stepped s 1 n id me.1 (paid_writer_of me.0) gives)
+      pays_writer readers writer = let w : View = paid_writer_of me.0 in
+          let end : EndsWriter w = writer_settled w writer.1 in
+          returned w refl (refl, refl, refl) mine
+          (readers_stay w readers (λ o. o) (λ j f. f) (λ j f. f))
+          (writer_turned w (λ _. end) (λ _. end) (λ j h. inl (writer.0 j h, λ f. f)) (same_stand IsEntryOfWriter w me.0.writer.entries new_writer.entries writer.2 (λ j f. f)))
 
       -- nothing has changed
       pub remains : Stays me.0.readers new_readers → Stays me.0.writer new_writer → R (stepped s 1 n id me.1 (back me.0) gives)
-      remains readers writer = let w : View = back me.0 in returned w refl (refl, refl, refl) mine (readers_stay w readers (λ o. o) (λ j f. f)) (writer_stays w writer (λ o. o) (λ j f. f))
+      remains readers writer = let w : View = back me.0 in returned w refl (refl, refl, refl) mine (readers_stay w readers (λ o. o) (λ j f. f) (λ j f. f)) (writer_stays w writer (λ o. o) (λ j f. f) (λ j f. f))
 
 -- ---- what the rule says of two seats: nobody reads or writes beside who writes
 pub alone_with : (S : Type 0) (readers_of writer_of : S → Listed) (s : State S View) → Ruled readers_of writer_of s → (i j : ℕ) (v w : View) → i ≢ j → get_elem? s.views i ≡ some v → get_elem? s.views j ≡ some w → v.writes ≡ true → (w.reads ≡ false) × (w.writes ≡ false)

@@ -32,12 +32,19 @@ OwesReaders v = v.owes_readers ≡ true
 abbrev pub TellsWriter : View → Type 0
 TellsWriter v = (v.owes_writer ≡ true) ⊎ (v.writes ≡ true)
 
--- It has joined the list with the entry n, and has not looked since, or found its right free.
+-- It stands in the list with the entry n.
+abbrev pub IsEntryOfReaders : ℕ → View → Type 0
+IsEntryOfReaders n v = (v.in_readers ≡ true) × (v.entry ≡ n)
+
+abbrev pub IsEntryOfWriter : ℕ → View → Type 0
+IsEntryOfWriter n v = (v.in_writer ≡ true) × (v.entry ≡ n)
+
+-- The same, and it has not looked since it joined, or found its right free.
 abbrev pub IsFreshReader : ℕ → View → Type 0
-IsFreshReader n v = (v.fresh ≡ true) × (v.in_readers ≡ true) × (v.entry ≡ n)
+IsFreshReader n v = (v.fresh ≡ true) × IsEntryOfReaders n v
 
 abbrev pub IsFreshWriter : ℕ → View → Type 0
-IsFreshWriter n v = (v.fresh ≡ true) × (v.in_writer ≡ true) × (v.entry ≡ n)
+IsFreshWriter n v = (v.fresh ≡ true) × IsEntryOfWriter n v
 
 -- No wake-up is lost of a list: one in it is notified, or a seat has to notify one, or each that waits is fresh.
 abbrev pub LosesNone : (View → Type 0) → (ℕ → View → Type 0) → Listed → List View → Type 0
@@ -78,6 +85,9 @@ pub record Ruled {S : Type 0} (readers_of writer_of : S → Listed) (s : State S
   pub writer : Listed
   pub clear : slice_index s.words 0 % 2 ≡ 0 → LosesNone OwesReaders IsFreshReader readers s.views
   pub left : slice_index s.words 0 ≡ 1 → LosesNone TellsWriter IsFreshWriter writer s.views
+  -- each entry of a list, notified or not, is of a seat that stands in it
+  pub standing_readers : AreOf IsEntryOfReaders readers.entries s.views
+  pub standing_writer : AreOf IsEntryOfWriter writer.entries s.views
   pub unlisted : SaysEmpty (slice_index s.words 1) → (readers.waiting ≡ []) × (writer.waiting ≡ [])
   pub home : number has_lists_out s.views ≡ 0 → (lists : S) × (get_elem? s.homes 0 ≡ some (some lists)) × (readers_of lists ≡ readers) × (writer_of lists ≡ writer)
   pub out : (i : ℕ) (v : View) → get_elem? s.views i ≡ some v → v.has_lists ≡ true → (v.readers ≡ readers) × (v.writer ≡ writer)

@@ -1,5 +1,5 @@
 -- What steps tell, and what a seat has that has the lists out.
-use Rattle.std.specs.Prelude.{◌≡◌, ◌≢◌, ℕ, ◌%◌, ◌<◌, ◌≤◌, true, [], ◌∷◌}
+use Rattle.std.specs.Prelude.{◌≡◌, ◌≢◌, ℕ, ◌%◌, ◌<◌, ◌≤◌, true, [], ◌∷◌, ◌++◌}
 use Rattle.atomic_table.specs.Table.{Me, rest}
 use Rattle.words_access.specs.Lists.{Listed}
 use Rattle.words_base.specs.Waiting.{Fewer, JoinedBy, LeftBy, StaysTold, last_of}
@@ -57,13 +57,25 @@ module _ {S : Type 0} (readers_of writer_of : S → Listed) where
   abbrev pub IsHeld : Me S View → Type 0
   IsHeld m = (lists : S) × (m.0.has_lists ≡ true) × (m.0.readers ≡ readers_of lists) × (m.0.writer ≡ writer_of lists) × (m.1 ≡ (0, lists) ∷ rest m.1)
 
--- Nobody waits that didn't before; and if one was notified, one is, or nobody waits.
+-- Nobody waits that didn't before; if one was notified, one is, or nobody waits; and the same entries stand in it.
 abbrev pub Stays : Listed → Listed → Type 0
-Stays old new = Fewer old.waiting new.waiting × StaysTold old.notified new.waiting new.notified
+Stays old new = Fewer old.waiting new.waiting × StaysTold old.notified new.waiting new.notified × (new.entries ≡ old.entries)
 
--- One has joined, with this number.
+-- One has joined at the end, with this number.
 abbrev pub Joins : ℕ → Listed → Listed → Type 0
-Joins k old new = JoinedBy k old.waiting new.waiting × (last_of new.waiting ≡ k) × (old.notified ≤ new.notified)
+Joins k old new = JoinedBy k old.waiting new.waiting × (last_of new.waiting ≡ k) × (old.notified ≤ new.notified) × (new.entries ≡ old.entries ++ k ∷ [])
+
+-- The entry of this number was notified, and has left.
+abbrev pub Hears : ℕ → Listed → Listed → Type 0
+Hears k old new = Fewer old.waiting new.waiting × LeftBy k old.entries new.entries
+
+-- The entry of this number has left: what it was notified of has gone on.
+abbrev pub Goes : ℕ → Listed → Listed → Type 0
+Goes k old new = LeftBy k old.waiting new.waiting × StaysTold old.notified new.waiting new.notified × LeftBy k old.entries new.entries
+
+-- One is notified, or nobody waits; and the same entries stand in it.
+abbrev pub Pays : Listed → Listed → Type 0
+Pays old new = Fewer old.waiting new.waiting × IsSettled new × (new.entries ≡ old.entries)
 
 -- The lists that are out with a seat may be given back with this word.
 module _ {S : Type 0} (readers_of writer_of : S → Listed) (m : Me S View) (n : ℕ) where
@@ -81,26 +93,26 @@ module _ {S : Type 0} (readers_of writer_of : S → Listed) (m : Me S View) (n :
 
   -- A reader that was notified has left.
   abbrev pub CanHearReader : Type 0
-  CanHearReader = (lists : S) × Out lists × Fewer m.0.readers.waiting (readers_of lists).waiting × Stays m.0.writer (writer_of lists)
+  CanHearReader = (lists : S) × Out lists × Hears m.0.entry m.0.readers (readers_of lists) × Stays m.0.writer (writer_of lists)
 
   abbrev pub CanHearWriter : Type 0
-  CanHearWriter = (lists : S) × Out lists × Stays m.0.readers (readers_of lists) × Fewer m.0.writer.waiting (writer_of lists).waiting
+  CanHearWriter = (lists : S) × Out lists × Stays m.0.readers (readers_of lists) × Hears m.0.entry m.0.writer (writer_of lists)
 
   -- The seat's entry has left the readers: what it was notified of has gone on.
   abbrev pub CanLeaveReaders : Type 0
-  CanLeaveReaders = (lists : S) × Out lists × Stays m.0.readers (readers_of lists) × Stays m.0.writer (writer_of lists) × LeftBy m.0.entry m.0.readers.waiting (readers_of lists).waiting
+  CanLeaveReaders = (lists : S) × Out lists × Goes m.0.entry m.0.readers (readers_of lists) × Stays m.0.writer (writer_of lists)
 
   abbrev pub CanLeaveWriter : Type 0
-  CanLeaveWriter = (lists : S) × Out lists × Stays m.0.readers (readers_of lists) × Stays m.0.writer (writer_of lists) × LeftBy m.0.entry m.0.writer.waiting (writer_of lists).waiting
+  CanLeaveWriter = (lists : S) × Out lists × Stays m.0.readers (readers_of lists) × Goes m.0.entry m.0.writer (writer_of lists)
 
   -- A reader is notified.
   abbrev pub CanPayReaders : Type 0
-  CanPayReaders = (lists : S) × Out lists × Fewer m.0.readers.waiting (readers_of lists).waiting × IsSettled (readers_of lists) × Stays m.0.writer (writer_of lists)
+  CanPayReaders = (lists : S) × Out lists × Pays m.0.readers (readers_of lists) × Stays m.0.writer (writer_of lists)
 
   -- Who waits to write is notified.
   abbrev pub CanPayWriter : Type 0
-  CanPayWriter = (lists : S) × Out lists × Stays m.0.readers (readers_of lists) × Fewer m.0.writer.waiting (writer_of lists).waiting × IsSettled (writer_of lists)
+  CanPayWriter = (lists : S) × Out lists × Stays m.0.readers (readers_of lists) × Pays m.0.writer (writer_of lists)
 
-  -- Nobody waits that didn't before.
+  -- Nothing changes for the seat.
   abbrev pub CanStay : Type 0
   CanStay = (lists : S) × Out lists × Stays m.0.readers (readers_of lists) × Stays m.0.writer (writer_of lists)

@@ -1,6 +1,5 @@
 //! The rule of the table.
 
-ghost use Rattle.std.specs.Prelude.{ℕ};
 ghost use Rattle.words_access.specs.Lists.{Listed};
 
 use crate::view::View;
@@ -13,12 +12,6 @@ pub trait Content {
 
     /// The list of who waits until no reader is inside.
     ghost writer: { Self → Listed };
-}
-
-/// What names an entry, by its number.
-pub trait Numbered {
-    /// The entry's number.
-    ghost number: { Self → ℕ };
 }
 
 /// What always holds of the table of a read-write lock's state and lists.

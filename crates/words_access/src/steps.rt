@@ -10,9 +10,10 @@ use crate::plays::{
     LeavesReaders, LeavesWriter, Looks, LooksLeft, Marks, PaysReaders, PaysWriter, Peeks, Stays,
     Unmarks, Upgrades, Wins,
 };
-use crate::rule::{AccessRule, Content, Numbered};
+use crate::rule::{AccessRule, Content};
 use crate::view::View;
 use atomic_table::{Seat as TableSeat, Shared};
+use words_base::Numbered;
 
 /// The tables of read-write locks' states with their lists.
 pub type Ruled<S> = Shared<S, View, (), AccessRule>;

@@ -1,5 +1,8 @@
-use Rattle.words_access.proofs.Wakeups.{readers, writer, nobody_else, readers_at_rest, writer_at_rest}
+use Rattle.words_access.proofs.Wakeups.{standing, readers, writer, nobody_else, readers_at_rest, writer_at_rest}
 use Rattle.words_access.proofs.laws.no_lost_wakeup.Goals as goal
+
+pub returns-clause-standing : goal.returns-clause-standing
+returns-clause-standing g c s r = standing _ _ s r
 
 pub returns-clause-readers : goal.returns-clause-readers
 returns-clause-readers g c s r = readers _ _ s r
