@@ -1,5 +1,5 @@
 -- What the calls on a list do to those that wait in it.
-use Rattle.words_base.specs.Waiting.{Has, NoneWaits, Fewer, JoinedBy, StaysTold, last_of}
+use Rattle.words_base.specs.Waiting.{Has, NoneWaits, Fewer, JoinedBy, LeftBy, StaysTold, last_of}
 use Rattle.std.proofs.Common.{◌≡◌, ◌≢◌, ℕ, ◌+◌, ◌-◌, ◌<◌, ◌≤◌, ◌==◌, ◌||◌, if◌then◌else◌, Bool, true, false, not, List, [], ◌∷◌, ◌++◌, length, refl, sym, ap, ◌∙◌, subst, arith, ◌⊎◌, inl, inr, ⊎_elim, Option, Some, None, Result, Ok, Err, IfOk, eq-eqb, ne_eqb, true≢false}
 use mathlib.Core.Logic.{dite}
 use native.Mathlib.Decide.{ℕ_discrete}
@@ -14,9 +14,11 @@ use Rattle.lock_event.specs.Lists.{is_marked, marked_count, entry, joined, mark_
 use Rattle.lock_event.specs.Slots.{without_waker, has_id, slot_of, is_due, emptied, HasAsked}
 use Rattle.lock_event.proofs.Counts.{marked_count-notified}
 use Rattle.lock_event.proofs.Marks.{length-mark_waiting, marked_count-joined, marked_count-with_key}
-use Rattle.lock_queue.specs.Entries.{unless_marked, waiting_in, HasFewer, IsKept, HasJoined, IsTold, AreTold, IsGone, HasLeft}
-use Rattle.lock_queue.specs.Sizes.{IsOneLess, IsOneGone}
-use Rattle.lock_queue.proofs.Sizing.{notified_size, left_size, all_size, all_less, keyed_size, joined_size, waker_size, notified_without_waker, gone_without_waker, asked_size}
+use Rattle.lock_queue.specs.Entries.{unless_marked, waiting_in, numbers_in, HasFewer, IsKept, HasJoined, IsTold, AreTold, IsGone, HasLeft}
+use Rattle.lock_queue.specs.Sizes.{IsOneGone}
+use Rattle.words_base.proofs.Waiting.{joined_by, last-pushed}
+use Rattle.lock_queue.proofs.Numbers.{numbers-mark, numbers-without_waker, numbers-with_key, numbers-joined, less-left, less_asked, gone_by}
+use Rattle.lock_queue.proofs.Sizing.{notified_size, left_size, keyed_size, joined_size, waker_size, notified_without_waker, gone_without_waker, asked_size}
 
 -- ---- numbers
 pub fewer_same : (l : List ℕ) → Fewer l l
@@ -39,18 +41,6 @@ marks b k old new all n h = skip b k old n (all n h)
 pushed : (b : Bool) (k x : ℕ) (l : List ℕ) → unless_marked b k (l ++ x ∷ []) ≡ unless_marked b k l ++ x ∷ []
 pushed true k x l = refl
 pushed false k x l = refl
-
-joined_by : (x : ℕ) (l : List ℕ) → JoinedBy x l (l ++ x ∷ [])
-joined_by x [] n h = ⊎_elim (λ e. inr (sym e)) (λ z. absurd z) h
-joined_by x (k ∷ ks) n h = ⊎_elim (λ e. inl (inl e)) (λ r. ⊎_elim (λ a. inl (inr a)) (λ b. inr b) (joined_by x ks n r)) h
-
-last-cons : (k : ℕ) (x : ℕ) (l : List ℕ) → last_of (k ∷ l ++ x ∷ []) ≡ last_of (l ++ x ∷ [])
-last-cons k x [] = refl
-last-cons k x (y ∷ ys) = refl
-
-last-pushed : (x : ℕ) (l : List ℕ) → last_of (l ++ x ∷ []) ≡ x
-last-pushed x [] = refl
-last-pushed x (k ∷ ks) = last-cons k x ks ∙ last-pushed x ks
 
 module _ {W : Type 0} where
   abbrev number : Entry (Slot W) → ℕ
@@ -80,8 +70,8 @@ module _ {W : Type 0} where
   all-mark m n [] told many = λ k h. h
   all-mark m n (e ∷ es) told many = none_head m e (mark_waiting m n es) (mark_waiting m (n - 1) es) (is_marked e.mark) (n == 0) told refl (ne_eqb n 0 (λ z. omega (arith, z, many))) (all-mark m n es told (omega arith)) (all-mark m (n - 1) es told (omega arith))
 
-  pub all_told : (es : List (Entry (Slot W))) → AreTold (notified_additionally es (length es))
-  all_told es = record { none_waits = all-mark Additional (length es) es refl (omega arith) }
+  pub all_told : (es : List (Entry (Slot W))) → AreTold es (notified_additionally es (length es))
+  all_told es = record { none_waits = all-mark Additional (length es) es refl (omega arith); stand = numbers-mark Additional (length es) es }
 
   few-marked : (es : List (Entry (Slot W))) → marked_count es ≤ length es
   few-marked [] = omega arith
@@ -99,8 +89,8 @@ module _ {W : Type 0} where
   rest-mark m n [] told many = λ k h. h
   rest-mark m n (e ∷ es) told many = rest_head m e n es (mark_waiting m n es) (mark_waiting m (n - 1) es) (is_marked e.mark) (n == 0) told refl refl (few-marked es) many (rest-mark m n es told) (rest-mark m (n - 1) es told)
 
-  pub each_told : (es : List (Entry (Slot W))) → AreTold (notified es (length es))
-  each_told es = let f = few-marked es in record { none_waits = rest-mark Notified (length es - marked_count es) es refl (omega arith) }
+  pub each_told : (es : List (Entry (Slot W))) → AreTold es (notified es (length es))
+  each_told es = let f = few-marked es in record { none_waits = rest-mark Notified (length es - marked_count es) es refl (omega arith); stand = numbers-mark Notified (length es - marked_count es) es }
 
   -- ---- no entries
   empty_waits : (es : List (Entry (Slot W))) → length es ≡ 0 → NoneWaits (waiting_in es)
@@ -111,7 +101,7 @@ module _ {W : Type 0} where
   told-from es new same some = dite (ℕ_discrete (length new) 0) (λ z. inr (empty_waits new z)) (λ ne. inl (some (omega arith)))
 
   pub one_told : (es : List (Entry (Slot W))) → IsTold es (notified es 1)
-  one_told es = record { fewer = fewer-mark Notified (1 - marked_count es) es refl; told = told-from es (notified es 1) (length-mark_waiting Notified (1 - marked_count es) es) (marked_count-notified es); size = notified_size es }
+  one_told es = record { fewer = fewer-mark Notified (1 - marked_count es) es refl; told = told-from es (notified es 1) (length-mark_waiting Notified (1 - marked_count es) es) (marked_count-notified es); stand = numbers-mark Notified (1 - marked_count es) es; size = notified_size es }
 
   -- ---- taking a waker
   waker_head : (b : Bool) (e : Entry (Slot W)) (es fs : List (Entry (Slot W))) → waiting_in fs ≡ waiting_in es → waiting_in (if b then emptied e ∷ es else e ∷ fs) ≡ unless_marked (is_marked e.mark) (number e) (waiting_in es)
@@ -127,27 +117,28 @@ module _ {W : Type 0} where
 
   pub kept_without_waker : (es : List (Entry (Slot W))) → IsKept es (without_waker es)
   kept_without_waker es = let m = (waker_size es).1 in
-      record { fewer = fewer_of (waiting_in es) (waiting_in (without_waker es)) (waits-without_waker es); told = stays_told es (without_waker es) (omega arith); size = waker_size es }
+      record { fewer = fewer_of (waiting_in es) (waiting_in (without_waker es)) (waits-without_waker es); told = stays_told es (without_waker es) (omega arith); stand = numbers-without_waker es; size = waker_size es }
 
   pub kept_same : (es : List (Entry (Slot W))) → IsKept es es
-  kept_same es = record { fewer = λ n h. h; told = λ some. inl some; size = (refl, refl) }
+  kept_same es = record { fewer = λ n h. h; told = λ some. inl some; stand = refl; size = (refl, refl) }
 
   pub kept_on : (a b c : List (Entry (Slot W))) → IsKept a b → IsKept b c → IsKept a c
-  kept_on a b c f g = record { fewer = λ n h. f.fewer n (g.fewer n h); told = λ some. ⊎_elim (λ m. g.told m) (λ none. inr (λ n h. none n (g.fewer n h))) (f.told some); size = (g.size.0 ∙ f.size.0, g.size.1 ∙ f.size.1) }
+  kept_on a b c f g = record { fewer = λ n h. f.fewer n (g.fewer n h); told = λ some. ⊎_elim (λ m. g.told m) (λ none. inr (λ n h. none n (g.fewer n h))) (f.told some); stand = g.stand ∙ f.stand; size = (g.size.0 ∙ f.size.0, g.size.1 ∙ f.size.1) }
 
-  pub told_on : (b c : List (Entry (Slot W))) → AreTold b → IsKept b c → AreTold c
-  told_on b c t g = record { none_waits = λ n h. t.none_waits n (g.fewer n h) }
+  pub told_on : (a b c : List (Entry (Slot W))) → AreTold a b → IsKept b c → AreTold a c
+  told_on a b c t g = record { none_waits = λ n h. t.none_waits n (g.fewer n h); stand = g.stand ∙ t.stand }
 
   -- what was so of the list before a waker was taken out
   pub told_without_waker : (old es : List (Entry (Slot W))) → IsTold old es → IsTold old (without_waker es)
   told_without_waker old es t = let w = waits-without_waker es in let m = (waker_size es).1 in
-      record { fewer = λ n h. t.fewer n (subst (Has n) w h); told = ⊎_elim (λ some. inl (omega arith)) (λ none. inr (λ n h. none n (subst (Has n) w h))) t.told; size = notified_without_waker old es t.size }
+      record { fewer = λ n h. t.fewer n (subst (Has n) w h); told = ⊎_elim (λ some. inl (omega arith)) (λ none. inr (λ n h. none n (subst (Has n) w h))) t.told; stand = numbers-without_waker es ∙ t.stand; size = notified_without_waker old es t.size }
 
   pub left_without_waker : (old es : List (Entry (Slot W))) (k : ℕ) → HasLeft old es k → HasLeft old (without_waker es) k
   left_without_waker old es k t = let w = waits-without_waker es in let m = (waker_size es).1 in record {
     fewer = λ n h. t.fewer n (subst (Has n) w h);
     told = λ some. ⊎_elim (λ more. inl (omega arith)) (λ none. inr (λ n h. none n (subst (Has n) w h))) (t.told some);
     left = λ n h. t.left n (subst (Has n) w h);
+    stand = subst (LeftBy k (numbers_in old)) (sym (numbers-without_waker es)) t.stand;
     size = gone_without_waker old es t.size;
   }
 
@@ -186,28 +177,11 @@ module _ {W : Type 0} where
   pub left_once : (id : EntryId) (es new : List (Entry (Slot W))) → new ≡ left (has_id id) es → is_listed (has_id id) new ≡ false → HasLeft es new id.number
   left_once id es new is away =
       let fewer : Less es new = subst (Less es) (sym is) (fewer-left (has_id id) es) in
-      record { fewer = fewer; told = subst (λ l. StaysTold (marked_count es) (waiting_in l) (marked_count l)) (sym is) (told-left (has_id id) es); left = λ n h. (fewer n h, not_there id new away n h); size = subst (IsOneGone es) (sym is) (left_size (has_id id) es) }
+      record { fewer = fewer; told = subst (λ l. StaysTold (marked_count es) (waiting_in l) (marked_count l)) (sym is) (told-left (has_id id) es); left = λ n h. (fewer n h, not_there id new away n h); stand = gone_by id es new (subst (λ l. Fewer (numbers_in es) (numbers_in l)) (sym is) (less-left (has_id id) es)) away; size = subst (IsOneGone es) (sym is) (left_size (has_id id) es) }
 
-  none-of : (mid new : List (Entry (Slot W))) → new ≡ notified_additionally mid (length mid) → NoneWaits (waiting_in new)
-  none-of mid new is = subst (λ l. NoneWaits (waiting_in l)) (sym is) ((all_told mid).none_waits)
-
-  -- it has left, and nobody waits
-  pub left_all : (id : EntryId) (old mid new : List (Entry (Slot W))) (k : ℕ) → mid ≡ left (has_id id) old → new ≡ notified_additionally mid (length mid) → HasLeft old new k
-  left_all id old mid new k out is = let none = none-of mid new is in record {
-    fewer = λ n h. absurd (none n h);
-    told = λ _. inr none;
-    left = λ n h. absurd (none n h);
-    size = subst (IsOneGone old) (sym is) (all_size old mid (subst (IsOneGone old) (sym out) (left_size (has_id id) old)));
-  }
-
-  -- nobody waits who didn't before, and no entry has the number
-  pub gone_once : (id : EntryId) (old new : List (Entry (Slot W))) → HasFewer old new → is_listed (has_id id) new ≡ false → IsGone old new id.number
-  gone_once id old new kept away = record { left = λ n h. (kept.fewer n h, not_there id new away n h) }
-
-  -- nobody waits
-  pub gone_all : (old mid new : List (Entry (Slot W))) (k : ℕ) → HasFewer old mid → new ≡ notified_additionally mid (length mid) → HasFewer old new × IsGone old new k
-  gone_all old mid new k less is = let none = none-of mid new is in
-      (record { fewer = λ n h. absurd (none n h); size = subst (IsOneLess old) (sym is) (all_less old mid less.size) }, record { left = λ n h. absurd (none n h) })
+  -- whoever has asked and didn't wait has left, and no entry has the number
+  pub gone_once : (id : EntryId) (w : Option W) (old new : List (Entry (Slot W))) (a : Asked W) → HasAsked id w old a new → HasFewer old new → is_listed (has_id id) new ≡ false → IsGone old new id.number
+  gone_once id w old new a asked kept away = record { left = λ n h. (kept.fewer n h, not_there id new away n h); stand = gone_by id old new (less_asked id w old new a asked) away }
 
   -- ---- asking
   key_head : (id : EntryId) (w : Option W) (b : Bool) (e : Entry (Slot W)) (es fs : List (Entry (Slot W))) → has_id id e.key ≡ b → Less es fs
@@ -220,7 +194,7 @@ module _ {W : Type 0} where
   fewer-with_key id w (e ∷ es) = key_head id w (has_id id e.key) e es (with_key (has_id id) (slot_of id w) es) refl (fewer-with_key id w es)
 
   pub kept_keyed : (id : EntryId) (w : Option W) (es : List (Entry (Slot W))) → IsKept es (with_key (has_id id) (slot_of id w) es)
-  kept_keyed id w es = let m = marked_count-with_key (has_id id) (slot_of id w) es in record { fewer = fewer-with_key id w es; told = stays_told es (with_key (has_id id) (slot_of id w) es) (omega arith); size = keyed_size (has_id id) (slot_of id w) es }
+  kept_keyed id w es = let m = marked_count-with_key (has_id id) (slot_of id w) es in record { fewer = fewer-with_key id w es; told = stays_told es (with_key (has_id id) (slot_of id w) es) (omega arith); stand = numbers-with_key id w es; size = keyed_size (has_id id) (slot_of id w) es }
 
   pub fewer_asked : (id : EntryId) (w : Option W) (old new : List (Entry (Slot W))) (a : Asked W) → HasAsked id w old a new → HasFewer old new
   fewer_asked id w old new (asked.Notified kept unused) h = record { fewer = subst (λ (l : List (Entry (Slot W))). Less old l) (sym h.1) (fewer-without (has_id id) old); size = asked_size id w old new (asked.Notified kept unused) h }
@@ -234,7 +208,7 @@ module _ {W : Type 0} where
 
   has-joined : (k : Slot W) (es : List (Entry (Slot W))) → HasJoined es (joined es k) k.id.number
   has-joined k es = let w = waits-joined k es in let m = marked_count-joined es k in
-      record { joined = λ n h. joined_by k.id.number (waiting_in es) n (subst (Has n) w h); last = ap last_of w ∙ last-pushed k.id.number (waiting_in es); marked = omega arith; size = joined_size k es }
+      record { joined = λ n h. joined_by k.id.number (waiting_in es) n (subst (Has n) w h); last = ap last_of w ∙ last-pushed k.id.number (waiting_in es); marked = omega arith; stand = numbers-joined k es; size = joined_size k es }
 
   pub joined_ok : {B : Type 0} (old new : List (Entry (Slot W))) (r : Result EntryId B) → IfOk r (λ id. new ≡ joined old (slot_of id None)) → IfOk r (λ id. HasJoined old new id.number)
   joined_ok old new (Ok id) is = subst (λ (l : List (Entry (Slot W))). HasJoined old l id.number) (sym is) (has-joined (slot_of id None) old)
@@ -252,7 +226,7 @@ module _ {W : Type 0} where
 
   rekeyed : (id : EntryId) (w : Option W) (old mid : List (Entry (Slot W))) (k : ℕ) → HasJoined old mid k → HasJoined old (with_key (has_id id) (slot_of id w) mid) k
   rekeyed id w old mid k j = let same = waits-with_key id w mid in let m = marked_count-with_key (has_id id) (slot_of id w) mid in
-      record { joined = λ n h. j.joined n (subst (Has n) same h); last = ap last_of same ∙ j.last; marked = omega (arith, j.marked, m); size = let k = keyed_size (has_id id) (slot_of id w) mid in (k.0 ∙ j.size.0, k.1 ∙ j.size.1) }
+      record { joined = λ n h. j.joined n (subst (Has n) same h); last = ap last_of same ∙ j.last; marked = omega (arith, j.marked, m); stand = numbers-with_key id w mid ∙ j.stand; size = let k = keyed_size (has_id id) (slot_of id w) mid in (k.0 ∙ j.size.0, k.1 ∙ j.size.1) }
 
   pub joined_keyed : (id : EntryId) (w : Option W) (old mid : List (Entry (Slot W))) → mid ≡ joined old (slot_of id None) → HasJoined old (with_key (has_id id) (slot_of id w) mid) id.number
   joined_keyed id w old mid is = rekeyed id w old mid id.number (subst (λ (l : List (Entry (Slot W))). HasJoined old l id.number) (sym is) (has-joined (slot_of id None) old))

@@ -2,13 +2,13 @@
 use Rattle.std.proofs.Common.{◌≡◌, ◌+◌, ◌-◌, ◌≤◌, Bool, List, [], ◌∷◌, length, refl, sym, ap, ◌∙◌, subst, arith, Option}
 use Rattle.lock_event.specs.declared.event.Entry.{Entry}
 use Rattle.lock_event.specs.declared.event.EntryId.{EntryId}
-use Rattle.lock_event.specs.declared.event.Mark.TheVariants.{Notified, Additional}
+use Rattle.lock_event.specs.declared.event.Mark.TheVariants.{Notified}
 use Rattle.lock_event.specs.declared.event.Slot.{Slot}
 use Rattle.lock_event.specs.declared.event.Asked.{Asked}
 use Rattle.lock_event.specs.declared.event.Asked.TheVariants as asked
-use Rattle.lock_event.specs.Lists.{marked_count, joined, notified, notified_additionally, left, without, with_key, mark_at}
+use Rattle.lock_event.specs.Lists.{marked_count, joined, notified, left, without, with_key, mark_at}
 use Rattle.lock_event.specs.Slots.{without_waker, has_id, slot_of, HasAsked}
-use Rattle.lock_event.proofs.Counts.{length-joined, marked_count-notified, marked_count-left, marked_count-le-mark_waiting, length-passed_on}
+use Rattle.lock_event.proofs.Counts.{length-joined, marked_count-notified, marked_count-left, length-passed_on}
 use Rattle.lock_event.proofs.Marks.{length-mark_waiting, marked_count-joined, marked_count-with_key}
 use Rattle.lock_queue.specs.Sizes.{IsOneMore, IsOneNotified, IsOneLess, IsOneGone, IsSameSize}
 
@@ -27,15 +27,6 @@ module _ {K : Type 0} where
   pub left_size : (test : K → Bool) (es : List (Entry K)) → IsOneGone es (left test es)
   left_size test es = let l = length-passed_on (mark_at test es) (without test es) in let w = length-without test es in let o = one-without test es in
       (omega arith, omega arith, λ some were. marked_count-left test es (omega arith) were)
-
-  -- all are notified beside
-  pub all_size : (old mid : List (Entry K)) → IsOneGone old mid → IsOneGone old (notified_additionally mid (length mid))
-  all_size old mid g =
-      let l = length-mark_waiting Additional (length mid) mid in let m = marked_count-le-mark_waiting Additional (length mid) mid refl in let a = g.0 in let b = g.1 in
-      (omega arith, omega arith, λ some were. let k = g.2 (omega arith) were in omega arith)
-
-  pub all_less : (old mid : List (Entry K)) → IsOneLess old mid → IsOneLess old (notified_additionally mid (length mid))
-  all_less old mid less = let l = length-mark_waiting Additional (length mid) mid in omega arith
 
   length-with_key : (test : K → Bool) (k : K) (es : List (Entry K)) → length (with_key test k es) ≡ length es
   length-with_key test k [] = refl

@@ -53,7 +53,7 @@ pub(crate) fn notify(event: &mut Event<Waker>) -> Option<Waker>
 
 // Notifies all who wait: the wakers that are due.
 pub(crate) fn notify_all(event: &mut Event<Waker>, alloc: Global) -> AllDue
-    ensures { AreTold event.new.entries }
+    ensures { AreTold event.old.entries event.new.entries }
 {
     let all = event.len();
     event.notify_additional(all);
@@ -62,7 +62,7 @@ pub(crate) fn notify_all(event: &mut Event<Waker>, alloc: Global) -> AllDue
 
 // The same, by plain notifications: those that were notified before count as such.
 pub(crate) fn notify_each(event: &mut Event<Waker>, alloc: Global) -> AllDue
-    ensures { AreTold event.new.entries }
+    ensures { AreTold event.old.entries event.new.entries }
 {
     let all = event.len();
     event.notify(all);
@@ -100,21 +100,8 @@ pub(crate) fn next_due(event: &mut Event<Waker>) -> Option<Waker>
 pub(crate) fn leave(event: &mut Event<Waker>, id: EntryId) -> (Option<Waker>, Option<Waker>)
     ensures { HasLeft event.old.entries event.new.entries id.number }
 {
-    let kept = withdraw(event, id);
-    (kept, event.next_waker())
-}
-
-// An entry leaves: what it kept.
-fn withdraw(event: &mut Event<Waker>, id: EntryId) -> Option<Waker>
-    ensures { HasLeft event.old.entries event.new.entries id.number }
-{
     let kept = event.withdraw(id);
-    if event.contains(id) {
-        // No second entry has the number. Were there one, nobody would wait in it.
-        event.notify_additional(event.len());
-        return kept;
-    }
-    kept
+    (kept, event.next_waker())
 }
 
 // An entry asks for its notification. One that waits keeps a waker of the task of `cx`, which registers with `source`.
@@ -156,20 +143,6 @@ fn told(event: &mut Event<Waker>, id: EntryId) -> Option<Waker>
     requires { is_waiting_at (has_id id) event.old.entries ≡ false }
     ensures fewer { HasFewer event.old.entries event.new.entries }
     ensures gone { IsGone event.old.entries event.new.entries id.number }
-{
-    let kept = taken_out(event, id);
-    if event.contains(id) {
-        // No second entry has the number. Were there one, nobody would wait in it.
-        event.notify_additional(event.len());
-        return kept;
-    }
-    kept
-}
-
-// The same, with what becomes of the others.
-fn taken_out(event: &mut Event<Waker>, id: EntryId) -> Option<Waker>
-    requires { is_waiting_at (has_id id) event.old.entries ≡ false }
-    ensures { HasFewer event.old.entries event.new.entries }
 {
     match event.ask(id, None) {
         Asked::Notified { kept, .. } => kept,

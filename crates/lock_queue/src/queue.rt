@@ -118,7 +118,7 @@ impl Queue {
 
     /// Notifies all who wait: the wakers that are due.
     pub fn notify_all(&mut self, alloc: Global) -> AllDue
-        ensures { AreTold (entries_of self.new) }
+        ensures { AreTold (entries_of self.old) (entries_of self.new) }
     {
         match &mut self.entries {
             Some(event) => list::notify_all(event, alloc),
@@ -128,7 +128,7 @@ impl Queue {
 
     /// The same, by plain notifications: one that goes on as its entry leaves goes on only where no entry is notified.
     pub fn notify_each(&mut self, alloc: Global) -> AllDue
-        ensures { AreTold (entries_of self.new) }
+        ensures { AreTold (entries_of self.old) (entries_of self.new) }
     {
         match &mut self.entries {
             Some(event) => list::notify_each(event, alloc),

@@ -2,3 +2,4 @@ pub mod Sums
 pub mod Exchanges
 pub mod MutexWord
 pub mod Views
+pub mod Waiting

@@ -31,6 +31,10 @@ module _ {V : Type 0} where
         ⊎_elim' (inl p) = own P w (good p)
         ⊎_elim' (inr other) = other w
 
+    -- it wasn't the seat's own
+    pub own_else : (P : V → Type 0) (w : V) → (P v → ⊥) → SomeSeat P l → SomeSeat P (set l i w)
+    own_else P w not = stays P w (λ p. absurd (not p))
+
     pub all_stay : (P : ℕ → V → Type 0) (waiting : List ℕ) (w : V) → ((n : ℕ) → P n v → P n w) → AreOf P waiting l → AreOf P waiting (set l i w)
     all_stay P waiting w good all n h = stays (P n) w (good n) (all n h)
 

@@ -3,8 +3,10 @@
 #![tactic(auto)]
 
 mod found;
+mod numbered;
 
 pub use found::{Setting, Taking, TakingAlone};
+pub use numbered::Numbered;
 
 /// What the slots of a table have that has none.
 #[derive(Drop)]

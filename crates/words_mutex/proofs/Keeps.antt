@@ -1,5 +1,5 @@
 -- Each step on the table keeps its rule.
-use Rattle.std.proofs.Common.{◌≡◌, ◌≢◌, ℕ, zero, suc, ◌+◌, ◌-◌, ◌/◌, ◌%◌, ◌^◌, ◌<◌, ◌≤◌, ◌==◌, eqb, eq-eqb, ne_eqb, bit_or, lt_of_not-le, Bool, true, false, List, [], ◌∷◌, length, get_or, set, sym, refl, ap, ◌∙◌, subst, arith, ⊎_elim, inl, inr, length-set, get_or-set_same, get_or-set_other}
+use Rattle.std.proofs.Common.{◌≡◌, ◌≢◌, ℕ, zero, suc, ◌+◌, ◌-◌, ◌/◌, ◌%◌, ◌^◌, ◌<◌, ◌≤◌, ◌==◌, eqb, eq-eqb, ne_eqb, bit_or, lt_of_not-le, Bool, true, false, List, [], ◌∷◌, ◌++◌, length, get_or, set, sym, refl, ap, ◌∙◌, subst, arith, ⊎_elim, inl, inr, length-set, get_or-set_same, get_or-set_other}
 use mathlib.Core.Option.{Option, none, some, some-injective, some-ne-none}
 use mathlib.Core.Logic.{dite}
 use native.Mathlib.Decide.{dec_le, ℕ_discrete}
@@ -10,10 +10,13 @@ use Rattle.atomic_table.proofs.Lists.{set_here, set_else, at_set, at_snoc}
 use Rattle.lock_place.specs.Held.{RoomId}
 use Rattle.words_base.specs.Sums.{weight, number}
 use Rattle.words_base.specs.MutexWord.{IsWord}
+use Rattle.words_base.specs.Waiting.{Has, AreOf, LeftBy, last_of}
+use Rattle.words_base.proofs.Waiting.{joined_by, last-pushed, length-pushed}
+use Rattle.words_base.proofs.Views.{own, own_else, all_stay, some-longer}
 use Rattle.words_base.proofs.MutexWord as word
 use Rattle.words_base.proofs.MutexWord.{or_one}
 use Rattle.words_base.proofs.Sums.{number-set, number-at, number-none}
-use Rattle.words_mutex.specs.Rule.{first_view, is_holder, is_starved, is_owing, is_listed, is_fresh, has_list_out, Stands, IsListWord, LosesNone, SaysEmpty, IsKeyed, Ruled}
+use Rattle.words_mutex.specs.Rule.{first_view, is_holder, is_starved, is_owing, is_listed, is_fresh, has_list_out, Stands, IsListWord, LosesNone, SaysEmpty, IsKeyed, IsEntryOf, Ruled}
 use Rattle.words_mutex.specs.Seats.{saw_held_of, saw_starved_of, got_of, cleared_of, counted_listed_of, counted_unlisted_of, uncounted_of, listing_of, back, joined_of, told_of, paid_of, gone_of, looking, peeking}
 use Rattle.words_mutex.specs.Steps.{Looked, Got, Grabbed, Kept}
 use Rattle.words_mutex.specs.declared.view.View.{View}
@@ -42,7 +45,10 @@ looked-is n m = (
   (λ z. ap (λ (v : View). (v, m.1)) (looking-free n m.0 z)),
 )
 
-module _ (S : Type 0) (len_of marked_of : S → ℕ) (is_right : RoomId → ℕ → S → Type 0) (room : RoomId) (deed : ℕ) where
+module _ (S : Type 0) (entries_of : S → List ℕ) (marked_of : S → ℕ) (is_right : RoomId → ℕ → S → Type 0) (room : RoomId) (deed : ℕ) where
+  abbrev len_of : S → ℕ
+  len_of list = length (entries_of list)
+
   abbrev St : Type 0
   St = State S View
 
@@ -50,7 +56,7 @@ module _ (S : Type 0) (len_of marked_of : S → ℕ) (is_right : RoomId → ℕ 
   M = Me S View
 
   abbrev R : St → Type 0
-  R = Ruled len_of marked_of is_right room deed
+  R = Ruled entries_of marked_of is_right room deed
 
   abbrev first : View
   first = first_view room deed
@@ -64,19 +70,20 @@ module _ (S : Type 0) (len_of marked_of : S → ℕ) (is_right : RoomId → ℕ 
   at_first P good (suc i) v e = absurd (some-ne-none v (sym e))
 
   -- the table at the start
-  pub opens : (list right : S) → len_of list ≡ 0 → is_right room deed right → R (opening (0 ∷ 0 ∷ []) (list ∷ right ∷ []) first)
-  opens list right is good = record {
+  pub opens : (list right : S) → entries_of list ≡ [] → is_right room deed right → R (opening (0 ∷ 0 ∷ []) (list ∷ right ∷ []) first)
+  opens list right is good = let none_there : len_of list ≡ 0 = ap length is in record {
     word = (omega arith, omega arith, omega arith, refl);
     list_word = (omega arith, omega arith, refl);
-    len = len_of list;
+    entries = entries_of list;
     marked = marked_of list;
     stands = at_first Stands nothing;
     keyed = at_first (IsKeyed room deed) (refl, refl);
     placed = omega arith;
+    standing = λ n h. absurd (subst (Has n) is h);
     wakes = inr (omega arith);
     unlisted = λ _. is;
     home = λ _. (list, refl, refl, refl);
-    out = at_first (λ (v : View). v.has_list ≡ true → (v.len ≡ len_of list) × (v.marked ≡ marked_of list)) (λ is. never is);
+    out = at_first (λ (v : View). v.has_list ≡ true → (v.entries ≡ entries_of list) × (v.marked ≡ marked_of list)) (λ is. never is);
     right = λ _. (right, refl, good);
   }
 
@@ -90,17 +97,24 @@ module _ (S : Type 0) (len_of marked_of : S → ℕ) (is_right : RoomId → ℕ 
     abbrev after : View → List View
     after w = set s.views id w
 
+    abbrev len : ℕ
+    len = length r.entries
+
     mine : Stands me.0
     mine = r.stands id me.0 at
+
+    -- the seats keep their entries
+    standing_as : (w : View) → w.listed ≡ me.0.listed → w.entry ≡ me.0.entry → AreOf IsEntryOf r.entries (after w)
+    standing_as w l e = all_stay s.views id me.0 at IsEntryOf r.entries w (λ n is. (l ∙ is.0, e ∙ is.1)) r.standing
 
     stands_set : (w : View) → Stands w → (i : ℕ) (v : View) → get_elem? (after w) i ≡ some v → Stands v
     stands_set w good i v e = ⊎_elim (λ here. subst Stands here.1 good) (λ else. r.stands i v else.1) (at_set s.views id i w v e)
 
-    out_set : (w : View) → (w.has_list ≡ true → (w.len ≡ r.len) × (w.marked ≡ r.marked)) → (i : ℕ) (v : View) → get_elem? (after w) i ≡ some v → v.has_list ≡ true → (v.len ≡ r.len) × (v.marked ≡ r.marked)
-    out_set w good i v e is = ⊎_elim (λ here. subst (λ (u : View). (u.len ≡ r.len) × (u.marked ≡ r.marked)) here.1 (good (ap (λ (u : View). u.has_list) here.1 ∙ is))) (λ else. r.out i v else.1 is) (at_set s.views id i w v e)
+    out_set : (w : View) → (w.has_list ≡ true → (w.entries ≡ r.entries) × (w.marked ≡ r.marked)) → (i : ℕ) (v : View) → get_elem? (after w) i ≡ some v → v.has_list ≡ true → (v.entries ≡ r.entries) × (v.marked ≡ r.marked)
+    out_set w good i v e is = ⊎_elim (λ here. subst (λ (u : View). (u.entries ≡ r.entries) × (u.marked ≡ r.marked)) here.1 (good (ap (λ (u : View). u.has_list) here.1 ∙ is))) (λ else. r.out i v else.1 is) (at_set s.views id i w v e)
 
     -- who holds, who owes and who has not looked stay
-    wakes-same : (w : View) → w.holds ≡ me.0.holds → w.owes ≡ me.0.owes → w.fresh ≡ me.0.fresh → LosesNone r.len r.marked (after w)
+    wakes-same : (w : View) → w.holds ≡ me.0.holds → w.owes ≡ me.0.owes → w.fresh ≡ me.0.fresh → LosesNone len r.marked (after w)
     wakes-same w hs os fs =
         let h = number-set is_holder s.views id me.0 w at in let o = number-set is_owing s.views id me.0 w at in let f = number-set is_fresh s.views id me.0 w at in
         let h' : weight (is_holder w) ≡ weight (is_holder me.0) = ap weight hs in let o' : weight (is_owing w) ≡ weight (is_owing me.0) = ap weight os in let f' : weight (is_fresh w) ≡ weight (is_fresh me.0) = ap weight fs in
@@ -111,10 +125,10 @@ module _ (S : Type 0) (len_of marked_of : S → ℕ) (is_right : RoomId → ℕ 
         let o = number-set is_owing s.views id me.0 w at in let m = number-at is_owing s.views id me.0 at in
         let o' : weight (is_owing w) ≡ 1 = ap weight os in omega arith
 
-    wakes-owing : (len marked : ℕ) (w : View) → w.owes ≡ true → LosesNone len marked (after w)
-    wakes-owing len marked w os = let k = owing-after w os in inl (omega arith)
+    wakes-owing : (k marked : ℕ) (w : View) → w.owes ≡ true → LosesNone k marked (after w)
+    wakes-owing n marked w os = let k = owing-after w os in inl (omega arith)
 
-    wakes-held : (w : View) → x % 2 ≢ 0 → w.holds ≡ me.0.holds → LosesNone r.len r.marked (after w)
+    wakes-held : (w : View) → x % 2 ≢ 0 → w.holds ≡ me.0.holds → LosesNone len r.marked (after w)
     wakes-held w odd hs =
         let h = number-set is_holder s.views id me.0 w at in let h' : weight (is_holder w) ≡ weight (is_holder me.0) = ap weight hs in
         let one = r.word.1 in let is = r.word.3 in
@@ -128,7 +142,7 @@ module _ (S : Type 0) (len_of marked_of : S → ℕ) (is_right : RoomId → ℕ 
 
     -- what a step on the word 0 leaves of a seat
     abbrev Leaves : View → Type 0
-    Leaves w = (w.has_list ≡ me.0.has_list) × (w.len ≡ me.0.len) × (w.marked ≡ me.0.marked) × (w.listed ≡ me.0.listed) × IsKeyed me.0.room me.0.deed w
+    Leaves w = (w.has_list ≡ me.0.has_list) × (w.entries ≡ me.0.entries) × (w.marked ≡ me.0.marked) × (w.listed ≡ me.0.listed) × IsKeyed me.0.room me.0.deed w × (w.entry ≡ me.0.entry)
 
     left_keyed : (w : View) → IsKeyed me.0.room me.0.deed w → IsKeyed room deed w
     left_keyed w same = (same.0 ∙ mine_keyed.0, same.1 ∙ mine_keyed.1)
@@ -142,7 +156,7 @@ module _ (S : Type 0) (len_of marked_of : S → ℕ) (is_right : RoomId → ℕ 
 
     -- the mutex's word becomes n; what is known of the list stays
     moved : (n : ℕ) (w : View) (a : Act S) → IsWord is_holder is_starved most 0 (set s.words 0 n) (after w) → Leaves w → get_elem? (homes_after s.homes me.1 a) 0 ≡ get_elem? s.homes 0
-        → (number is_holder (after w) ≡ 0 → Lies (homes_after s.homes me.1 a)) → Stands w → LosesNone r.len r.marked (after w) → R (stepped s 0 n id me.1 w a)
+        → (number is_holder (after w) ≡ 0 → Lies (homes_after s.homes me.1 a)) → Stands w → LosesNone len r.marked (after w) → R (stepped s 0 n id me.1 w a)
     moved n w a good left home right stands wakes =
         let c = number-set has_list_out s.views id me.0 w at in let l' : weight (has_list_out w) ≡ weight (has_list_out me.0) = ap weight left.0 in
         let d = number-set is_listed s.views id me.0 w at in let e' : weight (is_listed w) ≡ weight (is_listed me.0) = ap weight left.3 in
@@ -150,11 +164,12 @@ module _ (S : Type 0) (len_of marked_of : S → ℕ) (is_right : RoomId → ℕ 
         let there : get_or (set s.words 0 n) 1 0 ≡ y = get_or-set_other s.words 0 1 n 0 (λ q. omega arith) in record {
           word = good;
           list_word = (subst (λ (z : ℕ). 1 < z) (sym (length-set s.words 0 n)) lw.0, (let a = lw.1 in omega arith), (let a = lw.2 in omega arith));
-          len = r.len;
+          entries = r.entries;
           marked = r.marked;
           stands = stands_set w stands;
           keyed = keyed_set w (left_keyed w left.4);
           placed = omega arith;
+          standing = standing_as w left.3 left.5;
           wakes = wakes;
           unlisted = λ below. r.unlisted (subst SaysEmpty there below);
           home = λ absent. let h = r.home (omega arith) in (h.0, home ∙ h.1, h.2, h.3);
@@ -163,7 +178,7 @@ module _ (S : Type 0) (len_of marked_of : S → ℕ) (is_right : RoomId → ℕ 
         }
 
     -- and so does the right
-    unmoved : (n : ℕ) (w : View) → IsWord is_holder is_starved most 0 (set s.words 0 n) (after w) → Leaves w → w.holds ≡ me.0.holds → Stands w → LosesNone r.len r.marked (after w) → R (stepped s 0 n id me.1 w keeps)
+    unmoved : (n : ℕ) (w : View) → IsWord is_holder is_starved most 0 (set s.words 0 n) (after w) → Leaves w → w.holds ≡ me.0.holds → Stands w → LosesNone len r.marked (after w) → R (stepped s 0 n id me.1 w keeps)
     unmoved n w good left hs stands wakes = moved n w keeps good left refl (λ absent. r.right (sym (same_holders w hs) ∙ absent)) stands wakes
 
     -- A look finds the lock held: the seat owes nothing any more, and has looked. Who is counted as starved has an entry.
@@ -172,7 +187,7 @@ module _ (S : Type 0) (len_of marked_of : S → ℕ) (is_right : RoomId → ℕ 
 
     pub sees_held : x % 2 ≢ 0 → (me.0.starved ≡ true → me.0.listed ≡ true) → R (stepped s 0 x id me.1 saw_held keeps)
     sees_held odd has = let w : View = saw_held in
-        unmoved x w (word.stays is_holder is_starved most 0 s.words s.views id me.0 w r.word at refl refl) (refl, refl, refl, refl, (refl, refl)) refl
+        unmoved x w (word.stays is_holder is_starved most 0 s.words s.views id me.0 w r.word at refl refl) (refl, refl, refl, refl, (refl, refl), refl) refl
         ((λ f. never f), (λ st _ _. (has st, refl))) (wakes-held w odd refl)
 
     -- A look finds the lock free and others starved: the seat has looked, and owes as it did.
@@ -192,14 +207,14 @@ module _ (S : Type 0) (len_of marked_of : S → ℕ) (is_right : RoomId → ℕ 
     sees_starved even ne = let w : View = saw_starved in
         let o = number-set is_owing s.views id me.0 w at in let o' : weight (is_owing w) ≡ weight (is_owing me.0) = refl in
         let h = number-set is_holder s.views id me.0 w at in let h' : weight (is_holder w) ≡ weight (is_holder me.0) = refl in
-        unmoved x w (word.stays is_holder is_starved most 0 s.words s.views id me.0 w r.word at refl refl) (refl, refl, refl, refl, (refl, refl)) refl
+        unmoved x w (word.stays is_holder is_starved most 0 s.words s.views id me.0 w r.word at refl refl) (refl, refl, refl, refl, (refl, refl), refl) refl
         ((λ f. never f), (λ st ow ho. ((mine.1 st ow ho).0, refl)))
         (⊎_elim (λ a. inl (omega arith))
         (λ b. dite (ℕ_discrete (number is_owing s.views) 0) (λ idle. let k = starving even ne idle in let p = r.placed in absurd (omega arith)) (λ q. inl (omega arith))) r.wakes)
 
     -- nothing changes
     pub still : R (stepped s 0 x id me.1 me.0 keeps)
-    still = unmoved x me.0 (word.stays is_holder is_starved most 0 s.words s.views id me.0 me.0 r.word at refl refl) (refl, refl, refl, refl, (refl, refl)) refl mine (wakes-same me.0 refl refl refl)
+    still = unmoved x me.0 (word.stays is_holder is_starved most 0 s.words s.views id me.0 me.0 r.word at refl refl) (refl, refl, refl, refl, (refl, refl), refl) refl mine (wakes-same me.0 refl refl refl)
 
     -- a look, whatever it finds
     pub looks : (me.0.starved ≡ true → me.0.listed ≡ true) → R (stepped s 0 x id me.1 (looking x me.0) keeps)
@@ -219,7 +234,7 @@ module _ (S : Type 0) (len_of marked_of : S → ℕ) (is_right : RoomId → ℕ 
     pub gets : (n : ℕ) (even : x % 2 ≡ 0) → R (stepped s 0 (x + 1) id me.1 (got n) (takes 1 (lent even).0))
     gets n even = let w : View = got n in
         let gone = word.gets is_holder is_starved most 0 s.words s.views id me.0 w r.word at even refl refl in
-        let held = gone.1 in moved (x + 1) w (takes 1 (lent even).0) gone.0 (refl, refl, refl, refl, (refl, refl)) (set_else s.homes 1 0 none (λ z. omega (arith, z)))
+        let held = gone.1 in moved (x + 1) w (takes 1 (lent even).0) gone.0 (refl, refl, refl, refl, (refl, refl), refl) (set_else s.homes 1 0 none (λ z. omega (arith, z)))
         (λ absent. absurd (omega arith)) ((λ f. never f), (λ _ _ h. never (sym h))) (inl (omega arith))
 
     of_seat : (right : S) → is_right room deed right → is_right me.0.room me.0.deed right
@@ -237,15 +252,15 @@ module _ (S : Type 0) (len_of marked_of : S → ℕ) (is_right : RoomId → ℕ 
 
     pub clears : (right : S) → x < 2 ^ 64 → me.0.holds ≡ true → me.1 ≡ (1, right) ∷ rest me.1 → is_right me.0.room me.0.deed right → 1 < length s.homes → R (stepped s 0 ((x + (2 ^ 64 - 1)) % 2 ^ 64) id me.1 cleared gives)
     clears right small is has good wide = let w : View = cleared in
-        moved ((x + (2 ^ 64 - 1)) % 2 ^ 64) w gives (word.clears is_holder is_starved most 0 s.words s.views id me.0 w r.word at small is refl refl) (refl, refl, refl, refl, (refl, refl))
+        moved ((x + (2 ^ 64 - 1)) % 2 ^ 64) w gives (word.clears is_holder is_starved most 0 s.words s.views id me.0 w r.word at small is refl refl) (refl, refl, refl, refl, (refl, refl), refl)
         (subst (λ (t : List (ℕ × S)). get_elem? (put_back s.homes t) 0 ≡ get_elem? s.homes 0) (sym has) (set_else s.homes 1 0 (some right) (λ z. omega (arith, z))))
         (λ _. (right, subst (λ (t : List (ℕ × S)). get_elem? (put_back s.homes t) 1 ≡ some (some right)) (sym has) (set_here s.homes 1 (some right) wide), of_lock right good))
-        (mine.0, (λ _ o _. never (sym o))) (wakes-owing r.len r.marked w refl)
+        (mine.0, (λ _ o _. never (sym o))) (wakes-owing len r.marked w refl)
 
     -- the right is laid down while the seat holds the lock
     pub lays_down : (right : S) → me.0.holds ≡ true → me.1 ≡ (1, right) ∷ rest me.1 → R (stepped s 0 x id me.1 me.0 gives)
     lays_down right is has =
-        moved x me.0 gives (word.stays is_holder is_starved most 0 s.words s.views id me.0 me.0 r.word at refl refl) (refl, refl, refl, refl, (refl, refl))
+        moved x me.0 gives (word.stays is_holder is_starved most 0 s.words s.views id me.0 me.0 r.word at refl refl) (refl, refl, refl, refl, (refl, refl), refl)
         (subst (λ (t : List (ℕ × S)). get_elem? (put_back s.homes t) 0 ≡ get_elem? s.homes 0) (sym has) (set_else s.homes 1 0 (some right) (λ z. omega (arith, z))))
         (λ absent. let m = number-at is_holder s.views id me.0 at in let w : weight (is_holder me.0) ≡ 1 = ap weight is in let none' = sym (same_holders me.0 refl) ∙ absent in absurd (omega arith))
         mine (wakes-same me.0 refl refl refl)
@@ -256,7 +271,7 @@ module _ (S : Type 0) (len_of marked_of : S → ℕ) (is_right : RoomId → ℕ 
 
     pub counts_listed : x / 2 < most → me.0.starved ≡ false → me.0.listed ≡ true → me.0.fresh ≡ false → R (stepped s 0 (x + 2) id me.1 counted_listed keeps)
     counts_listed few not has looked = let w : View = counted_listed in
-        unmoved (x + 2) w (word.counts is_holder is_starved most 0 s.words s.views id me.0 w r.word at few refl not refl) (refl, refl, refl, refl, (refl, refl)) refl
+        unmoved (x + 2) w (word.counts is_holder is_starved most 0 s.words s.views id me.0 w r.word at few refl not refl) (refl, refl, refl, refl, (refl, refl), refl) refl
         (mine.0, (λ _ _ _. (has, looked))) (wakes-same w refl refl refl)
 
     -- counted with no entry: the seat owes a look
@@ -265,15 +280,15 @@ module _ (S : Type 0) (len_of marked_of : S → ℕ) (is_right : RoomId → ℕ 
 
     pub counts_unlisted : x / 2 < most → me.0.starved ≡ false → R (stepped s 0 (x + 2) id me.1 counted_unlisted keeps)
     counts_unlisted few not = let w : View = counted_unlisted in
-        unmoved (x + 2) w (word.counts is_holder is_starved most 0 s.words s.views id me.0 w r.word at few refl not refl) (refl, refl, refl, refl, (refl, refl)) refl
-        (mine.0, (λ _ o _. never (sym o))) (wakes-owing r.len r.marked w refl)
+        unmoved (x + 2) w (word.counts is_holder is_starved most 0 s.words s.views id me.0 w r.word at few refl not refl) (refl, refl, refl, refl, (refl, refl), refl) refl
+        (mine.0, (λ _ o _. never (sym o))) (wakes-owing len r.marked w refl)
 
     abbrev pub uncounted : View
     uncounted = uncounted_of me.0
 
     pub uncounts : x < 2 ^ 64 → me.0.starved ≡ true → R (stepped s 0 ((x + (2 ^ 64 - 2)) % 2 ^ 64) id me.1 uncounted keeps)
     uncounts small is = let w : View = uncounted in
-        unmoved ((x + (2 ^ 64 - 2)) % 2 ^ 64) w (word.uncounts is_holder is_starved most 0 s.words s.views id me.0 w r.word at small refl is refl) (refl, refl, refl, refl, (refl, refl)) refl
+        unmoved ((x + (2 ^ 64 - 2)) % 2 ^ 64) w (word.uncounts is_holder is_starved most 0 s.words s.views id me.0 w r.word at small refl is refl) (refl, refl, refl, refl, (refl, refl), refl) refl
         (mine.0, (λ st _ _. never st)) (wakes-same w refl refl refl)
 
     beside : (n : ℕ) (w : View) → w.holds ≡ me.0.holds → w.starved ≡ me.0.starved → IsWord is_holder is_starved most 0 (set s.words 1 n) (after w)
@@ -285,7 +300,7 @@ module _ (S : Type 0) (len_of marked_of : S → ℕ) (is_right : RoomId → ℕ 
 
     -- what stays where the list's word becomes n, and who has the list out stays
     at_list : (n : ℕ) (w : View) → n % 2 ≡ y % 2 → (SaysEmpty n → SaysEmpty y) → Leaves w → w.holds ≡ me.0.holds → w.starved ≡ me.0.starved
-        → Stands w → LosesNone r.len r.marked (after w) → R (stepped s 1 n id me.1 w keeps)
+        → Stands w → LosesNone len r.marked (after w) → R (stepped s 1 n id me.1 w keeps)
     at_list n w parity below left h t stands wakes =
         let c = number-set has_list_out s.views id me.0 w at in let c' : weight (has_list_out w) ≡ weight (has_list_out me.0) = ap weight left.0 in
         let d = number-set is_listed s.views id me.0 w at in let d' : weight (is_listed w) ≡ weight (is_listed me.0) = ap weight left.3 in
@@ -293,11 +308,12 @@ module _ (S : Type 0) (len_of marked_of : S → ℕ) (is_right : RoomId → ℕ 
         let same = get_or-set_same s.words 1 n 0 r.list_word.0 in record {
           word = beside n w h t;
           list_word = list_placed n w (omega arith) (omega arith);
-          len = r.len;
+          entries = r.entries;
           marked = r.marked;
           stands = stands_set w stands;
           keyed = keyed_set w (left_keyed w left.4);
           placed = omega arith;
+          standing = standing_as w left.3 left.5;
           wakes = wakes;
           unlisted = λ low. r.unlisted (below (subst SaysEmpty same low));
           home = λ absent. r.home (omega arith);
@@ -307,19 +323,19 @@ module _ (S : Type 0) (len_of marked_of : S → ℕ) (is_right : RoomId → ℕ 
 
     -- a look at the list's word, by a seat that is not counted as starved
     pub peeked : me.0.starved ≡ false → R (stepped s 1 y id me.1 (peeking y me.0) keeps)
-    peeked calm = let w : View = peeking y me.0 in at_list y w refl (λ low. low) (refl, refl, refl, refl, (refl, refl)) refl refl (mine.0, (λ st _ _. never (sym calm ∙ st)))
+    peeked calm = let w : View = peeking y me.0 in at_list y w refl (λ low. low) (refl, refl, refl, refl, (refl, refl), refl) refl refl (mine.0, (λ st _ _. never (sym calm ∙ st)))
         (dite (dec_le 4 (y % 8)) (λ many. wakes-same w refl (many-owes (y % 8) me.0.owes many) refl)
-        (λ few. let z = r.unlisted (lt_of_not-le few) in inr (omega arith)))
+        (λ few. let z : len ≡ 0 = ap length (r.unlisted (lt_of_not-le few)) in inr (omega arith)))
 
     -- the list's lock is taken by another
     pub busy : (n : ℕ) → n % 2 ≡ y % 2 → (SaysEmpty n → SaysEmpty y) → R (stepped s 1 n id me.1 me.0 keeps)
-    busy n parity below = at_list n me.0 parity below (refl, refl, refl, refl, (refl, refl)) refl refl mine (wakes-same me.0 refl refl refl)
+    busy n parity below = at_list n me.0 parity below (refl, refl, refl, refl, (refl, refl), refl) refl refl mine (wakes-same me.0 refl refl refl)
 
-    lies : y % 2 ≡ 0 → (list : S) × (get_elem? s.homes 0 ≡ some (some list)) × (len_of list ≡ r.len) × (marked_of list ≡ r.marked)
+    lies : y % 2 ≡ 0 → (list : S) × (get_elem? s.homes 0 ≡ some (some list)) × (entries_of list ≡ r.entries) × (marked_of list ≡ r.marked)
     lies even = r.home (sym r.list_word.2 ∙ even)
 
     abbrev pub listing : S → View
-    listing list = listing_of (len_of list) (marked_of list) me.0
+    listing list = listing_of (entries_of list) (marked_of list) me.0
 
     -- the seat takes the list out
     pub grabbed : y % 2 ≡ 0 → (n : ℕ) → n % 2 ≡ 1 → (SaysEmpty n → SaysEmpty y) → (list : S) × (get_elem? s.homes 0 ≡ some (some list)) × R (stepped s 1 n id me.1 (listing list) (takes 0 list))
@@ -334,11 +350,12 @@ module _ (S : Type 0) (len_of marked_of : S → ℕ) (is_right : RoomId → ℕ 
           record {
             word = beside n w refl refl;
             list_word = list_placed n w (omega arith) (omega arith);
-            len = r.len;
+            entries = r.entries;
             marked = r.marked;
             stands = stands_set w mine;
             keyed = keyed_set w mine_keyed;
             placed = omega arith;
+            standing = standing_as w refl refl;
             wakes = wakes-same w refl refl refl;
             unlisted = λ low. r.unlisted (below (subst SaysEmpty same low));
             home = λ absent. absurd (omega arith);
@@ -348,20 +365,21 @@ module _ (S : Type 0) (len_of marked_of : S → ℕ) (is_right : RoomId → ℕ 
         )
 
     -- the seat gives the list back, and has this view then
-    module _ (list : S) (n : ℕ) (lists : me.0.has_list ≡ true) (has : me.1 ≡ (0, list) ∷ rest me.1) (wide : 0 < length s.homes) (four : n % 4 ≡ 0) (low : SaysEmpty n → len_of list ≡ 0) where
-      returned : (w : View) → w.has_list ≡ false → IsKeyed me.0.room me.0.deed w → w.holds ≡ me.0.holds → w.starved ≡ me.0.starved → Stands w → number is_listed (after w) ≤ len_of list → LosesNone (len_of list) (marked_of list) (after w) → R (stepped s 1 n id me.1 w gives)
-      returned w off key h t stands placed wakes =
+    module _ (list : S) (n : ℕ) (lists : me.0.has_list ≡ true) (has : me.1 ≡ (0, list) ∷ rest me.1) (wide : 0 < length s.homes) (four : n % 4 ≡ 0) (low : SaysEmpty n → entries_of list ≡ []) where
+      returned : (w : View) → w.has_list ≡ false → IsKeyed me.0.room me.0.deed w → w.holds ≡ me.0.holds → w.starved ≡ me.0.starved → Stands w → number is_listed (after w) ≤ len_of list → AreOf IsEntryOf (entries_of list) (after w) → LosesNone (len_of list) (marked_of list) (after w) → R (stepped s 1 n id me.1 w gives)
+      returned w off key h t stands placed standing wakes =
           let c = number-set has_list_out s.views id me.0 w at in let c' : weight (has_list_out w) ≡ 0 = ap weight off in let l : weight (has_list_out me.0) ≡ 1 = ap weight lists in
           let one = r.list_word.1 in
           let nobody : number has_list_out (after w) ≡ 0 = omega arith in
           let same = get_or-set_same s.words 1 n 0 r.list_word.0 in record {
             word = beside n w h t;
             list_word = list_placed n w (omega arith) (omega arith);
-            len = len_of list;
+            entries = entries_of list;
             marked = marked_of list;
             stands = stands_set w stands;
             keyed = keyed_set w (left_keyed w key);
             placed = placed;
+            standing = standing;
             wakes = wakes;
             unlisted = λ below. low (subst SaysEmpty same below);
             home = λ _. (list, subst (λ (t : List (ℕ × S)). get_elem? (put_back s.homes t) 0 ≡ some (some list)) (sym has) (set_here s.homes 0 (some list) wide), refl, refl);
@@ -370,63 +388,82 @@ module _ (S : Type 0) (len_of marked_of : S → ℕ) (is_right : RoomId → ℕ 
                 (k.0, subst (λ (t : List (ℕ × S)). get_elem? (put_back s.homes t) 1 ≡ get_elem? s.homes 1) (sym has) (set_else s.homes 0 1 (some list) (λ z. omega (arith, z))) ∙ k.1, k.2);
           }
 
-      known : (me.0.len ≡ r.len) × (me.0.marked ≡ r.marked)
+      known : (me.0.entries ≡ r.entries) × (me.0.marked ≡ r.marked)
       known = r.out id me.0 at lists
 
-      -- its entry has joined: it has not looked yet
-      abbrev pub joined : View
-      joined = joined_of me.0
+      known_len : length me.0.entries ≡ len
+      known_len = ap length known.0
 
-      pub joins : len_of list ≡ me.0.len + 1 → marked_of list ≡ me.0.marked → me.0.listed ≡ false → (me.0.starved ≡ true → me.0.owes ≡ true) → R (stepped s 1 n id me.1 joined gives)
-      joins longer same away starts = let w : View = joined in
+      -- the same entries
+      stand_same : (w : View) → w.listed ≡ me.0.listed → w.entry ≡ me.0.entry → entries_of list ≡ me.0.entries → AreOf IsEntryOf (entries_of list) (after w)
+      stand_same w l e same = subst (λ es. AreOf IsEntryOf es (after w)) (sym (same ∙ known.0)) (standing_as w l e)
+
+      -- without its own
+      stand_left : (w : View) → LeftBy me.0.entry me.0.entries (entries_of list) → AreOf IsEntryOf (entries_of list) (after w)
+      stand_left w left n h = let o = left n h in own_else s.views id me.0 at (IsEntryOf n) w (λ is. o.1 (sym is.1)) (r.standing n (subst (Has n) known.0 o.0))
+
+      -- with its own
+      stand_joined : (k : ℕ) (w : View) → w.listed ≡ true → w.entry ≡ k → me.0.listed ≡ false → entries_of list ≡ me.0.entries ++ k ∷ [] → AreOf IsEntryOf (entries_of list) (after w)
+      stand_joined k w l e away longer n h = ⊎_elim
+          (λ old. own_else s.views id me.0 at (IsEntryOf n) w (λ is. never (sym away ∙ is.0)) (r.standing n (subst (Has n) known.0 old)))
+          (λ new. own s.views id me.0 at (IsEntryOf n) w (l, e ∙ sym new))
+          (joined_by k me.0.entries n (subst (Has n) longer h))
+
+      -- its entry has joined: it has not looked yet
+      abbrev pub joined : ℕ → View
+      joined k = joined_of k me.0
+
+      pub joins : (k : ℕ) → entries_of list ≡ me.0.entries ++ k ∷ [] → marked_of list ≡ me.0.marked → me.0.listed ≡ false → (me.0.starved ≡ true → me.0.owes ≡ true) → R (stepped s 1 n id me.1 (joined k) gives)
+      joins k longer same away starts = let w : View = joined k in
+          let more : len_of list ≡ length me.0.entries + 1 = ap length longer ∙ length-pushed k me.0.entries in
           let h = number-set is_holder s.views id me.0 w at in let o = number-set is_owing s.views id me.0 w at in let f = number-set is_fresh s.views id me.0 w at in let d = number-set is_listed s.views id me.0 w at in
           let h' : weight (is_holder w) ≡ weight (is_holder me.0) = refl in let o' : weight (is_owing w) ≡ weight (is_owing me.0) = refl in let f' : weight (is_fresh w) ≡ 1 = refl in let d' : weight (is_listed w) ≡ 1 = refl in
           let was : weight (is_listed me.0) ≡ 0 = ap weight away in
           let not : weight (is_fresh me.0) ≡ 0 = ⊎_elim (λ yes. never (sym away ∙ mine.0 yes)) (λ no. ap weight no) (by_flag me.0.fresh) in
-          let k = known.0 in let q = known.1 in let p = r.placed in
-          returned w refl (refl, refl) refl refl ((λ _. refl), (λ st ow _. never (sym ow ∙ starts st))) (omega arith) (⊎_elim (λ a. inl (omega arith)) (λ b. inr (omega arith)) r.wakes)
+          let kl = known_len in let q = known.1 in let p = r.placed in
+          returned w refl (refl, refl) refl refl ((λ _. refl), (λ st ow _. never (sym ow ∙ starts st))) (omega arith) (stand_joined k w refl refl away longer) (⊎_elim (λ a. inl (omega arith)) (λ b. inr (omega arith)) r.wakes)
 
       -- its entry was notified, and has left: it owes
       abbrev pub told : View
       told = told_of me.0
 
-      pub hears : me.0.len ≤ len_of list + 1 → me.0.listed ≡ true → me.0.fresh ≡ false → R (stepped s 1 n id me.1 told gives)
-      hears shorter was looked = let w : View = told in
+      pub hears : length me.0.entries ≤ len_of list + 1 → LeftBy me.0.entry me.0.entries (entries_of list) → me.0.listed ≡ true → me.0.fresh ≡ false → R (stepped s 1 n id me.1 told gives)
+      hears shorter left was looked = let w : View = told in
           let d = number-set is_listed s.views id me.0 w at in let d' : weight (is_listed w) ≡ 0 = refl in let e : weight (is_listed me.0) ≡ 1 = ap weight was in
-          let k = known.0 in let p = r.placed in
-          returned w refl (refl, refl) refl refl ((λ f. never (sym looked ∙ f)), (λ _ o _. never (sym o))) (omega arith) (wakes-owing (len_of list) (marked_of list) w refl)
+          let kl = known_len in let p = r.placed in
+          returned w refl (refl, refl) refl refl ((λ f. never (sym looked ∙ f)), (λ _ o _. never (sym o))) (omega arith) (stand_left w left) (wakes-owing (len_of list) (marked_of list) w refl)
 
       -- it has notified
       abbrev pub paid : View
       paid = paid_of me.0
 
-      pub pays : len_of list ≡ me.0.len → (0 < len_of list → 0 < marked_of list) → (me.0.starved ≡ true → (me.0.listed ≡ true) × (me.0.fresh ≡ false)) → R (stepped s 1 n id me.1 paid gives)
-      pays same marks waits = let w : View = paid in
+      pub pays : entries_of list ≡ me.0.entries → (0 < len_of list → 0 < marked_of list) → (me.0.starved ≡ true → (me.0.listed ≡ true) × (me.0.fresh ≡ false)) → R (stepped s 1 n id me.1 paid gives)
+      pays same marks waits = let w : View = paid in let as_long : len_of list ≡ length me.0.entries = ap length same in
           let d = number-set is_listed s.views id me.0 w at in let d' : weight (is_listed w) ≡ weight (is_listed me.0) = refl in
-          let k = known.0 in let p = r.placed in
-          returned w refl (refl, refl) refl refl (mine.0, (λ st _ _. waits st)) (omega arith) (dite (ℕ_discrete (len_of list) 0) (λ z. inr (omega arith)) (λ ne. let m = marks (omega arith) in inl (omega arith)))
+          let kl = known_len in let p = r.placed in
+          returned w refl (refl, refl) refl refl (mine.0, (λ st _ _. waits st)) (omega arith) (stand_same w refl refl same) (dite (ℕ_discrete (len_of list) 0) (λ z. inr (omega arith)) (λ ne. let m = marks (omega arith) in inl (omega arith)))
 
       -- its entry has left, and what it was told has gone on
       abbrev pub gone : View
       gone = gone_of me.0
 
-      pub leaves : me.0.len ≤ len_of list + 1 → len_of list ≤ me.0.len → (0 < len_of list → 0 < me.0.marked → 0 < marked_of list) → me.0.listed ≡ true → me.0.fresh ≡ false → me.0.starved ≡ false → R (stepped s 1 n id me.1 gone gives)
-      leaves shorter no_longer marks was looked calm = let w : View = gone in
+      pub leaves : length me.0.entries ≤ len_of list + 1 → len_of list ≤ length me.0.entries → (0 < len_of list → 0 < me.0.marked → 0 < marked_of list) → LeftBy me.0.entry me.0.entries (entries_of list) → me.0.listed ≡ true → me.0.fresh ≡ false → me.0.starved ≡ false → R (stepped s 1 n id me.1 gone gives)
+      leaves shorter no_longer marks left was looked calm = let w : View = gone in
           let h = number-set is_holder s.views id me.0 w at in let o = number-set is_owing s.views id me.0 w at in let f = number-set is_fresh s.views id me.0 w at in let d = number-set is_listed s.views id me.0 w at in
           let h' : weight (is_holder w) ≡ weight (is_holder me.0) = refl in let o' : weight (is_owing w) ≡ weight (is_owing me.0) = refl in let f' : weight (is_fresh w) ≡ weight (is_fresh me.0) = refl in
           let d' : weight (is_listed w) ≡ 0 = refl in let e : weight (is_listed me.0) ≡ 1 = ap weight was in
-          let k = known.0 in let q = known.1 in let p = r.placed in
-          returned w refl (refl, refl) refl refl ((λ g. never (sym looked ∙ g)), (λ st _ _. never (sym calm ∙ st))) (omega arith)
+          let kl = known_len in let q = known.1 in let p = r.placed in
+          returned w refl (refl, refl) refl refl ((λ g. never (sym looked ∙ g)), (λ st _ _. never (sym calm ∙ st))) (omega arith) (stand_left w left)
           (⊎_elim (λ a. dite (ℕ_discrete (len_of list) 0) (λ z. inr (omega arith))
           (λ ne. dite (ℕ_discrete me.0.marked 0) (λ z. inl (omega arith)) (λ more. let m = marks (omega arith) (omega arith) in inl (omega arith))))
           (λ b. inr (omega arith)) r.wakes)
 
       -- nothing has changed
-      pub stays : len_of list ≡ me.0.len → marked_of list ≡ me.0.marked → R (stepped s 1 n id me.1 (back me.0) gives)
-      stays same marks = let w : View = back me.0 in
+      pub stays : entries_of list ≡ me.0.entries → marked_of list ≡ me.0.marked → R (stepped s 1 n id me.1 (back me.0) gives)
+      stays same marks = let w : View = back me.0 in let as_long : len_of list ≡ length me.0.entries = ap length same in
           let d = number-set is_listed s.views id me.0 w at in let d' : weight (is_listed w) ≡ weight (is_listed me.0) = refl in
-          let k = known.0 in let q = known.1 in let p = r.placed in
-          returned w refl (refl, refl) refl refl mine (omega arith) (⊎_elim (λ a. inl (omega arith)) (λ b. inr (omega arith)) (wakes-same w refl refl refl))
+          let kl = known_len in let q = known.1 in let p = r.placed in
+          returned w refl (refl, refl) refl refl mine (omega arith) (stand_same w refl refl same) (⊎_elim (λ a. inl (omega arith)) (λ b. inr (omega arith)) (wakes-same w refl refl refl))
 
   module _ (slots id : ℕ) (me : M) where
     -- the only one who is starved gets the lock; else it has looked, and found its own count
@@ -517,10 +554,10 @@ module _ (S : Type 0) (len_of marked_of : S → ℕ) (is_right : RoomId → ℕ 
     pub peeks : me.0.starved ≡ false → Allows R slots id me 1 (λ n. n) (λ n m'. m' ≡ (peeking n me.0, me.1))
     peeks calm s r _ at _ = (peeking (get_or s.words 1 0) me.0, keeps, tt, peeked s id me r at calm, refl)
 
-    pub grabs : (k : ℕ) → SetsLow k → Allows R slots id me 1 (λ n. bit_or n k) (λ n m'. Grabbed len_of marked_of me n m')
+    pub grabs : (k : ℕ) → SetsLow k → Allows R slots id me 1 (λ n. bit_or n k) (λ n m'. Grabbed entries_of marked_of me n m')
     grabs k bits s r _ at _ = let n : ℕ = get_or s.words 1 0 in let b = bits n in dite (ℕ_discrete (n % 2) 0)
         (λ even. let g = grabbed s id me r at even (bit_or n k) b.0 b.1 in (
-          listing_of (len_of g.0) (marked_of g.0) me.0,
+          listing_of (entries_of g.0) (marked_of g.0) me.0,
           takes 0 g.0,
           g.1,
           g.2,
@@ -528,20 +565,27 @@ module _ (S : Type 0) (len_of marked_of : S → ℕ) (is_right : RoomId → ℕ 
         ))
         (λ ne. (me.0, keeps, tt, busy s id me r at (bit_or n k) (let o = b.0 in let z : ℕ = bit_or n k in omega (arith, ne)) b.1, ((λ even. absurd (ne even)), λ _. refl)))
 
-    module _ (list : S) (new : ℕ) (lists : me.0.has_list ≡ true) (has : me.1 ≡ (0, list) ∷ rest me.1) (wide : 0 < slots) (four : new % 4 ≡ 0) (low : SaysEmpty new → len_of list ≡ 0) where
-      pub gives-joined : len_of list ≡ me.0.len + 1 → marked_of list ≡ me.0.marked → me.0.listed ≡ false → (me.0.starved ≡ true → me.0.owes ≡ true) → Allows R slots id me 1 (λ _. new) (λ _ m'. m' ≡ (joined_of me.0, rest me.1))
-      gives-joined longer same away starts s r len at _ = (joined_of me.0, gives, tt, joins s id me r at list new lists has (subst (λ (z : ℕ). 0 < z) (sym len) wide) four low longer same away starts, refl)
+    module _ (list : S) (new : ℕ) (lists : me.0.has_list ≡ true) (has : me.1 ≡ (0, list) ∷ rest me.1) (wide : 0 < slots) (four : new % 4 ≡ 0) (low : SaysEmpty new → entries_of list ≡ []) where
+      pub gives-joined : (k : ℕ) → entries_of list ≡ me.0.entries ++ k ∷ [] → marked_of list ≡ me.0.marked → me.0.listed ≡ false → (me.0.starved ≡ true → me.0.owes ≡ true)
+          → Allows R slots id me 1 (λ _. new) (λ _ m'. (list : S) × (me.1 ≡ (0, list) ∷ rest me.1) × (m' ≡ (joined_of (last_of (entries_of list)) me.0, rest me.1)))
+      gives-joined k longer same away starts s r len at _ = (
+        joined_of k me.0,
+        gives,
+        tt,
+        joins s id me r at list new lists has (subst (λ (z : ℕ). 0 < z) (sym len) wide) four low k longer same away starts,
+        (list, has, ap (λ j. (joined_of j me.0, rest me.1)) (sym (ap last_of longer ∙ last-pushed k me.0.entries))),
+      )
 
-      pub gives-told : me.0.len ≤ len_of list + 1 → me.0.listed ≡ true → me.0.fresh ≡ false → Allows R slots id me 1 (λ _. new) (λ _ m'. m' ≡ (told_of me.0, rest me.1))
-      gives-told shorter was looks s r len at _ = (told_of me.0, gives, tt, hears s id me r at list new lists has (subst (λ (z : ℕ). 0 < z) (sym len) wide) four low shorter was looks, refl)
+      pub gives-told : length me.0.entries ≤ len_of list + 1 → LeftBy me.0.entry me.0.entries (entries_of list) → me.0.listed ≡ true → me.0.fresh ≡ false → Allows R slots id me 1 (λ _. new) (λ _ m'. m' ≡ (told_of me.0, rest me.1))
+      gives-told shorter left was looks s r len at _ = (told_of me.0, gives, tt, hears s id me r at list new lists has (subst (λ (z : ℕ). 0 < z) (sym len) wide) four low shorter left was looks, refl)
 
-      pub gives-paid : len_of list ≡ me.0.len → (0 < len_of list → 0 < marked_of list) → (me.0.starved ≡ true → (me.0.listed ≡ true) × (me.0.fresh ≡ false)) → Allows R slots id me 1 (λ _. new) (λ _ m'. m' ≡ (paid_of me.0, rest me.1))
+      pub gives-paid : entries_of list ≡ me.0.entries → (0 < len_of list → 0 < marked_of list) → (me.0.starved ≡ true → (me.0.listed ≡ true) × (me.0.fresh ≡ false)) → Allows R slots id me 1 (λ _. new) (λ _ m'. m' ≡ (paid_of me.0, rest me.1))
       gives-paid same marks waits s r len at _ = (paid_of me.0, gives, tt, pays s id me r at list new lists has (subst (λ (z : ℕ). 0 < z) (sym len) wide) four low same marks waits, refl)
 
-      pub gives-gone : me.0.len ≤ len_of list + 1 → len_of list ≤ me.0.len → (0 < len_of list → 0 < me.0.marked → 0 < marked_of list) → me.0.listed ≡ true → me.0.fresh ≡ false → me.0.starved ≡ false → Allows R slots id me 1 (λ _. new) (λ _ m'. m' ≡ (gone_of me.0, rest me.1))
-      gives-gone shorter no_longer marks was looks calm s r len at _ = (gone_of me.0, gives, tt, leaves s id me r at list new lists has (subst (λ (z : ℕ). 0 < z) (sym len) wide) four low shorter no_longer marks was looks calm, refl)
+      pub gives-gone : length me.0.entries ≤ len_of list + 1 → len_of list ≤ length me.0.entries → (0 < len_of list → 0 < me.0.marked → 0 < marked_of list) → LeftBy me.0.entry me.0.entries (entries_of list) → me.0.listed ≡ true → me.0.fresh ≡ false → me.0.starved ≡ false → Allows R slots id me 1 (λ _. new) (λ _ m'. m' ≡ (gone_of me.0, rest me.1))
+      gives-gone shorter no_longer marks left was looks calm s r len at _ = (gone_of me.0, gives, tt, leaves s id me r at list new lists has (subst (λ (z : ℕ). 0 < z) (sym len) wide) four low shorter no_longer marks left was looks calm, refl)
 
-      pub gives-same : len_of list ≡ me.0.len → marked_of list ≡ me.0.marked → Allows R slots id me 1 (λ _. new) (λ _ m'. m' ≡ (back me.0, rest me.1))
+      pub gives-same : entries_of list ≡ me.0.entries → marked_of list ≡ me.0.marked → Allows R slots id me 1 (λ _. new) (λ _ m'. m' ≡ (back me.0, rest me.1))
       gives-same same marks s r len at _ = (back me.0, gives, tt, stays s id me r at list new lists has (subst (λ (z : ℕ). 0 < z) (sym len) wide) four low same marks, refl)
 
   -- a new seat has nothing
@@ -553,11 +597,12 @@ module _ (S : Type 0) (len_of marked_of : S → ℕ) (is_right : RoomId → ℕ 
         record {
           word = word.comes is_holder is_starved most 0 s.words s.views w r.word refl refl;
           list_word = (lw.0, omega arith, omega arith);
-          len = r.len;
+          entries = r.entries;
           marked = r.marked;
           stands = λ j v e. ⊎_elim (λ old. r.stands j v old) (λ same. subst Stands same nothing) (at_snoc s.views w v j e);
           keyed = λ j v e. ⊎_elim (λ old. r.keyed j v old) (λ same. subst (IsKeyed room deed) same (refl, refl)) (at_snoc s.views w v j e);
           placed = omega arith;
+          standing = λ n has. some-longer (IsEntryOf n) s.views w (r.standing n has);
           wakes = ⊎_elim (λ a. inl (omega arith)) (λ b. inr (omega arith)) r.wakes;
           unlisted = r.unlisted;
           home = λ absent. r.home (omega arith);

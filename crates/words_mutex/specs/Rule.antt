@@ -1,15 +1,16 @@
 -- What always holds of the table of a mutex, its waiting list and the right to its value, between any two atomic steps.
-use Rattle.std.specs.Prelude.{◌≡◌, ℕ, ◌+◌, ◌<◌, ◌≤◌, ◌%◌, ◌⊎◌, Bool, true, false, List, length, slice_index}
+use Rattle.std.specs.Prelude.{◌≡◌, ℕ, ◌+◌, ◌<◌, ◌≤◌, ◌%◌, ◌⊎◌, Bool, true, false, List, [], length, slice_index}
 use mathlib.Core.Option.{some}
 use lib.ListN.{get_elem?}
 use Rattle.atomic_table.specs.Table.{State}
 use Rattle.lock_place.specs.Held.{RoomId}
 use Rattle.words_base.specs.Sums.{number}
 use Rattle.words_base.specs.MutexWord.{IsWord}
+use Rattle.words_base.specs.Waiting.{AreOf}
 use Rattle.words_mutex.specs.declared.view.View.{View}
 
 abbrev pub first_view : RoomId → ℕ → View
-first_view room deed = record { holds = false; starved = false; owes = false; listed = false; fresh = false; has_list = false; len = 0; marked = 0; room = room; deed = deed; passed = 0 }
+first_view room deed = record { holds = false; starved = false; owes = false; listed = false; fresh = false; has_list = false; entry = 0; entries = []; marked = 0; room = room; deed = deed; passed = 0 }
 
 -- Which seats have a flag.
 abbrev pub is_holder : View → Bool
@@ -48,23 +49,28 @@ SaysEmpty word = word % 8 < 4
 abbrev pub LosesNone : ℕ → ℕ → List View → Type 0
 LosesNone len marked views = (1 ≤ marked + (number is_holder views + number is_owing views)) ⊎ (len ≤ number is_fresh views)
 
+-- The entry of this number is the seat's.
+abbrev pub IsEntryOf : ℕ → View → Type 0
+IsEntryOf n v = (v.listed ≡ true) × (v.entry ≡ n)
+
 -- The seat is one of the lock whose right has this room and deed.
 abbrev pub IsKeyed : RoomId → ℕ → View → Type 0
 IsKeyed room deed v = (v.room ≡ room) × (v.deed ≡ deed)
 
--- The word 0 says which seat holds the lock and how many are starved. The list has `len` entries, `marked` of them notified: it lies in the slot 0,
--- or a seat has it out, which knows both numbers as they were when it took the list out. While nobody holds the lock, the right to the value lies
--- in the slot 1.
-pub record Ruled {S : Type 0} (len_of marked_of : S → ℕ) (is_right : RoomId → ℕ → S → Type 0) (room : RoomId) (deed : ℕ) (s : State S View) : Type 0 where
+-- The word 0 says which seat holds the lock and how many are starved. The list has these entries, `marked` of them notified: it lies in the slot 0, or a
+-- seat has it out, which knows both as they were when it took the list out. Each entry, notified or not, is of a seat that stands in the list.
+-- While nobody holds the lock, the right to the value lies in the slot 1.
+pub record Ruled {S : Type 0} (entries_of : S → List ℕ) (marked_of : S → ℕ) (is_right : RoomId → ℕ → S → Type 0) (room : RoomId) (deed : ℕ) (s : State S View) : Type 0 where
   pub word : IsWord is_holder is_starved 1073741823 0 s.words s.views
   pub list_word : IsListWord s.words s.views
-  pub len : ℕ
+  pub entries : List ℕ
   pub marked : ℕ
   pub stands : (i : ℕ) (v : View) → get_elem? s.views i ≡ some v → Stands v
   pub keyed : (i : ℕ) (v : View) → get_elem? s.views i ≡ some v → IsKeyed room deed v
-  pub placed : number is_listed s.views ≤ len
-  pub wakes : LosesNone len marked s.views
-  pub unlisted : SaysEmpty (slice_index s.words 1) → len ≡ 0
-  pub home : number has_list_out s.views ≡ 0 → (list : S) × (get_elem? s.homes 0 ≡ some (some list)) × (len_of list ≡ len) × (marked_of list ≡ marked)
-  pub out : (i : ℕ) (v : View) → get_elem? s.views i ≡ some v → v.has_list ≡ true → (v.len ≡ len) × (v.marked ≡ marked)
+  pub placed : number is_listed s.views ≤ length entries
+  pub standing : AreOf IsEntryOf entries s.views
+  pub wakes : LosesNone (length entries) marked s.views
+  pub unlisted : SaysEmpty (slice_index s.words 1) → entries ≡ []
+  pub home : number has_list_out s.views ≡ 0 → (list : S) × (get_elem? s.homes 0 ≡ some (some list)) × (entries_of list ≡ entries) × (marked_of list ≡ marked)
+  pub out : (i : ℕ) (v : View) → get_elem? s.views i ≡ some v → v.has_list ≡ true → (v.entries ≡ entries) × (v.marked ≡ marked)
   pub right : number is_holder s.views ≡ 0 → (right : S) × (get_elem? s.homes 1 ≡ some (some right)) × is_right room deed right

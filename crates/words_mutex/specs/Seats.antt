@@ -1,5 +1,5 @@
 -- What each step makes of a seat's view.
-use Rattle.std.specs.Prelude.{ℕ, ◌+◌, ◌%◌, ◌==◌, ◌&&◌, leb, true, false}
+use Rattle.std.specs.Prelude.{ℕ, ◌+◌, ◌%◌, ◌==◌, ◌&&◌, leb, true, false, List, []}
 use Rattle.lock_place.specs.Held.{RoomId}
 use Rattle.words_mutex.specs.declared.view.View.{View}
 
@@ -25,24 +25,24 @@ counted_unlisted_of v = record v { starved = true; owes = true }
 abbrev pub uncounted_of : View → View
 uncounted_of v = record v { starved = false }
 
-abbrev pub listing_of : ℕ → ℕ → View → View
-listing_of len marked v = record v { has_list = true; len = len; marked = marked }
+abbrev pub listing_of : List ℕ → ℕ → View → View
+listing_of entries marked v = record v { has_list = true; entries = entries; marked = marked }
 
 -- It has given the list back.
 abbrev pub back : View → View
-back v = record v { has_list = false; len = 0; marked = 0 }
+back v = record v { has_list = false; entries = []; marked = 0 }
 
-abbrev pub joined_of : View → View
-joined_of v = record v { listed = true; fresh = true; has_list = false; len = 0; marked = 0 }
+abbrev pub joined_of : ℕ → View → View
+joined_of n v = record v { listed = true; fresh = true; entry = n; has_list = false; entries = []; marked = 0 }
 
 abbrev pub told_of : View → View
-told_of v = record v { listed = false; owes = true; has_list = false; len = 0; marked = 0 }
+told_of v = record v { listed = false; owes = true; has_list = false; entries = []; marked = 0 }
 
 abbrev pub paid_of : View → View
-paid_of v = record v { owes = false; has_list = false; len = 0; marked = 0 }
+paid_of v = record v { owes = false; has_list = false; entries = []; marked = 0 }
 
 abbrev pub gone_of : View → View
-gone_of v = record v { listed = false; has_list = false; len = 0; marked = 0 }
+gone_of v = record v { listed = false; has_list = false; entries = []; marked = 0 }
 
 -- A look that found n: held, it owes nothing any more; free and others starved, it has looked.
 abbrev pub looking : ℕ → View → View
@@ -61,4 +61,4 @@ nowhere = record { block = 0; offset = 0; atom = 0; name = 0 }
 
 -- what is left of the one that was taken in
 abbrev pub spent : View
-spent = record { holds = false; starved = false; owes = false; listed = false; fresh = false; has_list = false; len = 0; marked = 0; room = nowhere; deed = 0; passed = 0 }
+spent = record { holds = false; starved = false; owes = false; listed = false; fresh = false; has_list = false; entry = 0; entries = []; marked = 0; room = nowhere; deed = 0; passed = 0 }

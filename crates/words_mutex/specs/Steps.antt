@@ -1,7 +1,8 @@
 -- What steps tell, and what a seat has that has the list out.
-use Rattle.std.specs.Prelude.{◌≡◌, ◌≢◌, ℕ, ◌%◌, ◌+◌, ◌<◌, ◌≤◌, true, ◌∷◌}
+use Rattle.std.specs.Prelude.{◌≡◌, ◌≢◌, ℕ, ◌%◌, ◌+◌, ◌<◌, ◌≤◌, true, List, [], ◌∷◌, ◌++◌, length}
 use Rattle.atomic_table.specs.Table.{Me, rest}
 use Rattle.lock_place.specs.Held.{RoomId}
+use Rattle.words_base.specs.Waiting.{LeftBy}
 use Rattle.words_mutex.specs.Rule.{SaysEmpty}
 use Rattle.words_mutex.specs.Seats.{listing_of, got_of, saw_held_of, saw_starved_of}
 use Rattle.words_mutex.specs.declared.view.View.{View}
@@ -24,39 +25,46 @@ HasRight {S} is_right m = (m.0.holds ≡ true) × ((right : S) × (m.1 ≡ (1, r
 
 -- What a seat has else is as it was.
 abbrev pub IsSame : View → View → Type 0
-IsSame v w = (w.holds ≡ v.holds) × (w.starved ≡ v.starved) × (w.owes ≡ v.owes) × (w.listed ≡ v.listed) × (w.fresh ≡ v.fresh) × (w.room ≡ v.room) × (w.deed ≡ v.deed) × (w.passed ≡ v.passed)
+IsSame v w = (w.holds ≡ v.holds) × (w.starved ≡ v.starved) × (w.owes ≡ v.owes) × (w.listed ≡ v.listed) × (w.fresh ≡ v.fresh) × (w.entry ≡ v.entry) × (w.room ≡ v.room) × (w.deed ≡ v.deed) × (w.passed ≡ v.passed)
 
 -- The list is out with the seat.
 abbrev pub Has : {S : Type 0} → Me S View → S → Type 0
 Has m list = (m.0.has_list ≡ true) × (m.1 ≡ (0, list) ∷ rest m.1)
 
 -- What may be written into the list's word as the list is given back.
-abbrev pub Says : {S : Type 0} → (S → ℕ) → S → ℕ → Type 0
-Says len_of list n = (n % 4 ≡ 0) × (SaysEmpty n → len_of list ≡ 0)
+abbrev pub Says : {S : Type 0} → (S → List ℕ) → S → ℕ → Type 0
+Says entries_of list n = (n % 4 ≡ 0) × (SaysEmpty n → entries_of list ≡ [])
 
-module _ {S : Type 0} (len_of marked_of : S → ℕ) where
-  -- From an even word the seat has the list, and knows its counts.
+module _ {S : Type 0} (entries_of : S → List ℕ) (marked_of : S → ℕ) where
+  -- From an even word the seat has the list, and knows its entries.
   abbrev pub Grabbed : Me S View → ℕ → Me S View → Type 0
-  Grabbed m r m' = (r % 2 ≡ 0 → (list : S) × (m' ≡ (listing_of (len_of list) (marked_of list) m.0, (0, list) ∷ m.1))) × (r % 2 ≡ 1 → m' ≡ m)
+  Grabbed m r m' = (r % 2 ≡ 0 → (list : S) × (m' ≡ (listing_of (entries_of list) (marked_of list) m.0, (0, list) ∷ m.1))) × (r % 2 ≡ 1 → m' ≡ m)
 
-  -- The seat has the list out, and knows its counts.
+  -- The seat has the list out, and knows its entries.
   abbrev pub IsHeld : Me S View → Type 0
-  IsHeld m = (list : S) × (m.0.has_list ≡ true) × (m.0.len ≡ len_of list) × (m.0.marked ≡ marked_of list) × (m.1 ≡ (0, list) ∷ rest m.1)
+  IsHeld m = (list : S) × (m.0.has_list ≡ true) × (m.0.entries ≡ entries_of list) × (m.0.marked ≡ marked_of list) × (m.1 ≡ (0, list) ∷ rest m.1)
 
--- The list may be given back with this word: an entry has joined, one has left that was notified, one has been notified, one has left and what
--- it was notified of has gone on, or nothing has changed.
-module _ {S : Type 0} (len_of marked_of : S → ℕ) (m : Me S View) (n : ℕ) where
-  abbrev pub CanJoin : Type 0
-  CanJoin = (list : S) × Has m list × Says len_of list n × (len_of list ≡ m.0.len + 1) × (marked_of list ≡ m.0.marked)
+-- The list may be given back with this word: an entry has joined, the seat's has left that was notified, one has been notified, the seat's has left
+-- and what it was notified of has gone on, or nothing has changed.
+module _ {S : Type 0} (entries_of : S → List ℕ) (marked_of : S → ℕ) (m : Me S View) (n : ℕ) where
+  abbrev pub CanJoin : ℕ → Type 0
+  CanJoin k = (list : S) × Has m list × Says entries_of list n × (entries_of list ≡ m.0.entries ++ k ∷ []) × (marked_of list ≡ m.0.marked)
 
   abbrev pub CanHear : Type 0
-  CanHear = (list : S) × Has m list × Says len_of list n × (m.0.len ≤ len_of list + 1)
+  CanHear = (list : S) × Has m list × Says entries_of list n × (length m.0.entries ≤ length (entries_of list) + 1) × LeftBy m.0.entry m.0.entries (entries_of list)
 
   abbrev pub CanPay : Type 0
-  CanPay = (list : S) × Has m list × Says len_of list n × (len_of list ≡ m.0.len) × (0 < len_of list → 0 < marked_of list)
+  CanPay = (list : S) × Has m list × Says entries_of list n × (entries_of list ≡ m.0.entries) × (0 < length (entries_of list) → 0 < marked_of list)
 
   abbrev pub CanLeave : Type 0
-  CanLeave = (list : S) × Has m list × Says len_of list n × (m.0.len ≤ len_of list + 1) × (len_of list ≤ m.0.len) × (0 < len_of list → 0 < m.0.marked → 0 < marked_of list)
+  CanLeave =
+      (list : S)
+      × Has m list
+      × Says entries_of list n
+      × (length m.0.entries ≤ length (entries_of list) + 1)
+      × (length (entries_of list) ≤ length m.0.entries)
+      × (0 < length (entries_of list) → 0 < m.0.marked → 0 < marked_of list)
+      × LeftBy m.0.entry m.0.entries (entries_of list)
 
   abbrev pub CanStay : Type 0
-  CanStay = (list : S) × Has m list × Says len_of list n × (len_of list ≡ m.0.len) × (marked_of list ≡ m.0.marked)
+  CanStay = (list : S) × Has m list × Says entries_of list n × (entries_of list ≡ m.0.entries) × (marked_of list ≡ m.0.marked)

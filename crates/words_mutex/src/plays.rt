@@ -89,18 +89,19 @@ pub(crate) struct Grabs;
 impl<S: Content> Play<S, View> for Grabs {
     ghost use Rattle.words_mutex.specs.Steps.{Grabbed};
 
-    ghost then = { λ _ m r m'. Grabbed S.len S.marked m r m' };
+    ghost then = { λ _ m r m'. Grabbed S.entries S.marked m r m' };
 }
 
-// The step that gives the list back, in which its entry stands now.
+// The step that gives the list back, in which its entry stands last now.
 pub(crate) struct Joined;
 
-impl<S> Play<S, View> for Joined {
-    ghost use Rattle.std.specs.Prelude.{◌≡◌};
+impl<S: Content> Play<S, View> for Joined {
+    ghost use Rattle.std.specs.Prelude.{◌≡◌, ◌∷◌};
     ghost use Rattle.atomic_table.specs.Table.{rest};
+    ghost use Rattle.words_base.specs.Waiting.{last_of};
     ghost use Rattle.words_mutex.specs.Seats.{joined_of};
 
-    ghost then = { λ _ m _ m'. m' ≡ (joined_of m.0, rest m.1) };
+    ghost then = { λ _ m _ m'. (list : S) × (m.1 ≡ (0, list) ∷ rest m.1) × (m' ≡ (joined_of (last_of (S.entries list)) m.0, rest m.1)) };
 }
 
 // The same, which its entry has left, notified: the seat owes.

@@ -13,6 +13,7 @@ use crate::rule::{Content, MutexRule};
 use crate::view::View;
 use atomic_table::{Seat as TableSeat, Shared};
 use lock_place::Spare;
+use words_base::Numbered;
 
 /// The tables of mutexes with their lists.
 pub type Ruled<T, S> = Shared<S, View, Spare<T>, MutexRule>;
@@ -188,7 +189,7 @@ pub fn peek<T, S: Content>(shared: &Ruled<T, S>, inner: &mut TableSeat<S, View>)
 pub fn grab<T, S: Content>(shared: &Ruled<T, S>, inner: &mut TableSeat<S, View>) -> u64
     requires table { (inner.old.table_id ≡ shared.now.table_id) × (shared.now.table_id.words ≡ 2) }
     ensures table { inner.new.table_id ≡ inner.old.table_id }
-    ensures took { result % 2 ≡ 0 → IsHeld S.len S.marked inner.new.me × IsSame inner.old.me.0 inner.new.me.0 × (rest inner.new.me.1 ≡ inner.old.me.1) }
+    ensures took { result % 2 ≡ 0 → IsHeld S.entries S.marked inner.new.me × IsSame inner.old.me.0 inner.new.me.0 × (rest inner.new.me.1 ≡ inner.old.me.1) }
     ensures not { result % 2 ≢ 0 → inner.new.me ≡ inner.old.me }
 {
     shared.fetch_or::<Grabs>(inner, LIST, OUT)
@@ -199,25 +200,27 @@ pub fn grab<T, S: Content>(shared: &Ruled<T, S>, inner: &mut TableSeat<S, View>)
 pub fn grab_asleep<T, S: Content>(shared: &Ruled<T, S>, inner: &mut TableSeat<S, View>) -> u64
     requires table { (inner.old.table_id ≡ shared.now.table_id) × (shared.now.table_id.words ≡ 2) }
     ensures table { inner.new.table_id ≡ inner.old.table_id }
-    ensures took { result % 2 ≡ 0 → IsHeld S.len S.marked inner.new.me × IsSame inner.old.me.0 inner.new.me.0 × (rest inner.new.me.1 ≡ inner.old.me.1) }
+    ensures took { result % 2 ≡ 0 → IsHeld S.entries S.marked inner.new.me × IsSame inner.old.me.0 inner.new.me.0 × (rest inner.new.me.1 ≡ inner.old.me.1) }
     ensures not { result % 2 ≢ 0 → inner.new.me ≡ inner.old.me }
 {
     shared.fetch_or::<Grabs>(inner, LIST, OUT_AND_ASLEEP)
 }
 
-/// Gives the list back, in which its entry stands now: one step. It answers what it found.
+/// Gives the list back, in which this entry, its own, stands last now: one step. It answers what it found.
 #[inline]
-pub fn give_joined<T, S: Content>(
+pub fn give_joined<T, S: Content, N: Numbered>(
     shared: &Ruled<T, S>,
     inner: &mut TableSeat<S, View>,
     new: u64,
+    entry: &N,
 ) -> u64
     requires table { (inner.old.table_id ≡ shared.now.table_id) × (shared.now.table_id.words ≡ 2) × (shared.now.table_id.slots ≡ 2) }
-    requires list { CanJoin S.len S.marked inner.old.me new }
+    requires list { CanJoin S.entries S.marked inner.old.me new (N.number entry.now) }
     requires stands { (inner.old.me.0.listed ≡ false) × (inner.old.me.0.starved ≡ true → inner.old.me.0.owes ≡ true) }
     ensures table { inner.new.table_id ≡ inner.old.table_id }
-    ensures step { inner.new.me ≡ (joined_of inner.old.me.0, rest inner.old.me.1) }
+    ensures step { inner.new.me ≡ (joined_of (N.number entry.now) inner.old.me.0, rest inner.old.me.1) }
 {
+    let _ = entry;
     shared.swap::<Joined>(inner, LIST, new)
 }
 
@@ -229,7 +232,7 @@ pub fn give_told<T, S: Content>(
     new: u64,
 ) -> u64
     requires table { (inner.old.table_id ≡ shared.now.table_id) × (shared.now.table_id.words ≡ 2) × (shared.now.table_id.slots ≡ 2) }
-    requires list { CanHear S.len S.marked inner.old.me new }
+    requires list { CanHear S.entries S.marked inner.old.me new }
     requires stands { (inner.old.me.0.listed ≡ true) × (inner.old.me.0.fresh ≡ false) }
     ensures table { inner.new.table_id ≡ inner.old.table_id }
     ensures step { inner.new.me ≡ (told_of inner.old.me.0, rest inner.old.me.1) }
@@ -245,7 +248,7 @@ pub fn give_paid<T, S: Content>(
     new: u64,
 ) -> u64
     requires table { (inner.old.table_id ≡ shared.now.table_id) × (shared.now.table_id.words ≡ 2) × (shared.now.table_id.slots ≡ 2) }
-    requires list { CanPay S.len S.marked inner.old.me new }
+    requires list { CanPay S.entries S.marked inner.old.me new }
     requires stands { inner.old.me.0.starved ≡ true → (inner.old.me.0.listed ≡ true) × (inner.old.me.0.fresh ≡ false) }
     ensures table { inner.new.table_id ≡ inner.old.table_id }
     ensures step { inner.new.me ≡ (paid_of inner.old.me.0, rest inner.old.me.1) }
@@ -261,7 +264,7 @@ pub fn give_gone<T, S: Content>(
     new: u64,
 ) -> u64
     requires table { (inner.old.table_id ≡ shared.now.table_id) × (shared.now.table_id.words ≡ 2) × (shared.now.table_id.slots ≡ 2) }
-    requires list { CanLeave S.len S.marked inner.old.me new }
+    requires list { CanLeave S.entries S.marked inner.old.me new }
     requires stands { (inner.old.me.0.listed ≡ true) × (inner.old.me.0.fresh ≡ false) × (inner.old.me.0.starved ≡ false) }
     ensures table { inner.new.table_id ≡ inner.old.table_id }
     ensures step { inner.new.me ≡ (gone_of inner.old.me.0, rest inner.old.me.1) }
@@ -277,7 +280,7 @@ pub fn give_same<T, S: Content>(
     new: u64,
 ) -> u64
     requires table { (inner.old.table_id ≡ shared.now.table_id) × (shared.now.table_id.words ≡ 2) × (shared.now.table_id.slots ≡ 2) }
-    requires list { CanStay S.len S.marked inner.old.me new }
+    requires list { CanStay S.entries S.marked inner.old.me new }
     ensures table { inner.new.table_id ≡ inner.old.table_id }
     ensures step { inner.new.me ≡ (back inner.old.me.0, rest inner.old.me.1) }
 {

@@ -1,6 +1,7 @@
 //! What a seat knows of itself.
 
-ghost use Rattle.std.specs.Prelude.{ℕ};
+ghost use Rattle.std.specs.Prelude.{ℕ, List};
+ghost use Rattle.std.specs.Coded.{coded_list, coded_ℕ};
 ghost use Rattle.lock_place.specs.Held.{RoomId, room_id_coded};
 
 use std::marker::Model;
@@ -19,8 +20,10 @@ pub struct View {
     pub fresh: bool,
     /// Whether it has the list out.
     pub has_list: bool,
-    /// How many entries the list had when the seat took it out.
-    pub ghost len: { ℕ },
+    /// The number of its entry.
+    pub ghost entry: { ℕ },
+    /// Which entries the list had when the seat took it out.
+    pub ghost entries: { List ℕ } by { coded_list coded_ℕ },
     /// How many of them were notified.
     pub ghost marked: { ℕ },
     /// Where its lock's value lay when the lock was made.

@@ -1,8 +1,8 @@
 use Rattle.std.proofs.Common.{sym, subst}
 use Rattle.lock_queue.specs.Entries.{HasLeft}
-use Rattle.lock_queue.proofs.Changes.{left_without_waker}
+use Rattle.lock_queue.proofs.Changes.{left_once, left_without_waker}
 use Rattle.lock_queue.proofs.list.leave.Goals as goal
 
 pub returns : goal.returns
-returns c = let old = c.args.event.now.entries in
-    subst (λ l. HasLeft old l c.args.id.number) (sym c.next_waker.ensures.entries) (left_without_waker old c.withdraw-kept.new.event.entries c.args.id.number c.withdraw-kept.ensures)
+returns c = let old = c.args.event.now.entries in let mid = c.withdraw-kept.new.self.entries in
+    subst (λ l. HasLeft old l c.args.id.number) (sym c.next_waker.ensures.entries) (left_without_waker old mid c.args.id.number (left_once c.args.id old mid c.withdraw-kept.ensures.entries c.withdraw-kept.ensures.gone))

@@ -6,4 +6,4 @@ use Rattle.lock_queue.proofs.list.notify_all.Goals as goal
 
 pub returns : goal.returns
 returns c = let old = c.args.event.now.entries in let mid = c.notify_additional.new.self.entries in
-    told_on mid c.all_due.new.event.entries (subst AreTold (sym (c.notify_additional.ensures.entries ∙ ap (notified_additionally old) c.len-all.ensures)) (all_told old)) c.all_due.ensures
+    told_on old mid c.all_due.new.event.entries (subst (AreTold old) (sym (c.notify_additional.ensures.entries ∙ ap (notified_additionally old) c.len-all.ensures)) (all_told old)) c.all_due.ensures

@@ -6,4 +6,4 @@ use Rattle.lock_queue.proofs.list.notify_each.Goals as goal
 
 pub returns : goal.returns
 returns c = let old = c.args.event.now.entries in let mid = c.notify.new.self.entries in
-    told_on mid c.all_due.new.event.entries (subst AreTold (sym (c.notify.ensures.entries ∙ ap (notified old) c.len-all.ensures)) (each_told old)) c.all_due.ensures
+    told_on old mid c.all_due.new.event.entries (subst (AreTold old) (sym (c.notify.ensures.entries ∙ ap (notified old) c.len-all.ensures)) (each_told old)) c.all_due.ensures

@@ -1,4 +1,4 @@
-use Rattle.words_mutex.proofs.Wakeups.{running, at_rest}
+use Rattle.words_mutex.proofs.Wakeups.{running, at_rest, standing}
 use Rattle.words_mutex.proofs.laws.no_lost_wakeup.Goals as goal
 
 pub returns-clause-running : goal.returns-clause-running
@@ -6,3 +6,6 @@ returns-clause-running g c room deed s r = running _ _ _ _ _ s r
 
 pub returns-clause-at_rest : goal.returns-clause-at_rest
 returns-clause-at_rest g c room deed s r = at_rest _ _ _ _ _ s r
+
+pub returns-clause-standing : goal.returns-clause-standing
+returns-clause-standing g c room deed s r = standing _ _ _ _ _ s r
