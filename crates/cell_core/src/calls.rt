@@ -20,11 +20,12 @@ use lock_event::{EntryId, Memory};
 use lock_queue::{AllDue, Heard, Whose};
 use std::sync::Wait;
 use sync_program::once_cell::{Found, Place};
+use words_base::Numbered;
 use words_cell::steps::{
     give_gone, give_joined_active, give_joined_passive, give_paid, give_paid_active,
     give_paid_passive, give_same, give_told,
 };
-use words_cell::{Numbered, take_out, wake_next};
+use words_cell::{take_out, wake_next};
 
 // An entry that has joined, by which the rule names it.
 #[derive(Drop)]

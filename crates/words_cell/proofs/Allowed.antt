@@ -14,6 +14,7 @@ use Rattle.words_cell.specs.Seats.{saw_of, saw_full_of, claimed_of, missed_of, l
 use Rattle.words_cell.specs.Steps.{Kept, Looked, Claimed, Took, Peeked, Grabbed, CanJoinActive, CanJoinPassive, CanHear, CanLeave, CanPay, CanPayActive, CanPayPassive, CanStay}
 use Rattle.words_cell.specs.declared.view.View.{View}
 use Rattle.words_cell.proofs.Flags.{never, SetsLow}
+use Rattle.words_base.proofs.Waiting.{last-pushed}
 use Rattle.words_base.proofs.Views.{some-longer}
 use Rattle.words_cell.proofs.Keeps.{few, sees, sees_full, claims, misses, comes_late, fills, empties, takes_value, finds, busy, eases, grabbed, joins_active, joins_passive, hears, leaves, pays, pays_active, pays_passive, remains}
 
@@ -93,39 +94,39 @@ module _ (S : Type 0) (active_of passive_of : S → Listed) (start : Bool) where
 
     module _ (new : ℕ) (wide : 0 < slots) where
       pub given_active : (k : ℕ) → CanJoinActive active_of passive_of me new k → me.0.in_active ≡ false → me.0.in_passive ≡ false
-          → Allows R slots id me 1 (λ _. new) (λ _ m'. (lists : S) × (me.1 ≡ (0, lists) ∷ rest me.1) × (m' ≡ (joined_active_of (last_of (active_of lists).waiting) me.0, rest me.1)))
+          → Allows R slots id me 1 (λ _. new) (λ _ m'. (lists : S) × (me.1 ≡ (0, lists) ∷ rest me.1) × (m' ≡ (joined_active_of (last_of (active_of lists).entries) me.0, rest me.1)))
       given_active k c away off s r len at _ = (
         joined_active_of k me.0,
         gives,
         tt,
         joins_active S active_of passive_of start s id me r at c.0 new c.1.0 c.1.1 (subst (λ (z : ℕ). 0 < z) (sym len) wide) c.1.2 c.1.3 k c.2 c.3 c.4 away off,
-        (c.0, c.1.1, ap (λ j. (joined_active_of j me.0, rest me.1)) (sym (c.2).2)),
+        (c.0, c.1.1, ap (λ j. (joined_active_of j me.0, rest me.1)) (sym (ap last_of (c.2).0 ∙ last-pushed k me.0.active.entries))),
       )
 
       pub given_passive : (k : ℕ) → CanJoinPassive active_of passive_of me new k → me.0.in_active ≡ false → me.0.in_passive ≡ false
-          → Allows R slots id me 1 (λ _. new) (λ _ m'. (lists : S) × (me.1 ≡ (0, lists) ∷ rest me.1) × (m' ≡ (joined_passive_of (last_of (passive_of lists).waiting) me.0, rest me.1)))
+          → Allows R slots id me 1 (λ _. new) (λ _ m'. (lists : S) × (me.1 ≡ (0, lists) ∷ rest me.1) × (m' ≡ (joined_passive_of (last_of (passive_of lists).entries) me.0, rest me.1)))
       given_passive k c away off s r len at _ = (
         joined_passive_of k me.0,
         gives,
         tt,
         joins_passive S active_of passive_of start s id me r at c.0 new c.1.0 c.1.1 (subst (λ (z : ℕ). 0 < z) (sym len) wide) c.1.2 c.1.3 k c.2 c.3 c.4 away off,
-        (c.0, c.1.1, ap (λ j. (joined_passive_of j me.0, rest me.1)) (sym (c.3).2)),
+        (c.0, c.1.1, ap (λ j. (joined_passive_of j me.0, rest me.1)) (sym (ap last_of (c.3).0 ∙ last-pushed k me.0.passive.entries))),
       )
 
       pub given_told : CanHear active_of passive_of me new → Allows R slots id me 1 (λ _. new) (λ _ m'. m' ≡ (told_of me.0, rest me.1))
       given_told c s r len at _ = (told_of me.0, gives, tt, hears S active_of passive_of start s id me r at c.0 new c.1.0 c.1.1 (subst (λ (z : ℕ). 0 < z) (sym len) wide) c.1.2 c.1.3 c.2 c.3, refl)
 
       pub given_gone : CanLeave active_of passive_of me new → Allows R slots id me 1 (λ _. new) (λ _ m'. m' ≡ (gone_of me.0, rest me.1))
-      given_gone c s r len at _ = (gone_of me.0, gives, tt, leaves S active_of passive_of start s id me r at c.0 new c.1.0 c.1.1 (subst (λ (z : ℕ). 0 < z) (sym len) wide) c.1.2 c.1.3 c.2 c.3 c.4 c.5 c.6, refl)
+      given_gone c s r len at _ = (gone_of me.0, gives, tt, leaves S active_of passive_of start s id me r at c.0 new c.1.0 c.1.1 (subst (λ (z : ℕ). 0 < z) (sym len) wide) c.1.2 c.1.3 c.2 c.3 c.4, refl)
 
       pub given_paid : CanPay active_of passive_of me new → Allows R slots id me 1 (λ _. new) (λ _ m'. m' ≡ (paid_of me.0, rest me.1))
       given_paid c s r len at _ = (paid_of me.0, gives, tt, pays S active_of passive_of start s id me r at c.0 new c.1.0 c.1.1 (subst (λ (z : ℕ). 0 < z) (sym len) wide) c.1.2 c.1.3 c.2 c.3 c.4, refl)
 
       pub given_paid_active : CanPayActive active_of passive_of me new → Allows R slots id me 1 (λ _. new) (λ _ m'. m' ≡ (paid_active_of me.0, rest me.1))
-      given_paid_active c s r len at _ = (paid_active_of me.0, gives, tt, pays_active S active_of passive_of start s id me r at c.0 new c.1.0 c.1.1 (subst (λ (z : ℕ). 0 < z) (sym len) wide) c.1.2 c.1.3 c.2 c.3 c.4, refl)
+      given_paid_active c s r len at _ = (paid_active_of me.0, gives, tt, pays_active S active_of passive_of start s id me r at c.0 new c.1.0 c.1.1 (subst (λ (z : ℕ). 0 < z) (sym len) wide) c.1.2 c.1.3 c.2 c.3, refl)
 
       pub given_paid_passive : CanPayPassive active_of passive_of me new → Allows R slots id me 1 (λ _. new) (λ _ m'. m' ≡ (paid_passive_of me.0, rest me.1))
-      given_paid_passive c s r len at _ = (paid_passive_of me.0, gives, tt, pays_passive S active_of passive_of start s id me r at c.0 new c.1.0 c.1.1 (subst (λ (z : ℕ). 0 < z) (sym len) wide) c.1.2 c.1.3 c.2 c.3 c.4 c.5, refl)
+      given_paid_passive c s r len at _ = (paid_passive_of me.0, gives, tt, pays_passive S active_of passive_of start s id me r at c.0 new c.1.0 c.1.1 (subst (λ (z : ℕ). 0 < z) (sym len) wide) c.1.2 c.1.3 c.2 c.3 c.4, refl)
 
       pub given_same : CanStay active_of passive_of me new → Allows R slots id me 1 (λ _. new) (λ _ m'. m' ≡ (back me.0, rest me.1))
       given_same c s r len at _ = (back me.0, gives, tt, remains S active_of passive_of start s id me r at c.0 new c.1.0 c.1.1 (subst (λ (z : ℕ). 0 < z) (sym len) wide) c.1.2 c.1.3 c.2 c.3 c.4, refl)

@@ -8,12 +8,18 @@ use Rattle.words_base.specs.Sums.{weight, number, total}
 use Rattle.words_base.proofs.Sums.{number-set, number-at, total-set}
 use Rattle.words_base.specs.Waiting.{Has, NoneWaits, Fewer, SomeSeat, AreOf}
 use Rattle.words_cell.specs.Lists.{Listed, nobody}
-use Rattle.words_cell.specs.Rule.{first_view, makes_of, has_lists_out, filled_of, taken_of, Owes, OwesActive, OwesPassive, StandsActive, StandsPassive, IsFreshActive, IsFreshPassive, AllStand, LosesNoneEmpty, LosesNoneFull, IsCell, SaysEmpty, Ruled}
+use Rattle.words_cell.specs.Rule.{first_view, makes_of, has_lists_out, filled_of, taken_of, Owes, OwesActive, OwesPassive, IsActiveEntryOf, IsPassiveEntryOf, IsFreshActive, IsFreshPassive, AllStand, LosesNoneEmpty, LosesNoneFull, IsCell, SaysEmpty, Ruled}
 use Rattle.words_cell.specs.Seats.{saw_of, saw_full_of, claimed_of, missed_of, late_of, filled_by, emptied_by, taken_by, having_found, eased_of, listing_of, back, joined_active_of, joined_passive_of, told_of, gone_of, paid_of, paid_active_of, paid_passive_of}
-use Rattle.words_cell.specs.Steps.{NoneJoined, HasJoined, HasLeft, KeepsTold}
+use Rattle.words_cell.specs.Steps.{KeepsEntries, AllTold, HasJoined, HasLeft, LeftIf, KeepsTold}
 use Rattle.words_cell.specs.declared.view.View.{View}
 use Rattle.words_cell.proofs.Flags.{never}
+use Rattle.words_base.proofs.Waiting.{joined_by}
 use Rattle.words_base.proofs.Views.{own, apart, stays, all_stay as fresh_stays}
+
+-- no entry is new, and none is the seat's where it stands
+left_if : (b : Bool) (k : ℕ) (old new : Listed) → LeftIf b k old new → ((n : ℕ) → Has n new.entries → Has n old.entries × (b ≡ true → n ≢ k)) × ((n : ℕ) → Has n new.waiting → Has n old.waiting × (b ≡ true → n ≢ k))
+left_if true k old new left = ((λ n h. let l = left.0 n h in (l.0, λ _. l.1)), λ n h. let l = left.1 n h in (l.0, λ _. l.1))
+left_if false k old new kept = ((λ n h. (subst (Has n) kept.0 h, λ b. never b)), λ n h. (kept.1 n h, λ b. never b))
 
 module _ (S : Type 0) (active_of passive_of : S → Listed) where
   module _ (lists : S) (a : active_of lists ≡ nobody) (p : passive_of lists ≡ nobody) where
@@ -94,8 +100,8 @@ module _ (S : Type 0) (active_of passive_of : S → Listed) where
       -- the lists stay, and the seat stands where it stood
       all_stand : (w : View) → w.in_active ≡ me.0.in_active → w.in_passive ≡ me.0.in_passive → w.entry ≡ me.0.entry → AllStand r.active r.passive (after w)
       all_stand w active passive entry = (
-        all_stay StandsActive r.active.entries w (λ n q. (active ∙ q.0, entry ∙ q.1)) r.standing.0,
-        all_stay StandsPassive r.passive.entries w (λ n q. (passive ∙ q.0, entry ∙ q.1)) r.standing.1,
+        all_stay IsActiveEntryOf r.active.entries w (λ n q. (active ∙ q.0, entry ∙ q.1)) r.standing.0,
+        all_stay IsPassiveEntryOf r.passive.entries w (λ n q. (passive ∙ q.0, entry ∙ q.1)) r.standing.1,
       )
 
       same_out : (w : View) → w.has_lists ≡ me.0.has_lists → number has_lists_out (after w) ≡ number has_lists_out s.views
@@ -294,19 +300,19 @@ module _ (S : Type 0) (active_of passive_of : S → Listed) where
         fewer P w old new all good k h = inl (all k h, good k)
 
         abbrev Stood : View → Type 0
-        Stood w = Stands StandsActive w me.0.active.entries new_active.entries × Stands StandsPassive w me.0.passive.entries new_passive.entries
+        Stood w = Stands IsActiveEntryOf w me.0.active.entries new_active.entries × Stands IsPassiveEntryOf w me.0.passive.entries new_passive.entries
 
         stands_now : (w : View) → Stood w → AllStand new_active new_passive (after w)
         stands_now w stood = let k = known in (
-          stand StandsActive w me.0.active.entries new_active.entries stood.0 (subst (λ (l : Listed). AreOf StandsActive l.entries s.views) (sym k.0) r.standing.0),
-          stand StandsPassive w me.0.passive.entries new_passive.entries stood.1 (subst (λ (l : Listed). AreOf StandsPassive l.entries s.views) (sym k.1) r.standing.1),
+          stand IsActiveEntryOf w me.0.active.entries new_active.entries stood.0 (subst (λ (l : Listed). AreOf IsActiveEntryOf l.entries s.views) (sym k.0) r.standing.0),
+          stand IsPassiveEntryOf w me.0.passive.entries new_passive.entries stood.1 (subst (λ (l : Listed). AreOf IsPassiveEntryOf l.entries s.views) (sym k.1) r.standing.1),
         )
 
-        -- no entry is new, and the seat stands where it stood
-        keeps_place : (w : View) → w.in_active ≡ me.0.in_active → w.in_passive ≡ me.0.in_passive → w.entry ≡ me.0.entry → Fewer me.0.active.entries new_active.entries → Fewer me.0.passive.entries new_passive.entries → Stood w
+        -- the same entries, and the seat stands where it stood
+        keeps_place : (w : View) → w.in_active ≡ me.0.in_active → w.in_passive ≡ me.0.in_passive → w.entry ≡ me.0.entry → new_active.entries ≡ me.0.active.entries → new_passive.entries ≡ me.0.passive.entries → Stood w
         keeps_place w in_active in_passive entry active passive = (
-          fewer StandsActive w me.0.active.entries new_active.entries active (λ j q. (in_active ∙ q.0, entry ∙ q.1)),
-          fewer StandsPassive w me.0.passive.entries new_passive.entries passive (λ j q. (in_passive ∙ q.0, entry ∙ q.1)),
+          fewer IsActiveEntryOf w me.0.active.entries new_active.entries (λ j. subst (Has j) active) (λ j q. (in_active ∙ q.0, entry ∙ q.1)),
+          fewer IsPassiveEntryOf w me.0.passive.entries new_passive.entries (λ j. subst (Has j) passive) (λ j q. (in_passive ∙ q.0, entry ∙ q.1)),
         )
 
         returned : (w : View) → w.has_lists ≡ false → Does w → Stood w → (x ≡ 0 → LosesNoneEmpty new_active (after w)) → (x ≡ 2 → LosesNoneFull new_active new_passive (after w)) → R (stepped s 1 n id me.1 w gives)
@@ -359,65 +365,70 @@ module _ (S : Type 0) (active_of passive_of : S → Listed) where
         abbrev Passive : View → Type 0
         Passive w = Stands IsFreshPassive w me.0.passive.waiting new_passive.waiting
 
-        active_fewer : (w : View) → NoneJoined me.0.active new_active → ((k : ℕ) → IsFreshActive k me.0 → IsFreshActive k w) → Active w
+        active_fewer : (w : View) → KeepsEntries me.0.active new_active → ((k : ℕ) → IsFreshActive k me.0 → IsFreshActive k w) → Active w
         active_fewer w all = fewer IsFreshActive w me.0.active.waiting new_active.waiting all.1
 
-        passive_fewer : (w : View) → NoneJoined me.0.passive new_passive → ((k : ℕ) → IsFreshPassive k me.0 → IsFreshPassive k w) → Passive w
+        passive_fewer : (w : View) → KeepsEntries me.0.passive new_passive → ((k : ℕ) → IsFreshPassive k me.0 → IsFreshPassive k w) → Passive w
         passive_fewer w all = fewer IsFreshPassive w me.0.passive.waiting new_passive.waiting all.1
 
         -- its entry has joined
-        pub joins_active : (k : ℕ) → HasJoined k me.0.active new_active → NoneJoined me.0.passive new_passive → me.0.active.notified ≤ new_active.notified → me.0.in_active ≡ false → me.0.in_passive ≡ false → R (stepped s 1 n id me.1 (joined_active_of k me.0) gives)
+        pub joins_active : (k : ℕ) → HasJoined k me.0.active new_active → KeepsEntries me.0.passive new_passive → me.0.active.notified ≤ new_active.notified → me.0.in_active ≡ false → me.0.in_passive ≡ false → R (stepped s 1 n id me.1 (joined_active_of k me.0) gives)
         joins_active k joined passive more away off = let w : View = joined_active_of k me.0 in
             let act : Active w = λ j h. ⊎_elim (λ old. inl (old, λ f. never (sym away ∙ f.1.0))) (λ e. inr (refl, (refl, sym e))) (joined.1 j h) in
             let pas = passive_fewer w passive (λ j f. never (sym off ∙ f.1.0)) in
-            let stood : Stood w = ((λ j h. ⊎_elim (λ old. inl (old, λ q. never (sym away ∙ q.0))) (λ e. inr (refl, sym e)) (joined.0 j h)), λ j h. inl (passive.0 j h, λ q. never (sym off ∙ q.0))) in
+            let stood : Stood w = (
+              (λ j h. ⊎_elim (λ old. inl (old, λ q. never (sym away ∙ q.0))) (λ e. inr (refl, sym e)) (joined_by k me.0.active.entries j (subst (Has j) joined.0 h))),
+              λ j h. inl (subst (Has j) passive.0 h, λ q. never (sym off ∙ q.0)),
+            ) in
             returned w refl (refl, refl, refl) stood (emptying w (λ m. inl (omega arith)) (λ o. inr (inl o)) act) (filling w (λ o. inl o) (λ o. inl o) act pas)
 
-        pub joins_passive : (k : ℕ) → NoneJoined me.0.active new_active → HasJoined k me.0.passive new_passive → me.0.active.notified ≤ new_active.notified → me.0.in_active ≡ false → me.0.in_passive ≡ false → R (stepped s 1 n id me.1 (joined_passive_of k me.0) gives)
+        pub joins_passive : (k : ℕ) → KeepsEntries me.0.active new_active → HasJoined k me.0.passive new_passive → me.0.active.notified ≤ new_active.notified → me.0.in_active ≡ false → me.0.in_passive ≡ false → R (stepped s 1 n id me.1 (joined_passive_of k me.0) gives)
         joins_passive k active joined more away off = let w : View = joined_passive_of k me.0 in
             let act = active_fewer w active (λ j f. never (sym away ∙ f.1.0)) in
             let pas : Passive w = λ j h. ⊎_elim (λ old. inl (old, λ f. never (sym off ∙ f.1.0))) (λ e. inr (refl, (refl, sym e))) (joined.1 j h) in
-            let stood : Stood w = ((λ j h. inl (active.0 j h, λ q. never (sym away ∙ q.0))), λ j h. ⊎_elim (λ old. inl (old, λ q. never (sym off ∙ q.0))) (λ e. inr (refl, sym e)) (joined.0 j h)) in
+            let stood : Stood w = (
+              (λ j h. inl (subst (Has j) active.0 h, λ q. never (sym away ∙ q.0))),
+              λ j h. ⊎_elim (λ old. inl (old, λ q. never (sym off ∙ q.0))) (λ e. inr (refl, sym e)) (joined_by k me.0.passive.entries j (subst (Has j) joined.0 h)),
+            ) in
             returned w refl (refl, refl, refl) stood (emptying w (λ m. inl (omega arith)) (λ o. inr (inl o)) act) (filling w (λ o. inl o) (λ o. inl o) act pas)
 
         -- its entry was notified, and has left: it owes
-        pub hears : HasLeft me.0.entry me.0.active new_active → NoneJoined me.0.passive new_passive → R (stepped s 1 n id me.1 (told_of me.0) gives)
+        pub hears : HasLeft me.0.entry me.0.active new_active → KeepsEntries me.0.passive new_passive → R (stepped s 1 n id me.1 (told_of me.0) gives)
         hears left passive = let w : View = told_of me.0 in
             let act : Active w = λ j h. let l = left.1 j h in inl (l.0, λ f. absurd (l.1 (sym f.1.1))) in let pas = passive_fewer w passive (λ j f. f) in
-            let stood : Stood w = ((λ j h. let l = left.0 j h in inl (l.0, λ q. absurd (l.1 (sym q.1)))), λ j h. inl (passive.0 j h, λ q. q)) in
+            let stood : Stood w = ((λ j h. let l = left.0 j h in inl (l.0, λ q. absurd (l.1 (sym q.1)))), λ j h. inl (subst (Has j) passive.0 h, λ q. q)) in
             returned w refl (refl, refl, refl) stood (emptying w (λ _. inr (inl (inl refl))) (λ _. inr (inl (inl refl))) act) (filling w (λ o. inl o) (λ o. inl o) act pas)
 
         -- its entry has left, and what it was told has gone on
-        pub leaves : NoneJoined me.0.active new_active → NoneJoined me.0.passive new_passive → KeepsTold me.0.active new_active → (me.0.in_active ≡ true → HasLeft me.0.entry me.0.active new_active)
-            → (me.0.in_passive ≡ true → HasLeft me.0.entry me.0.passive new_passive) → R (stepped s 1 n id me.1 (gone_of me.0) gives)
-        leaves active passive kept left_active left_passive = let w : View = gone_of me.0 in
-            let act : Active w = λ j h. inl (active.1 j h, λ f. absurd (((left_active f.1.0).1 j h).1 (sym f.1.1))) in
-            let pas : Passive w = λ j h. inl (passive.1 j h, λ f. absurd (((left_passive f.1.0).1 j h).1 (sym f.1.1))) in
-            let stood : Stood w = ((λ j h. inl (active.0 j h, λ q. absurd (((left_active q.0).0 j h).1 (sym q.1)))), λ j h. inl (passive.0 j h, λ q. absurd (((left_passive q.0).0 j h).1 (sym q.1)))) in
+        pub leaves : LeftIf me.0.in_active me.0.entry me.0.active new_active → LeftIf me.0.in_passive me.0.entry me.0.passive new_passive → KeepsTold me.0.active new_active → R (stepped s 1 n id me.1 (gone_of me.0) gives)
+        leaves active passive kept = let w : View = gone_of me.0 in
+            let a = left_if me.0.in_active me.0.entry me.0.active new_active active in let p = left_if me.0.in_passive me.0.entry me.0.passive new_passive passive in
+            let act : Active w = λ j h. let l = a.1 j h in inl (l.0, λ f. absurd (l.1 f.1.0 (sym f.1.1))) in let pas : Passive w = λ j h. let l = p.1 j h in inl (l.0, λ f. absurd (l.1 f.1.0 (sym f.1.1))) in
+            let stood : Stood w = ((λ j h. let l = a.0 j h in inl (l.0, λ q. absurd (l.1 q.0 (sym q.1)))), λ j h. let l = p.0 j h in inl (l.0, λ q. absurd (l.1 q.0 (sym q.1)))) in
             returned w refl (refl, refl, refl) stood (emptying w (told_still w kept) (λ o. inr (inl o)) act) (filling w (λ o. inl o) (λ o. inl o) act pas)
 
         -- it has notified one that would make
-        pub pays : NoneJoined me.0.active new_active → NoneJoined me.0.passive new_passive → (0 < new_active.notified) ⊎ NoneWaits new_active.waiting → R (stepped s 1 n id me.1 (paid_of me.0) gives)
+        pub pays : KeepsEntries me.0.active new_active → KeepsEntries me.0.passive new_passive → (0 < new_active.notified) ⊎ NoneWaits new_active.waiting → R (stepped s 1 n id me.1 (paid_of me.0) gives)
         pays active passive told = let w : View = paid_of me.0 in
             let end : Ends w = ⊎_elim (λ a. inl a) (λ none. inr (inr none)) told in
             let act = active_fewer w active (λ j f. f) in let pas = passive_fewer w passive (λ j f. f) in
             returned w refl (refl, refl, refl) (keeps_place w refl refl refl active.0 passive.0) (emptying w (λ _. end) (λ _. end) act) (filling w (λ o. inl o) (λ o. inl o) act pas)
 
         -- all that would make
-        pub pays_active : Fewer me.0.active.entries new_active.entries → NoneWaits new_active.waiting → NoneJoined me.0.passive new_passive → R (stepped s 1 n id me.1 (paid_active_of me.0) gives)
-        pays_active active nobody_waits passive = let w : View = paid_active_of me.0 in
-            let end : Ends w = inr (inr nobody_waits) in
-            let act : Active w = λ j h. absurd (nobody_waits j h) in let pas = passive_fewer w passive (λ j f. f) in
-            returned w refl (refl, refl, refl) (keeps_place w refl refl refl active passive.0) (emptying w (λ _. end) (λ _. end) act) (filling w (λ _. inr nobody_waits) (λ o. inl o) act pas)
+        pub pays_active : AllTold me.0.active new_active → KeepsEntries me.0.passive new_passive → R (stepped s 1 n id me.1 (paid_active_of me.0) gives)
+        pays_active active passive = let w : View = paid_active_of me.0 in
+            let end : Ends w = inr (inr active.1) in
+            let act : Active w = λ j h. absurd (active.1 j h) in let pas = passive_fewer w passive (λ j f. f) in
+            returned w refl (refl, refl, refl) (keeps_place w refl refl refl active.0 passive.0) (emptying w (λ _. end) (λ _. end) act) (filling w (λ _. inr active.1) (λ o. inl o) act pas)
 
         -- all that wait
-        pub pays_passive : NoneJoined me.0.active new_active → Fewer me.0.passive.entries new_passive.entries → NoneWaits new_passive.waiting → KeepsTold me.0.active new_active → R (stepped s 1 n id me.1 (paid_passive_of me.0) gives)
-        pays_passive active passive nobody_waits kept = let w : View = paid_passive_of me.0 in
-            let act = active_fewer w active (λ j f. f) in let pas : Passive w = λ j h. absurd (nobody_waits j h) in
-            returned w refl (refl, refl, refl) (keeps_place w refl refl refl active.0 passive) (emptying w (told_still w kept) (λ o. inr (inl o)) act) (filling w (λ o. inl o) (λ _. inr nobody_waits) act pas)
+        pub pays_passive : KeepsEntries me.0.active new_active → AllTold me.0.passive new_passive → KeepsTold me.0.active new_active → R (stepped s 1 n id me.1 (paid_passive_of me.0) gives)
+        pays_passive active passive kept = let w : View = paid_passive_of me.0 in
+            let act = active_fewer w active (λ j f. f) in let pas : Passive w = λ j h. absurd (passive.1 j h) in
+            returned w refl (refl, refl, refl) (keeps_place w refl refl refl active.0 passive.0) (emptying w (told_still w kept) (λ o. inr (inl o)) act) (filling w (λ o. inl o) (λ _. inr passive.1) act pas)
 
         -- nothing has changed
-        pub remains : NoneJoined me.0.active new_active → NoneJoined me.0.passive new_passive → KeepsTold me.0.active new_active → R (stepped s 1 n id me.1 (back me.0) gives)
+        pub remains : KeepsEntries me.0.active new_active → KeepsEntries me.0.passive new_passive → KeepsTold me.0.active new_active → R (stepped s 1 n id me.1 (back me.0) gives)
         remains active passive kept = let w : View = back me.0 in
             let act = active_fewer w active (λ j f. f) in let pas = passive_fewer w passive (λ j f. f) in
             returned w refl (refl, refl, refl) (keeps_place w refl refl refl active.0 passive.0) (emptying w (told_still w kept) (λ o. inr (inl o)) act) (filling w (λ o. inl o) (λ o. inl o) act pas)

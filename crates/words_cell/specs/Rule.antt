@@ -35,23 +35,23 @@ OwesActive v = v.owes_active ≡ true
 abbrev pub OwesPassive : View → Type 0
 OwesPassive v = v.owes_passive ≡ true
 
--- It stands in a list with the entry n.
-abbrev pub StandsActive : ℕ → View → Type 0
-StandsActive n v = (v.in_active ≡ true) × (v.entry ≡ n)
+-- The entry of this number, of one list or the other, is the seat's.
+abbrev pub IsActiveEntryOf : ℕ → View → Type 0
+IsActiveEntryOf n v = (v.in_active ≡ true) × (v.entry ≡ n)
 
-abbrev pub StandsPassive : ℕ → View → Type 0
-StandsPassive n v = (v.in_passive ≡ true) × (v.entry ≡ n)
+abbrev pub IsPassiveEntryOf : ℕ → View → Type 0
+IsPassiveEntryOf n v = (v.in_passive ≡ true) × (v.entry ≡ n)
 
 -- It has joined a list with the entry n, and has not looked at the cell since, or found it full.
 abbrev pub IsFreshActive : ℕ → View → Type 0
-IsFreshActive n v = (v.fresh ≡ true) × StandsActive n v
+IsFreshActive n v = (v.fresh ≡ true) × IsActiveEntryOf n v
 
 abbrev pub IsFreshPassive : ℕ → View → Type 0
-IsFreshPassive n v = (v.fresh ≡ true) × StandsPassive n v
+IsFreshPassive n v = (v.fresh ≡ true) × IsPassiveEntryOf n v
 
 -- Each entry of both lists, notified or not, is of a seat that stands in its list.
 abbrev pub AllStand : Listed → Listed → List View → Type 0
-AllStand active passive views = AreOf StandsActive active.entries views × AreOf StandsPassive passive.entries views
+AllStand active passive views = AreOf IsActiveEntryOf active.entries views × AreOf IsPassiveEntryOf passive.entries views
 
 -- No wake-up is lost of an empty cell: one that would make is notified, or a seat owes, or each that waits is fresh.
 abbrev pub LosesNoneEmpty : Listed → List View → Type 0

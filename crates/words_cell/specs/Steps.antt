@@ -1,7 +1,7 @@
 -- What steps tell, and what a seat has that has the lists out.
-use Rattle.std.specs.Prelude.{◌≡◌, ◌≢◌, ℕ, ◌%◌, ◌<◌, ◌≤◌, ◌⊎◌, true, [], ◌∷◌}
+use Rattle.std.specs.Prelude.{◌≡◌, ◌≢◌, ℕ, ◌%◌, ◌<◌, ◌≤◌, ◌⊎◌, Bool, true, false, [], ◌∷◌, ◌++◌}
 use Rattle.atomic_table.specs.Table.{Me, rest}
-use Rattle.words_base.specs.Waiting.{NoneWaits, Fewer, JoinedBy, LeftBy, StaysTold, last_of}
+use Rattle.words_base.specs.Waiting.{NoneWaits, Fewer, JoinedBy, LeftBy, StaysTold}
 use Rattle.words_cell.specs.Lists.{Listed}
 use Rattle.words_cell.specs.Rule.{SaysEmpty}
 use Rattle.words_cell.specs.Seats.{saw_of, saw_full_of, claimed_of, missed_of, late_of, taken_by, having_found, eased_of, listing_of}
@@ -41,17 +41,26 @@ module _ {S : Type 0} (active_of passive_of : S → Listed) where
   abbrev pub IsHeld : Me S View → Type 0
   IsHeld m = (lists : S) × (m.0.has_lists ≡ true) × (m.0.active ≡ active_of lists) × (m.0.passive ≡ passive_of lists) × (m.1 ≡ (0, lists) ∷ rest m.1)
 
--- No entry stands in the list, and none waits, that didn't before.
-abbrev pub NoneJoined : Listed → Listed → Type 0
-NoneJoined old new = Fewer old.entries new.entries × Fewer old.waiting new.waiting
+-- The same entries stand in the list, and none waits that didn't before.
+abbrev pub KeepsEntries : Listed → Listed → Type 0
+KeepsEntries old new = (new.entries ≡ old.entries) × Fewer old.waiting new.waiting
 
--- The entry of this number has joined.
+-- The same entries stand in it, and all are notified.
+abbrev pub AllTold : Listed → Listed → Type 0
+AllTold old new = (new.entries ≡ old.entries) × NoneWaits new.waiting
+
+-- The entry of this number has joined at the back.
 abbrev pub HasJoined : ℕ → Listed → Listed → Type 0
-HasJoined k old new = JoinedBy k old.entries new.entries × JoinedBy k old.waiting new.waiting × (last_of new.waiting ≡ k)
+HasJoined k old new = (new.entries ≡ old.entries ++ k ∷ []) × JoinedBy k old.waiting new.waiting
 
--- No entry of this number stands in the list any more, notified or not.
+-- No entry of this number stands in it any more, notified or not.
 abbrev pub HasLeft : ℕ → Listed → Listed → Type 0
 HasLeft k old new = LeftBy k old.entries new.entries × LeftBy k old.waiting new.waiting
+
+-- The same, of a list in which a seat stands; another keeps its entries.
+abbrev pub LeftIf : Bool → ℕ → Listed → Listed → Type 0
+LeftIf true k old new = HasLeft k old new
+LeftIf false k old new = KeepsEntries old new
 
 -- If one was notified, one is, or nobody waits.
 abbrev pub KeepsTold : Listed → Listed → Type 0
@@ -65,33 +74,32 @@ module _ {S : Type 0} (active_of passive_of : S → Listed) (m : Me S View) (n :
 
   -- One has joined those that would make.
   abbrev pub CanJoinActive : ℕ → Type 0
-  CanJoinActive k = (lists : S) × Out lists × HasJoined k m.0.active (active_of lists) × NoneJoined m.0.passive (passive_of lists) × (m.0.active.notified ≤ (active_of lists).notified)
+  CanJoinActive k = (lists : S) × Out lists × HasJoined k m.0.active (active_of lists) × KeepsEntries m.0.passive (passive_of lists) × (m.0.active.notified ≤ (active_of lists).notified)
 
   -- One has joined those that wait.
   abbrev pub CanJoinPassive : ℕ → Type 0
-  CanJoinPassive k = (lists : S) × Out lists × NoneJoined m.0.active (active_of lists) × HasJoined k m.0.passive (passive_of lists) × (m.0.active.notified ≤ (active_of lists).notified)
+  CanJoinPassive k = (lists : S) × Out lists × KeepsEntries m.0.active (active_of lists) × HasJoined k m.0.passive (passive_of lists) × (m.0.active.notified ≤ (active_of lists).notified)
 
   -- The seat's entry was notified, and has left those that would make.
   abbrev pub CanHear : Type 0
-  CanHear = (lists : S) × Out lists × HasLeft m.0.entry m.0.active (active_of lists) × NoneJoined m.0.passive (passive_of lists)
+  CanHear = (lists : S) × Out lists × HasLeft m.0.entry m.0.active (active_of lists) × KeepsEntries m.0.passive (passive_of lists)
 
   -- The seat's entry has left the list in which it stood: what it was notified of has gone on.
   abbrev pub CanLeave : Type 0
-  CanLeave = (lists : S) × Out lists × NoneJoined m.0.active (active_of lists) × NoneJoined m.0.passive (passive_of lists) × KeepsTold m.0.active (active_of lists)
-      × (m.0.in_active ≡ true → HasLeft m.0.entry m.0.active (active_of lists)) × (m.0.in_passive ≡ true → HasLeft m.0.entry m.0.passive (passive_of lists))
+  CanLeave = (lists : S) × Out lists × LeftIf m.0.in_active m.0.entry m.0.active (active_of lists) × LeftIf m.0.in_passive m.0.entry m.0.passive (passive_of lists) × KeepsTold m.0.active (active_of lists)
 
   -- One that would make is notified.
   abbrev pub CanPay : Type 0
-  CanPay = (lists : S) × Out lists × NoneJoined m.0.active (active_of lists) × NoneJoined m.0.passive (passive_of lists) × ((0 < (active_of lists).notified) ⊎ NoneWaits (active_of lists).waiting)
+  CanPay = (lists : S) × Out lists × KeepsEntries m.0.active (active_of lists) × KeepsEntries m.0.passive (passive_of lists) × ((0 < (active_of lists).notified) ⊎ NoneWaits (active_of lists).waiting)
 
   -- All that would make are.
   abbrev pub CanPayActive : Type 0
-  CanPayActive = (lists : S) × Out lists × Fewer m.0.active.entries (active_of lists).entries × NoneWaits (active_of lists).waiting × NoneJoined m.0.passive (passive_of lists)
+  CanPayActive = (lists : S) × Out lists × AllTold m.0.active (active_of lists) × KeepsEntries m.0.passive (passive_of lists)
 
   -- All that wait are.
   abbrev pub CanPayPassive : Type 0
-  CanPayPassive = (lists : S) × Out lists × NoneJoined m.0.active (active_of lists) × Fewer m.0.passive.entries (passive_of lists).entries × NoneWaits (passive_of lists).waiting × KeepsTold m.0.active (active_of lists)
+  CanPayPassive = (lists : S) × Out lists × KeepsEntries m.0.active (active_of lists) × AllTold m.0.passive (passive_of lists) × KeepsTold m.0.active (active_of lists)
 
-  -- Nobody stands in a list, or waits, that didn't before.
+  -- The same entries stand in both lists, and none waits that didn't before.
   abbrev pub CanStay : Type 0
-  CanStay = (lists : S) × Out lists × NoneJoined m.0.active (active_of lists) × NoneJoined m.0.passive (passive_of lists) × KeepsTold m.0.active (active_of lists)
+  CanStay = (lists : S) × Out lists × KeepsEntries m.0.active (active_of lists) × KeepsEntries m.0.passive (passive_of lists) × KeepsTold m.0.active (active_of lists)

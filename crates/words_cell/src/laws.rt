@@ -11,16 +11,15 @@ use crate::rule::Content;
 
 /// No wake-up is lost, in any state that the rule of the table allows.
 ///
-/// While nobody has the lists out, each entry of both lists, notified or not, is of a seat that stands in its list.
-///
 /// While the cell is empty and nobody has the lists out, one that would make the value is notified, or some seat owes a notification or
 /// a claim, or each entry that isn't notified is of a seat that has joined and not looked yet. While it is full, the same holds of each of
 /// both lists, where the seat owes a notification of all. At rest, when no seat is inside a call: of an empty cell nobody waits to make the
-/// value, or one that would is notified; of a full cell each entry of both lists is notified. The call does nothing: its clauses are the law.
+/// value, or one that would is notified; of a full cell each entry of both lists is notified. Each entry of both lists, notified or not, is
+/// of a seat that stands in its list. The call does nothing: its clauses are the law.
 pub fn no_lost_wakeup<S: Content>()
-    ensures standing { (start : Bool) (s : State S View) → Ruled S.active S.passive start s → AreListsHome s → (lists : S) × Lie s lists × AllStand (S.active lists) (S.passive lists) s.views }
     ensures empty { (start : Bool) (s : State S View) → Ruled S.active S.passive start s → IsEmpty s → AreListsHome s → (lists : S) × Lie s lists × LosesNoneEmpty (S.active lists) s.views }
     ensures full { (start : Bool) (s : State S View) → Ruled S.active S.passive start s → IsFull s → AreListsHome s → (lists : S) × Lie s lists × LosesNoneFull (S.active lists) (S.passive lists) s.views }
     ensures empty_at_rest { (start : Bool) (s : State S View) → Ruled S.active S.passive start s → IsEmpty s → IsAtRest s → (lists : S) × Lie s lists × ((0 < (S.active lists).notified) ⊎ NoneWaits (S.active lists).waiting) }
     ensures full_at_rest { (start : Bool) (s : State S View) → Ruled S.active S.passive start s → IsFull s → IsAtRest s → (lists : S) × Lie s lists × NoneWaits (S.active lists).waiting × NoneWaits (S.passive lists).waiting }
+    ensures standing { (start : Bool) (s : State S View) → Ruled S.active S.passive start s → AreListsHome s → (lists : S) × Lie s lists × AllStand (S.active lists) (S.passive lists) s.views }
 {}

@@ -87,7 +87,7 @@ impl<S: Content> Play<S, View> for JoinsActive {
     ghost use Rattle.words_base.specs.Waiting.{last_of};
     ghost use Rattle.words_cell.specs.Seats.{joined_active_of};
 
-    ghost then = { λ _ m _ m'. (lists : S) × (m.1 ≡ (0, lists) ∷ rest m.1) × (m' ≡ (joined_active_of (last_of (S.active lists).waiting) m.0, rest m.1)) };
+    ghost then = { λ _ m _ m'. (lists : S) × (m.1 ≡ (0, lists) ∷ rest m.1) × (m' ≡ (joined_active_of (last_of (S.active lists).entries) m.0, rest m.1)) };
 }
 
 // The same, of those that wait.
@@ -99,7 +99,7 @@ impl<S: Content> Play<S, View> for JoinsPassive {
     ghost use Rattle.words_base.specs.Waiting.{last_of};
     ghost use Rattle.words_cell.specs.Seats.{joined_passive_of};
 
-    ghost then = { λ _ m _ m'. (lists : S) × (m.1 ≡ (0, lists) ∷ rest m.1) × (m' ≡ (joined_passive_of (last_of (S.passive lists).waiting) m.0, rest m.1)) };
+    ghost then = { λ _ m _ m'. (lists : S) × (m.1 ≡ (0, lists) ∷ rest m.1) × (m' ≡ (joined_passive_of (last_of (S.passive lists).entries) m.0, rest m.1)) };
 }
 
 // The same, where its entry was notified, and has left those that would make: the seat owes.

@@ -1,6 +1,5 @@
 //! The rule of the table.
 
-ghost use Rattle.std.specs.Prelude.{ℕ};
 ghost use Rattle.words_cell.specs.Lists.{Listed};
 
 use crate::view::View;
@@ -13,12 +12,6 @@ pub trait Content {
 
     /// The list of those that only wait for it.
     ghost passive: { Self → Listed };
-}
-
-/// What names an entry, by its number.
-pub trait Numbered {
-    /// The entry's number.
-    ghost number: { Self → ℕ };
 }
 
 /// What always holds of the table of a cell. It is told once whether the cell begins with a value.

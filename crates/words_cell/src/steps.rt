@@ -9,9 +9,10 @@ use crate::plays::{
     Claims, Empties, Fills, Grabs, Hears, JoinsActive, JoinsPassive, Leaves, Looks, Pays,
     PaysActive, PaysPassive, Peeks, Stays, Takes,
 };
-use crate::rule::{CellRule, Content, Numbered};
+use crate::rule::{CellRule, Content};
 use crate::view::View;
 use atomic_table::{Seat as TableSeat, Shared};
+use words_base::Numbered;
 
 /// The tables of cells with their lists.
 pub type Ruled<S> = Shared<S, View, bool, CellRule>;
