@@ -57,7 +57,7 @@ HasJoined k old new = (new.entries ≡ old.entries ++ k ∷ []) × JoinedBy k ol
 abbrev pub HasLeft : ℕ → Listed → Listed → Type 0
 HasLeft k old new = LeftBy k old.entries new.entries × LeftBy k old.waiting new.waiting
 
--- The same, of a list in which a seat stands; another keeps its entries.
+-- The same of a list in which a seat stands; one in which it doesn't keeps its entries.
 abbrev pub LeftIf : Bool → ℕ → Listed → Listed → Type 0
 LeftIf true k old new = HasLeft k old new
 LeftIf false k old new = KeepsEntries old new
