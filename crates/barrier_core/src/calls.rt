@@ -18,13 +18,13 @@ use crate::raw::RawBarrier;
 use crate::seat::Seat;
 use futures::task::Context;
 use lock_event::{EntryId, Memory};
-use lock_queue::{AllDue, Whose};
+use lock_queue::{AllDue, Joining, Whose};
 use std::sync::Wait;
 use sync_program::barrier::{Found, Place};
 use words_barrier::steps::{
     ENTRIES, LIST, NOTIFICATION, give_gone, give_joined, give_paid, give_same, peek,
 };
-use words_barrier::{Numbered, take_out, wake_next};
+use words_barrier::{take_out, wake_next};
 
 /// An entry that has joined with a waker of its task, and the word that its list had then.
 #[derive(Drop)]
@@ -42,16 +42,6 @@ pub(crate) enum Rejoined {
     Finished,
     /// There was no memory for its entry.
     Refused,
-}
-
-// An entry that has joined, by which the rule names it.
-#[derive(Drop)]
-struct Joining {
-    id: EntryId,
-}
-
-impl Numbered for Joining {
-    ghost number = { λ joining. joining.id.number };
 }
 
 impl RawBarrier {

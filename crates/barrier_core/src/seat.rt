@@ -102,7 +102,7 @@ impl Model for Seat {
 
     ghost view = { λ s. seated s.inner.table_id s.inner.me.0 s.course };
 
-    ghost invariant = { λ s. (s.inner.me.1 ≡ []) × (s.inner.me.0.has_list ≡ false) × (s.inner.me.0.waiting ≡ []) };
+    ghost invariant = { λ s. (s.inner.me.1 ≡ []) × (s.inner.me.0.has_list ≡ false) × (s.inner.me.0.waiting ≡ []) × (s.inner.me.0.entries ≡ []) };
 }
 
 impl Seat {

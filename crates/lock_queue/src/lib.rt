@@ -6,11 +6,13 @@
 
 mod due;
 mod heard;
+mod joining;
 mod list;
 mod queue;
 mod whose;
 
 pub use due::{AllDue, Called, Due};
 pub use heard::Heard;
+pub use joining::Joining;
 pub use queue::Queue;
 pub use whose::Whose;

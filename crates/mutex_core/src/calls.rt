@@ -1,6 +1,6 @@
 //! Each action on the list.
 
-ghost use Rattle.std.specs.Prelude.{◌≡◌, true, false, IfNone, IfOk, IfSome, OnOk, OnErr};
+ghost use Rattle.std.specs.Prelude.{◌≡◌, true, false, IfNone, IfOk, IfSome, OnErr};
 ghost use Rattle.futures.specs.Task.{Keeps};
 ghost use Rattle.lock_program.specs.declared.mutex.Action.TheVariants as act;
 ghost use Rattle.lock_program.specs.declared.mutex.Found.TheVariants as finds;
@@ -16,7 +16,7 @@ use crate::words::Words;
 use futures::task::Context;
 use lock_event::{EntryId, Memory};
 use lock_program::mutex::{Found, Place};
-use lock_queue::Whose;
+use lock_queue::{Joining, Whose};
 use std::sync::Wait;
 use words_mutex::steps::{LIST, NOTIFICATION, give_gone, give_joined, give_paid, give_same};
 use words_mutex::{take_out, wake_next};
@@ -36,7 +36,7 @@ impl<T> Words<T> {
         requires of { IsOf self.now seat.old }
         requires course { IsAt at act.Join seat.old }
         requires away { (seat.old.listed ≡ false) × (seat.old.starved ≡ true → seat.old.owes ≡ true) }
-        ensures joined { OnOk result (seat.new ≡ goes at finds.Done (with_joined seat.old)) }
+        ensures joined { IfOk result (λ id. seat.new ≡ goes at finds.Done (with_joined id.number seat.old)) }
         ensures refused { OnErr result (seat.new ≡ goes at finds.NoMemory seat.old) }
     {
         let shared = &self.table.shared;
@@ -44,7 +44,7 @@ impl<T> Words<T> {
         let (joined, word) = join_in(shared, &mut seat.inner, self.alloc, found);
         match joined {
             Ok(id) => {
-                let found = give_joined(shared, &mut seat.inner, word);
+                let found = give_joined(shared, &mut seat.inner, word, &Joining { id });
                 wake_next(shared, found);
                 seat.go(at, Found::Done);
                 Ok(id)
@@ -69,7 +69,7 @@ impl<T> Words<T> {
         requires of { IsOf self.now seat.old }
         requires course { IsAt at act.Join seat.old }
         requires away { (seat.old.listed ≡ false) × (seat.old.starved ≡ true → seat.old.owes ≡ true) }
-        ensures joined { OnOk result (seat.new ≡ goes at finds.Done (with_joined seat.old)) }
+        ensures joined { IfOk result (λ joined. seat.new ≡ goes at finds.Done (with_joined joined.id.number seat.old)) }
         ensures refused { OnErr result (seat.new ≡ goes at finds.NoMemory seat.old) }
         ensures keeps { IfOk result (λ joined. IsReceipt self.now.source cx.new joined.whose) }
         ensures kept { Keeps cx.old cx.new }
@@ -86,7 +86,7 @@ impl<T> Words<T> {
         );
         match joined {
             Ok((id, whose)) => {
-                let found = give_joined(shared, &mut seat.inner, word);
+                let found = give_joined(shared, &mut seat.inner, word, &Joining { id });
                 wake_next(shared, found);
                 seat.go(at, Found::Done);
                 Ok(Joined { id, whose, word })
@@ -123,6 +123,7 @@ impl<T> Words<T> {
         requires of { IsOf self.now seat.old }
         requires course { IsAt at act.Leave seat.old }
         requires stands { (seat.old.listed ≡ true) × (seat.old.fresh ≡ false) × (seat.old.starved ≡ false) }
+        requires own { seat.old.entry ≡ id.number }
         ensures { seat.new ≡ goes at finds.Done (with_gone seat.old) }
     {
         let shared = &self.table.shared;
@@ -149,6 +150,7 @@ impl<T> Words<T> {
         requires of { IsOf self.now seat.old }
         requires course { IsAt at act.Ask seat.old }
         requires stands { (seat.old.listed ≡ true) × (seat.old.fresh ≡ false) }
+        requires own { seat.old.entry ≡ id.number }
         ensures told { IfNone result ((seat.new ≡ goes at finds.Yes (with_told seat.old)) × (cx.new ≡ cx.old)) }
         ensures waits { IfSome result (λ whose. (seat.new ≡ goes at finds.No seat.old) × IsReceipt self.now.source cx.new whose) }
         ensures kept { Keeps cx.old cx.new }
@@ -168,6 +170,7 @@ impl<T> Words<T> {
         requires of { IsOf self.now seat.old }
         requires course { IsAt at act.Ask seat.old }
         requires stands { (seat.old.listed ≡ true) × (seat.old.fresh ≡ false) }
+        requires own { seat.old.entry ≡ id.number }
         ensures told { result ≡ false → seat.new ≡ goes at finds.Yes (with_told seat.old) }
         ensures waits { result ≡ true → seat.new ≡ goes at finds.No seat.old }
     {
@@ -191,6 +194,7 @@ impl<T> Words<T> {
         requires of { IsOf self.now seat.old }
         requires course { IsAt at act.Ask seat.old }
         requires stands { (seat.old.listed ≡ true) × (seat.old.fresh ≡ false) }
+        requires own { seat.old.entry ≡ joined.now.id.number }
         ensures told { result ≡ false → seat.new ≡ goes at finds.Yes (with_told seat.old) }
         ensures waits { result ≡ true → seat.new ≡ goes at finds.No seat.old }
     {

@@ -1,7 +1,7 @@
 //! What lies in a slot of a mutex's table.
 
-ghost use Rattle.std.specs.Prelude.{◌≡◌, ◌%◌, [], true, length};
-ghost use Rattle.mutex_core.specs.Cells.{entries_of};
+ghost use Rattle.std.specs.Prelude.{◌≡◌, ◌%◌, [], true};
+ghost use Rattle.mutex_core.specs.Cells.{entries_of, cell_entries};
 ghost use Rattle.words_mutex.specs.Rule.{SaysEmpty};
 
 use lock_place::{Rested, Spare};
@@ -26,12 +26,12 @@ impl<T> Drop for Cell<T> {
 }
 
 impl<T> Content for Cell<T> {
-    ghost use Rattle.std.specs.Prelude.{length};
     ghost use Rattle.lock_event.specs.Lists.{marked_count};
     ghost use Rattle.lock_place.specs.Rested.{IsRight};
+    ghost use Rattle.lock_queue.specs.Entries.{numbers_in};
     ghost use Rattle.mutex_core.specs.Cells.{entries_of};
 
-    ghost len = { λ cell. length (entries_of cell) };
+    ghost entries = { λ cell. numbers_in (entries_of cell) };
 
     ghost marked = { λ cell. marked_count (entries_of cell) };
 
@@ -71,7 +71,7 @@ impl<T> Cell<T> {
     // What is to stand in the list's word, in which `found` stood: whether it has entries, and one notification more if it `tells`.
     // Where the count can't grow any more it stays.
     pub(crate) fn says(&self, found: u64, tells: bool) -> u64
-        ensures { (result % 4 ≡ 0) × (SaysEmpty result → length (entries_of self.now) ≡ 0) }
+        ensures { (result % 4 ≡ 0) × (SaysEmpty result → cell_entries self.now ≡ []) }
     {
         let told = found / NOTIFICATION;
         let told = if tells && told < MOST { told + 1 } else { told };

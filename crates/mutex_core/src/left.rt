@@ -2,7 +2,7 @@
 
 ghost use Rattle.std.specs.Prelude.{◌≡◌, ◌%◌, ◌∷◌, ◌⊎◌, [], true, false, IfOk, IsSome};
 ghost use Rattle.atomic_table.specs.Table.{rest};
-ghost use Rattle.mutex_core.specs.Cells.{cell_len, cell_marked, HasRightOf};
+ghost use Rattle.mutex_core.specs.Cells.{cell_entries, cell_marked, HasRightOf};
 ghost use Rattle.lock_program.specs.declared.mutex.Action.TheVariants as act;
 ghost use Rattle.lock_program.specs.declared.mutex.Found.TheVariants as finds;
 ghost use Rattle.mutex_core.specs.Locks.{IsAt, IsOf, goes, with_got, with_held, with_look};
@@ -166,7 +166,7 @@ fn regain<T>(
 fn give_all_back<T>(shared: &Listing<T>, inner: Lister<T>, found: u64)
     requires table { (inner.table_id ≡ shared.now.table_id) × (shared.now.table_id.words ≡ 2) × (shared.now.table_id.slots ≡ 2) }
     requires holds { (inner.me.0.holds ≡ true) × (inner.me.0.starved ≡ false) × (inner.me.0.listed ≡ false) × (inner.me.0.fresh ≡ false) }
-    requires list { IsHeld cell_len cell_marked inner.me }
+    requires list { IsHeld cell_entries cell_marked inner.me }
     requires right { (right : Cell T) × (rest inner.me.1 ≡ (1, right) ∷ []) × HasRightOf inner.me.0.room inner.me.0.deed right }
 {
     let mut inner = inner;

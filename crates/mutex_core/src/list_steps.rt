@@ -3,7 +3,7 @@
 ghost use Rattle.std.specs.Prelude.{◌≡◌, true, false, ⊤, IfNone, IfOk, IfSome, MatchResult};
 ghost use Rattle.futures.specs.Task.{Keeps};
 ghost use Rattle.atomic_table.specs.Table.{rest};
-ghost use Rattle.mutex_core.specs.Cells.{cell_len, cell_marked};
+ghost use Rattle.mutex_core.specs.Cells.{cell_entries, cell_marked};
 ghost use Rattle.words_mutex.specs.Steps.{IsHeld, CanJoin, CanHear, CanPay, CanLeave, CanStay};
 ghost use Rattle.lock_queue.specs.Asking.{ByHeard};
 ghost use Rattle.lock_queue.specs.Receipts.{IsReceipt};
@@ -34,11 +34,11 @@ pub(crate) fn join_in<T>(
     found: u64,
 ) -> (Result<EntryId, Memory>, u64)
     requires table { inner.old.table_id ≡ shared.now.table_id }
-    requires held { IsHeld cell_len cell_marked inner.old.me }
+    requires held { IsHeld cell_entries cell_marked inner.old.me }
     ensures table { inner.new.table_id ≡ inner.old.table_id }
     ensures view { inner.new.me.0 ≡ inner.old.me.0 }
     ensures others { rest inner.new.me.1 ≡ rest inner.old.me.1 }
-    ensures ready { MatchResult result.0 (λ _. CanJoin cell_len cell_marked inner.new.me result.1) (λ _. CanStay cell_len cell_marked inner.new.me result.1) }
+    ensures ready { MatchResult result.0 (λ id. CanJoin cell_entries cell_marked inner.new.me result.1 id.number) (λ _. CanStay cell_entries cell_marked inner.new.me result.1) }
 {
     let list = inner.slot_mut(shared, LIST_SLOT);
     let joined = list.queue.join(alloc);
@@ -55,11 +55,11 @@ pub(crate) fn join_waking_in<T>(
     found: u64,
 ) -> (Result<(EntryId, Whose), Memory>, u64)
     requires table { inner.old.table_id ≡ shared.now.table_id }
-    requires held { IsHeld cell_len cell_marked inner.old.me }
+    requires held { IsHeld cell_entries cell_marked inner.old.me }
     ensures table { inner.new.table_id ≡ inner.old.table_id }
     ensures view { inner.new.me.0 ≡ inner.old.me.0 }
     ensures others { rest inner.new.me.1 ≡ rest inner.old.me.1 }
-    ensures ready { MatchResult result.0 (λ _. CanJoin cell_len cell_marked inner.new.me result.1) (λ _. CanStay cell_len cell_marked inner.new.me result.1) }
+    ensures ready { MatchResult result.0 (λ joined. CanJoin cell_entries cell_marked inner.new.me result.1 joined.0.number) (λ _. CanStay cell_entries cell_marked inner.new.me result.1) }
     ensures keeps { IfOk result.0 (λ joined. IsReceipt source.now.id cx.new joined.1) }
     ensures kept { Keeps cx.old cx.new }
 {
@@ -71,11 +71,11 @@ pub(crate) fn join_waking_in<T>(
 
 pub(crate) fn notify_in<T>(shared: &Listing<T>, inner: &mut Lister<T>, found: u64) -> (Due, u64)
     requires table { inner.old.table_id ≡ shared.now.table_id }
-    requires held { IsHeld cell_len cell_marked inner.old.me }
+    requires held { IsHeld cell_entries cell_marked inner.old.me }
     ensures table { inner.new.table_id ≡ inner.old.table_id }
     ensures view { inner.new.me.0 ≡ inner.old.me.0 }
     ensures others { rest inner.new.me.1 ≡ rest inner.old.me.1 }
-    ensures ready { CanPay cell_len cell_marked inner.new.me result.1 }
+    ensures ready { CanPay cell_entries cell_marked inner.new.me result.1 }
 {
     let list = inner.slot_mut(shared, LIST_SLOT);
     let due = list.queue.notify();
@@ -90,11 +90,12 @@ pub(crate) fn leave_in<T>(
     found: u64,
 ) -> (Option<Waker>, Due, u64)
     requires table { inner.old.table_id ≡ shared.now.table_id }
-    requires held { IsHeld cell_len cell_marked inner.old.me }
+    requires held { IsHeld cell_entries cell_marked inner.old.me }
+    requires own { inner.old.me.0.entry ≡ id.number }
     ensures table { inner.new.table_id ≡ inner.old.table_id }
     ensures view { inner.new.me.0 ≡ inner.old.me.0 }
     ensures others { rest inner.new.me.1 ≡ rest inner.old.me.1 }
-    ensures ready { CanLeave cell_len cell_marked inner.new.me result.2 }
+    ensures ready { CanLeave cell_entries cell_marked inner.new.me result.2 }
 {
     let list = inner.slot_mut(shared, LIST_SLOT);
     let (kept, due) = list.queue.leave(id);
@@ -112,11 +113,12 @@ pub(crate) fn ask_in<T>(
     found: u64,
 ) -> (Heard<Whose>, u64)
     requires table { inner.old.table_id ≡ shared.now.table_id }
-    requires held { IsHeld cell_len cell_marked inner.old.me }
+    requires held { IsHeld cell_entries cell_marked inner.old.me }
+    requires own { inner.old.me.0.entry ≡ id.number }
     ensures table { inner.new.table_id ≡ inner.old.table_id }
     ensures view { inner.new.me.0 ≡ inner.old.me.0 }
     ensures others { rest inner.new.me.1 ≡ rest inner.old.me.1 }
-    ensures ready { ByHeard result.0 (CanHear cell_len cell_marked inner.new.me result.1) (λ _. CanStay cell_len cell_marked inner.new.me result.1) }
+    ensures ready { ByHeard result.0 (CanHear cell_entries cell_marked inner.new.me result.1) (λ _. CanStay cell_entries cell_marked inner.new.me result.1) }
     ensures waits { ByHeard result.0 (cx.new ≡ cx.old) (IsReceipt source.now.id cx.new) }
     ensures kept { Keeps cx.old cx.new }
 {
@@ -133,11 +135,12 @@ pub(crate) fn ask_again_in<T>(
     found: u64,
 ) -> (Heard<()>, u64)
     requires table { inner.old.table_id ≡ shared.now.table_id }
-    requires held { IsHeld cell_len cell_marked inner.old.me }
+    requires held { IsHeld cell_entries cell_marked inner.old.me }
+    requires own { inner.old.me.0.entry ≡ id.number }
     ensures table { inner.new.table_id ≡ inner.old.table_id }
     ensures view { inner.new.me.0 ≡ inner.old.me.0 }
     ensures others { rest inner.new.me.1 ≡ rest inner.old.me.1 }
-    ensures ready { ByHeard result.0 (CanHear cell_len cell_marked inner.new.me result.1) (λ _. CanStay cell_len cell_marked inner.new.me result.1) }
+    ensures ready { ByHeard result.0 (CanHear cell_entries cell_marked inner.new.me result.1) (λ _. CanStay cell_entries cell_marked inner.new.me result.1) }
 {
     let list = inner.slot_mut(shared, LIST_SLOT);
     let heard = list.queue.ask_again(id);
@@ -152,11 +155,11 @@ pub(crate) fn entry_in<T>(
     found: u64,
 ) -> (Option<(EntryId, Mark)>, u64)
     requires table { inner.old.table_id ≡ shared.now.table_id }
-    requires held { IsHeld cell_len cell_marked inner.old.me }
+    requires held { IsHeld cell_entries cell_marked inner.old.me }
     ensures table { inner.new.table_id ≡ inner.old.table_id }
     ensures view { inner.new.me.0 ≡ inner.old.me.0 }
     ensures others { rest inner.new.me.1 ≡ rest inner.old.me.1 }
-    ensures ready { CanStay cell_len cell_marked inner.new.me result.1 }
+    ensures ready { CanStay cell_entries cell_marked inner.new.me result.1 }
 {
     let list = inner.slot_mut(shared, LIST_SLOT);
     let entry = list.queue.entry(index);
@@ -172,7 +175,7 @@ pub(crate) fn give_asked<T, K>(
     word: u64,
 ) -> Option<K>
     requires table { (inner.old.table_id ≡ shared.now.table_id) × (shared.now.table_id.words ≡ 2) × (shared.now.table_id.slots ≡ 2) }
-    requires list { ByHeard heard (CanHear cell_len cell_marked inner.old.me word) (λ _. CanStay cell_len cell_marked inner.old.me word) }
+    requires list { ByHeard heard (CanHear cell_entries cell_marked inner.old.me word) (λ _. CanStay cell_entries cell_marked inner.old.me word) }
     requires stands { (inner.old.me.0.listed ≡ true) × (inner.old.me.0.fresh ≡ false) }
     ensures table { inner.new.table_id ≡ inner.old.table_id }
     ensures told { IfNone result ((inner.new.me ≡ (told_of inner.old.me.0, rest inner.old.me.1)) × ByHeard heard ⊤ (λ _. ⊥)) }

@@ -200,7 +200,7 @@ impl<T> Words<T> {
     fn leave_with<R: Wait>(&self, rt: &R, seat: Seat<T>, hold: Hold<T>, id: EntryId) -> Held<T>
         requires of { IsOf self.now seat }
         requires right { IsRightOf self.now hold }
-        requires holds { (seat.holds ≡ true) × (seat.starved ≡ false) × (seat.owes ≡ false) × (seat.listed ≡ true) × (seat.fresh ≡ false) × (seat.course ≡ Do at.Leave) }
+        requires holds { (seat.holds ≡ true) × (seat.starved ≡ false) × (seat.owes ≡ false) × (seat.listed ≡ true) × (seat.fresh ≡ false) × (seat.entry ≡ id.number) × (seat.course ≡ Do at.Leave) }
         ensures { IsHeldOf self.now result }
     {
         let mut seat = seat;
@@ -280,7 +280,7 @@ impl<T> Words<T> {
         told: bool,
     ) -> Outcome<T>
         requires of { IsOf self.now seat }
-        requires idle { (seat.holds ≡ false) × (seat.starved ≡ false) × (seat.owes ≡ false) × (seat.listed ≡ true) × (seat.fresh ≡ false) }
+        requires idle { (seat.holds ≡ false) × (seat.starved ≡ false) × (seat.owes ≡ false) × (seat.listed ≡ true) × (seat.fresh ≡ false) × (seat.entry ≡ id.number) }
         requires course { seat.course ≡ Do (at.Count true told) }
         ensures outcome { IsOutcomeOf self.now cx.new result }
         ensures since { (then : Option Instant) → WaitsSince then result }
@@ -409,7 +409,7 @@ impl<T> Words<T> {
 
 // What is kept of a starved party that waits. It doesn't matter any more when it first waited.
 fn starves<T>(seat: Seat<T>, id: EntryId, whose: Whose) -> Waiting<T>
-    requires { (seat.holds ≡ false) × (seat.starved ≡ true) × (seat.owes ≡ false) × (seat.listed ≡ true) × (seat.fresh ≡ false) × (seat.course ≡ pending true) }
+    requires { (seat.holds ≡ false) × (seat.starved ≡ true) × (seat.owes ≡ false) × (seat.listed ≡ true) × (seat.fresh ≡ false) × (seat.entry ≡ id.number) × (seat.course ≡ pending true) }
     ensures { (result.seat ≡ seat) × (result.whose ≡ whose) × (result.is_starved ≡ true) }
 {
     Waiting {

@@ -1,6 +1,6 @@
 //! What a party steps with.
 
-ghost use Rattle.std.specs.Prelude.{◌≡◌, false};
+ghost use Rattle.std.specs.Prelude.{◌≡◌, [], false};
 ghost use Rattle.mutex_core.specs.Courses.{IsOutside, IsStart, outside};
 ghost use Rattle.mutex_core.specs.Locks.{HasSlots, goes, seated, with_begun};
 
@@ -15,7 +15,7 @@ use words_mutex::View;
 /// A party's place at a lock, with which it steps on the lock's words. It has no bytes, and borrows nothing.
 ///
 /// Contracts see: the lock, whether the seat holds it, whether it is counted as starved, whether it owes a notification or a look, whether it
-/// has an entry in the list, and whether it has not looked since it joined. It has no `Drop`: only [`Seat::rise`] ends it, once it has given
+/// has an entry in the list, and of which number, and whether it has not looked since it joined. It has no `Drop`: only [`Seat::rise`] ends it, once it has given
 /// back what it has, and owes nothing.
 pub struct Seat<T> {
     pub(crate) inner: TableSeat<Cell<T>, View>,
@@ -30,19 +30,19 @@ impl<T> Model for Seat<T> {
 
     ghost coded = { seated_coded };
 
-    ghost use Rattle.std.specs.Prelude.{◌≡◌, false};
+    ghost use Rattle.std.specs.Prelude.{◌≡◌, [], false};
     ghost use Rattle.mutex_core.specs.Locks.{seated, HasSlots};
 
     ghost view = { λ s. seated s.inner.table_id s.inner.me.0 s.course.next };
 
-    ghost invariant = { λ s. HasSlots s.inner.me.0.holds s.inner.me.1 × (s.inner.me.0.has_list ≡ false) × (s.inner.me.0.len ≡ 0) × (s.inner.me.0.marked ≡ 0) };
+    ghost invariant = { λ s. HasSlots s.inner.me.0.holds s.inner.me.1 × (s.inner.me.0.has_list ≡ false) × (s.inner.me.0.entries ≡ []) × (s.inner.me.0.marked ≡ 0) };
 }
 
 impl<T> Seat<T> {
     // A seat outside every call, with nothing.
     #[inline(always)]
     pub(crate) fn new(inner: TableSeat<Cell<T>, View>) -> Seat<T>
-        requires { HasSlots inner.me.0.holds inner.me.1 × (inner.me.0.has_list ≡ false) × (inner.me.0.len ≡ 0) × (inner.me.0.marked ≡ 0) }
+        requires { HasSlots inner.me.0.holds inner.me.1 × (inner.me.0.has_list ≡ false) × (inner.me.0.entries ≡ []) × (inner.me.0.marked ≡ 0) }
         ensures { result ≡ seated inner.table_id inner.me.0 outside }
     {
         Seat {

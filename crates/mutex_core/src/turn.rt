@@ -43,7 +43,7 @@ pub struct Waiting<T> {
     pub(crate) since: Option<Instant>,
     // Whether it is counted as starved.
     pub(crate) is_starved: bool,
-    ghost idle: { (seat.holds ≡ false) × (seat.starved ≡ is_starved) × (seat.owes ≡ false) × (seat.listed ≡ true) × (seat.fresh ≡ false) × (seat.course ≡ pending is_starved) },
+    ghost idle: { (seat.holds ≡ false) × (seat.starved ≡ is_starved) × (seat.owes ≡ false) × (seat.listed ≡ true) × (seat.fresh ≡ false) × (seat.entry ≡ id.number) × (seat.course ≡ pending is_starved) },
 }
 
 impl<T> Waiting<T> {
@@ -56,7 +56,7 @@ impl<T> Waiting<T> {
         since: Option<Instant>,
         is_starved: bool,
     ) -> Waiting<T>
-        requires { (seat.holds ≡ false) × (seat.starved ≡ is_starved) × (seat.owes ≡ false) × (seat.listed ≡ true) × (seat.fresh ≡ false) × (seat.course ≡ pending is_starved) }
+        requires { (seat.holds ≡ false) × (seat.starved ≡ is_starved) × (seat.owes ≡ false) × (seat.listed ≡ true) × (seat.fresh ≡ false) × (seat.entry ≡ id.number) × (seat.course ≡ pending is_starved) }
         ensures { (result.seat ≡ seat) × (result.whose ≡ whose) }
     {
         Waiting {

@@ -7,12 +7,13 @@ use Rattle.words_barrier.specs.Steps.{IsHeld, IsSame, CanJoin}
 use Rattle.words_barrier.specs.declared.view.View.{View}
 
 -- the list is out now
-pub held_of : {S : Type 0} (waiting_of : S → List ℕ) (m m' : Me S View) (list : S) → m' ≡ (listing_of (waiting_of list) m.0, (0, list) ∷ m.1) → IsHeld waiting_of m' × IsSame m.0 m'.0 × (rest m'.1 ≡ m.1)
-held_of {S} waiting_of m m' list e = (
+pub held_of : {S : Type 0} (waiting_of entries_of : S → List ℕ) (m m' : Me S View) (list : S) → m' ≡ (listing_of (waiting_of list) (entries_of list) m.0, (0, list) ∷ m.1) → IsHeld waiting_of entries_of m' × IsSame m.0 m'.0 × (rest m'.1 ≡ m.1)
+held_of {S} waiting_of entries_of m m' list e = (
   (
     list,
     ap (λ (n : Me S View). n.0.has_list) e,
     ap (λ (n : Me S View). n.0.waiting) e,
+    ap (λ (n : Me S View). n.0.entries) e,
     ap (λ (n : Me S View). n.1) e ∙ ap (λ (n : Me S View). (0, list) ∷ rest n.1) (sym e),
   ),
   (
@@ -36,5 +37,5 @@ same_out {S} x y l e f = ap (λ (k : List (ℕ × S)). first x k) (sym e ∙ f)
     first z [] = z
     first z (k ∷ ks) = k.1
 
-pub joined_same : {S : Type 0} (waiting_of : S → List ℕ) (m : Me S View) (n k : ℕ) → CanJoin waiting_of m n k → (m' : Me S View) → (list : S) × (m.1 ≡ (0, list) ∷ rest m.1) × (m' ≡ (joined_of (last_of (waiting_of list)) m.0, rest m.1)) → m' ≡ (joined_of k m.0, rest m.1)
-joined_same waiting_of m n k c m' t = t.2 ∙ ap (λ j. (joined_of j m.0, rest m.1)) (ap (λ l. last_of (waiting_of l)) (same_out t.0 c.0 m.1 t.1 c.1.1) ∙ c.3)
+pub joined_same : {S : Type 0} (waiting_of entries_of : S → List ℕ) (m : Me S View) (n k : ℕ) → CanJoin waiting_of entries_of m n k → (m' : Me S View) → (list : S) × (m.1 ≡ (0, list) ∷ rest m.1) × (m' ≡ (joined_of (last_of (waiting_of list)) m.0, rest m.1)) → m' ≡ (joined_of k m.0, rest m.1)
+joined_same waiting_of entries_of m n k c m' t = t.2 ∙ ap (λ j. (joined_of j m.0, rest m.1)) (ap (λ l. last_of (waiting_of l)) (same_out t.0 c.0 m.1 t.1 c.1.1) ∙ c.3)

@@ -1,24 +1,24 @@
 -- Each step on the table keeps its rule: of one state.
-use Rattle.std.proofs.Common.{◌≡◌, ◌≢◌, ℕ, zero, suc, ◌+◌, ◌%◌, ◌<◌, ◌≤◌, Bool, true, false, List, [], ◌∷◌, length, get_or, set, sym, refl, ap, ◌∙◌, subst, arith, ◌⊎◌, ⊎_elim, inl, inr, length-set, get_or-set_same, get_or-set_other}
-use mathlib.Core.Option.{Option, none, some, some-injective, some-ne-none}
+use Rattle.std.proofs.Common.{◌≡◌, ℕ, zero, suc, ◌%◌, ◌<◌, true, false, List, [], ◌∷◌, length, get_or, set, sym, refl, ap, ◌∙◌, subst, arith, ◌⊎◌, ⊎_elim, inl, inr, length-set, get_or-set_same, get_or-set_other}
+use mathlib.Core.Option.{some, some-injective, some-ne-none}
 use lib.ListN.{get_elem?}
 use Rattle.atomic_table.specs.Table.{State, Me, keeps, takes, gives, stepped, put_back, rest, opening}
 use Rattle.atomic_table.proofs.Lists.{set_here, at_set}
 use Rattle.words_base.specs.Sums.{weight, number}
 use Rattle.words_base.proofs.Sums.{number-set, number-at}
-use Rattle.words_barrier.specs.Rule.{first_view, has_list_out, Owes, WaitsFor, LosesNone, IsListWord, SaysEmpty, Ruled}
+use Rattle.words_barrier.specs.Rule.{first_view, has_list_out, Owes, WaitsFor, IsEntryOf, LosesNone, SaysEmpty, Ruled}
 use Rattle.words_barrier.specs.Seats.{saw_of, counted_of, finished_by, eased_of, listing_of, back, joined_of, gone_of, paid_of}
 use Rattle.words_base.specs.Waiting.{Has, NoneWaits, Fewer, JoinedBy, LeftBy, SomeSeat, AreOf}
 use Rattle.words_barrier.specs.declared.view.View.{View}
 use Rattle.words_barrier.proofs.Flags.{never}
-use Rattle.words_base.proofs.Views.{own, apart, stays, all_stay}
+use Rattle.words_base.proofs.Views.{own, own_else, stays, all_stay}
 
-module _ (S : Type 0) (waiting_of : S → List ℕ) where
+module _ (S : Type 0) (waiting_of entries_of : S → List ℕ) where
   abbrev R : State S View → Type 0
-  R = Ruled waiting_of
+  R = Ruled waiting_of entries_of
 
-  module _ (list : S) (none_there : waiting_of list ≡ []) where
-    nobody : (i : ℕ) (v : View) → get_elem? (first_view ∷ []) i ≡ some v → v.has_list ≡ true → v.waiting ≡ []
+  module _ (list : S) (none_there : waiting_of list ≡ []) (no_entries : entries_of list ≡ []) where
+    nobody : (i : ℕ) (v : View) → get_elem? (first_view ∷ []) i ≡ some v → v.has_list ≡ true → (v.waiting ≡ []) × (v.entries ≡ [])
     nobody zero v e is = never (ap (λ (u : View). u.has_list) (some-injective first_view v e) ∙ is)
     nobody (suc i) v e is = absurd (some-ne-none v (sym e))
 
@@ -28,9 +28,11 @@ module _ (S : Type 0) (waiting_of : S → List ℕ) where
       two_words = omega arith;
       list_word = (omega arith, refl);
       waiting = [];
+      entries = [];
+      standing = λ n h. absurd h;
       wakes = inr (λ n h. absurd h);
       unlisted = λ _. refl;
-      home = λ _. (list, refl, none_there);
+      home = λ _. (list, refl, none_there, no_entries);
       out = nobody;
     }
 
@@ -50,15 +52,19 @@ module _ (S : Type 0) (waiting_of : S → List ℕ) where
     mine : (P : View → Type 0) (w : View) → P w → SomeSeat P (after w)
     mine = own s.views id me.0 at
 
-    out_set : (w : View) → (w.has_list ≡ true → w.waiting ≡ r.waiting) → (i : ℕ) (v : View) → get_elem? (after w) i ≡ some v → v.has_list ≡ true → v.waiting ≡ r.waiting
-    out_set w good i v e is = ⊎_elim (λ here. subst (λ (u : View). u.waiting ≡ r.waiting) here.1 (good (ap (λ (u : View). u.has_list) here.1 ∙ is))) (λ else. r.out i v else.1 is) (at_set s.views id i w v e)
+    out_set : (w : View) → (w.has_list ≡ true → (w.waiting ≡ r.waiting) × (w.entries ≡ r.entries)) → (i : ℕ) (v : View) → get_elem? (after w) i ≡ some v → v.has_list ≡ true → (v.waiting ≡ r.waiting) × (v.entries ≡ r.entries)
+    out_set w good i v e is = ⊎_elim (λ here. subst (λ (u : View). (u.waiting ≡ r.waiting) × (u.entries ≡ r.entries)) here.1 (good (ap (λ (u : View). u.has_list) here.1 ∙ is))) (λ else. r.out i v else.1 is) (at_set s.views id i w v e)
 
     -- what a step leaves of a seat that doesn't touch the list
     abbrev Leaves : View → Type 0
-    Leaves w = (w.has_list ≡ me.0.has_list) × (w.waiting ≡ me.0.waiting)
+    Leaves w = (w.has_list ≡ me.0.has_list) × (w.waiting ≡ me.0.waiting) × (w.entries ≡ me.0.entries) × (w.listed ≡ me.0.listed) × (w.entry ≡ me.0.entry)
 
-    out_left : (w : View) → Leaves w → (i : ℕ) (v : View) → get_elem? (after w) i ≡ some v → v.has_list ≡ true → v.waiting ≡ r.waiting
-    out_left w left = out_set w (λ is. left.1 ∙ r.out id me.0 at (sym left.0 ∙ is))
+    -- the seats keep their entries
+    standing_as : (w : View) → w.listed ≡ me.0.listed → w.entry ≡ me.0.entry → AreOf IsEntryOf r.entries (after w)
+    standing_as w l e = all_stay s.views id me.0 at IsEntryOf r.entries w (λ n is. (l ∙ is.0, e ∙ is.1)) r.standing
+
+    out_left : (w : View) → Leaves w → (i : ℕ) (v : View) → get_elem? (after w) i ≡ some v → v.has_list ≡ true → (v.waiting ≡ r.waiting) × (v.entries ≡ r.entries)
+    out_left w left = out_set w (λ is. let o = r.out id me.0 at (sym left.0 ∙ is) in (left.1 ∙ o.0, left.2 ∙ o.1))
 
     same_out : (w : View) → w.has_list ≡ me.0.has_list → number has_list_out (after w) ≡ number has_list_out s.views
     same_out w e = let c = number-set has_list_out s.views id me.0 w at in let e' : weight (has_list_out w) ≡ weight (has_list_out me.0) = ap weight e in omega arith
@@ -72,6 +78,8 @@ module _ (S : Type 0) (waiting_of : S → List ℕ) where
           two_words = subst (λ (z : ℕ). 1 < z) (sym (length-set s.words 0 n)) r.two_words;
           list_word = (omega arith, ap (λ k. k % 2) there ∙ is ∙ sym same);
           waiting = r.waiting;
+          entries = r.entries;
+          standing = standing_as w left.3 left.4;
           wakes = subst (λ k. LosesNone k r.waiting (after w)) (sym here) wakes;
           unlisted = λ low. r.unlisted (subst SaysEmpty there low);
           home = λ absent. r.home (sym same ∙ absent);
@@ -87,15 +95,15 @@ module _ (S : Type 0) (waiting_of : S → List ℕ) where
 
     -- a look
     pub sees : R (stepped s 0 x id me.1 (saw_of x me.0) keeps)
-    sees = let w : View = saw_of x me.0 in moved x w (refl, refl) (wakes_as w ((λ o. o), λ n f. (f.0, f.1, inr refl)))
+    sees = let w : View = saw_of x me.0 in moved x w (refl, refl, refl, refl, refl) (wakes_as w ((λ o. o), λ n f. (f.0, f.1, inr refl)))
 
     -- a look by which its arrival is counted
     pub counts : R (stepped s 0 x id me.1 (counted_of x me.0) keeps)
-    counts = let w : View = counted_of x me.0 in moved x w (refl, refl) (wakes_as w ((λ o. o), λ n f. (f.0, f.1, inr refl)))
+    counts = let w : View = counted_of x me.0 in moved x w (refl, refl, refl, refl, refl) (wakes_as w ((λ o. o), λ n f. (f.0, f.1, inr refl)))
 
     -- one generation more is finished
     pub finishes : (n : ℕ) → R (stepped s 0 n id me.1 (finished_by me.0) keeps)
-    finishes n = let w : View = finished_by me.0 in moved n w (refl, refl) (inl (mine Owes w refl))
+    finishes n = let w : View = finished_by me.0 in moved n w (refl, refl, refl, refl, refl) (inl (mine Owes w refl))
 
     -- the list's word becomes n, and who has the list out stays
     beside : (n : ℕ) → get_or (set s.words 1 n) 0 0 ≡ x
@@ -108,6 +116,8 @@ module _ (S : Type 0) (waiting_of : S → List ℕ) where
           two_words = subst (λ (z : ℕ). 1 < z) (sym (length-set s.words 1 n)) r.two_words;
           list_word = (omega arith, ap (λ k. k % 2) here ∙ parity ∙ is ∙ sym same);
           waiting = r.waiting;
+          entries = r.entries;
+          standing = standing_as w left.3 left.4;
           wakes = subst (λ k. LosesNone k r.waiting (after w)) (sym there) wakes;
           unlisted = λ low. r.unlisted (below (subst SaysEmpty here low));
           home = λ absent. r.home (sym same ∙ absent);
@@ -116,14 +126,14 @@ module _ (S : Type 0) (waiting_of : S → List ℕ) where
 
     -- the list's word is read, or set by another that finds it out
     pub busy : (n : ℕ) → n % 2 ≡ y % 2 → (SaysEmpty n → SaysEmpty y) → R (stepped s 1 n id me.1 me.0 keeps)
-    busy n parity below = at_list n me.0 parity below (refl, refl) (wakes_as me.0 ((λ o. o), λ k f. f))
+    busy n parity below = at_list n me.0 parity below (refl, refl, refl, refl, refl) (wakes_as me.0 ((λ o. o), λ k f. f))
 
     -- the list is empty
     pub eases : SaysEmpty y → R (stepped s 1 y id me.1 (eased_of me.0) keeps)
-    eases low = let z = r.unlisted low in at_list y (eased_of me.0) refl (λ l. l) (refl, refl) (inr (λ n h. absurd (subst (Has n) z h)))
+    eases low = let z = r.unlisted low in at_list y (eased_of me.0) refl (λ l. l) (refl, refl, refl, refl, refl) (inr (λ n h. absurd (subst (Has n) z h)))
 
     abbrev pub listing : S → View
-    listing list = listing_of (waiting_of list) me.0
+    listing list = listing_of (waiting_of list) (entries_of list) me.0
 
     -- the seat takes the list out
     pub grabbed : y % 2 ≡ 0 → (n : ℕ) → n % 2 ≡ 1 → (SaysEmpty n → SaysEmpty y) → (list : S) × (get_elem? s.homes 0 ≡ some (some list)) × R (stepped s 1 n id me.1 (listing list) (takes 0 list))
@@ -138,10 +148,12 @@ module _ (S : Type 0) (waiting_of : S → List ℕ) where
             two_words = subst (λ (z : ℕ). 1 < z) (sym (length-set s.words 1 n)) r.two_words;
             list_word = (omega arith, ap (λ k. k % 2) here ∙ odd ∙ sym one);
             waiting = r.waiting;
+            entries = r.entries;
+            standing = standing_as w refl refl;
             wakes = subst (λ k. LosesNone k r.waiting (after w)) (sym there) (wakes_as w ((λ o. o), λ k f. f));
             unlisted = λ low. r.unlisted (below (subst SaysEmpty here low));
             home = λ absent. absurd (omega arith);
-            out = out_set w (λ _. h.2);
+            out = out_set w (λ _. (h.2, h.3));
           },
         )
 
@@ -150,8 +162,8 @@ module _ (S : Type 0) (waiting_of : S → List ℕ) where
       abbrev new : List ℕ
       new = waiting_of list
 
-      returned : (w : View) → w.has_list ≡ false → LosesNone x new (after w) → R (stepped s 1 n id me.1 w gives)
-      returned w off wakes =
+      returned : (w : View) → w.has_list ≡ false → AreOf IsEntryOf (entries_of list) (after w) → LosesNone x new (after w) → R (stepped s 1 n id me.1 w gives)
+      returned w off standing wakes =
           let c = number-set has_list_out s.views id me.0 w at in let c' : weight (has_list_out w) ≡ 0 = ap weight off in let l : weight (has_list_out me.0) ≡ 1 = ap weight is_out in
           let one = r.list_word.0 in
           let none_out : number has_list_out (after w) ≡ 0 = omega arith in
@@ -159,13 +171,15 @@ module _ (S : Type 0) (waiting_of : S → List ℕ) where
             two_words = subst (λ (z : ℕ). 1 < z) (sym (length-set s.words 1 n)) r.two_words;
             list_word = (omega arith, ap (λ k. k % 2) here ∙ (omega arith));
             waiting = new;
+            entries = entries_of list;
+            standing = standing;
             wakes = subst (λ k. LosesNone k new (after w)) (sym there) wakes;
             unlisted = λ below. low (subst SaysEmpty here below);
-            home = λ _. (list, subst (λ (t : List (ℕ × S)). get_elem? (put_back s.homes t) 0 ≡ some (some list)) (sym has) (set_here s.homes 0 (some list) wide), refl);
+            home = λ _. (list, subst (λ (t : List (ℕ × S)). get_elem? (put_back s.homes t) 0 ≡ some (some list)) (sym has) (set_here s.homes 0 (some list) wide), refl, refl);
             out = λ i v e is. let m = number-at has_list_out (after w) i v e in let q : weight (has_list_out v) ≡ 1 = ap weight is in absurd (omega arith);
           }
 
-      known : me.0.waiting ≡ r.waiting
+      known : (me.0.waiting ≡ r.waiting) × (me.0.entries ≡ r.entries)
       known = r.out id me.0 at is_out
 
       -- who waits now waited before, and not by the seat's own entry unless that stands, or is the seat's own
@@ -174,22 +188,34 @@ module _ (S : Type 0) (waiting_of : S → List ℕ) where
 
       stand : (w : View) → (Owes me.0 → Owes w) → Stands w → LosesNone x new (after w)
       stand w owed all = ⊎_elim (λ c. inl (stays s.views id me.0 at Owes w owed c))
-          (λ old. inr (λ k h. ⊎_elim (λ t. stays s.views id me.0 at (WaitsFor x k) w t.1 (old k (subst (Has k) known t.0))) (λ p. mine (WaitsFor x k) w p) (all k h))) r.wakes
+          (λ old. inr (λ k h. ⊎_elim (λ t. stays s.views id me.0 at (WaitsFor x k) w t.1 (old k (subst (Has k) known.0 t.0))) (λ p. mine (WaitsFor x k) w p) (all k h))) r.wakes
+
+      -- no others, without its own, and with its own
+      same_stand : (w : View) → w.listed ≡ me.0.listed → w.entry ≡ me.0.entry → Fewer me.0.entries (entries_of list) → AreOf IsEntryOf (entries_of list) (after w)
+      same_stand w l e fewer n h = standing_as w l e n (subst (Has n) known.1 (fewer n h))
+
+      left_stand : (w : View) → LeftBy me.0.entry me.0.entries (entries_of list) → AreOf IsEntryOf (entries_of list) (after w)
+      left_stand w left n h = let o = left n h in own_else s.views id me.0 at (IsEntryOf n) w (λ is. o.1 (sym is.1)) (r.standing n (subst (Has n) known.1 o.0))
+
+      joined_stand : (k : ℕ) (w : View) → w.listed ≡ true → w.entry ≡ k → me.0.listed ≡ false → JoinedBy k me.0.entries (entries_of list) → AreOf IsEntryOf (entries_of list) (after w)
+      joined_stand k w l e away joined n h = ⊎_elim
+          (λ old. own_else s.views id me.0 at (IsEntryOf n) w (λ is. never (sym away ∙ is.0)) (r.standing n (subst (Has n) known.1 old)))
+          (λ same. mine (IsEntryOf n) w (l, e ∙ sym same)) (joined n h)
 
       -- its entry has joined
-      pub joins : (k : ℕ) → JoinedBy k me.0.waiting new → me.0.listed ≡ false → R (stepped s 1 n id me.1 (joined_of k me.0) gives)
-      joins k joined away = let w : View = joined_of k me.0 in
-          returned w refl (stand w (λ o. o) (λ j h. ⊎_elim (λ old. inl (old, λ f. never (sym away ∙ f.0))) (λ e. inr (refl, sym e, inl refl)) (joined j h)))
+      pub joins : (k : ℕ) → JoinedBy k me.0.waiting new → JoinedBy k me.0.entries (entries_of list) → me.0.listed ≡ false → R (stepped s 1 n id me.1 (joined_of k me.0) gives)
+      joins k joined entered away = let w : View = joined_of k me.0 in
+          returned w refl (joined_stand k w refl refl away entered) (stand w (λ o. o) (λ j h. ⊎_elim (λ old. inl (old, λ f. never (sym away ∙ f.0))) (λ e. inr (refl, sym e, inl refl)) (joined j h)))
 
       -- its entry has left
-      pub leaves : LeftBy me.0.entry me.0.waiting new → R (stepped s 1 n id me.1 (gone_of me.0) gives)
-      leaves left = let w : View = gone_of me.0 in
-          returned w refl (stand w (λ o. o) (λ j h. inl ((left j h).0, λ f. absurd ((left j h).1 (sym f.1)))))
+      pub leaves : LeftBy me.0.entry me.0.waiting new → LeftBy me.0.entry me.0.entries (entries_of list) → R (stepped s 1 n id me.1 (gone_of me.0) gives)
+      leaves left gone = let w : View = gone_of me.0 in
+          returned w refl (left_stand w gone) (stand w (λ o. o) (λ j h. inl ((left j h).0, λ f. absurd ((left j h).1 (sym f.1)))))
 
       -- all are notified
-      pub pays : NoneWaits new → R (stepped s 1 n id me.1 (paid_of me.0) gives)
-      pays none_waits = let w : View = paid_of me.0 in returned w refl (inr (λ k h. absurd (none_waits k h)))
+      pub pays : NoneWaits new → Fewer me.0.entries (entries_of list) → R (stepped s 1 n id me.1 (paid_of me.0) gives)
+      pays none_waits fewer = let w : View = paid_of me.0 in returned w refl (same_stand w refl refl fewer) (inr (λ k h. absurd (none_waits k h)))
 
       -- nothing has changed
-      pub remains : Fewer me.0.waiting new → R (stepped s 1 n id me.1 (back me.0) gives)
-      remains fewer = let w : View = back me.0 in returned w refl (stand w (λ o. o) (λ j h. inl (fewer j h, λ f. f)))
+      pub remains : Fewer me.0.waiting new → Fewer me.0.entries (entries_of list) → R (stepped s 1 n id me.1 (back me.0) gives)
+      remains fewer same = let w : View = back me.0 in returned w refl (same_stand w refl refl same) (stand w (λ o. o) (λ j h. inl (fewer j h, λ f. f)))

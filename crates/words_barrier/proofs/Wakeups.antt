@@ -3,12 +3,12 @@ use Rattle.std.proofs.Common.{◌≡◌, ℕ, List, sym, ◌∙◌, subst, ⊎_e
 use Rattle.atomic_table.specs.Table.{State}
 use Rattle.words_base.specs.Sums.{number}
 use Rattle.words_base.specs.Waiting.{AreOf}
-use Rattle.words_barrier.specs.Rule.{has_list_out, Ruled, WaitsFor, LosesNone}
+use Rattle.words_barrier.specs.Rule.{has_list_out, Ruled, IsEntryOf, LosesNone}
 use Rattle.words_barrier.specs.Laws.{finished, IsListHome, Lies, IsOfThis, IsAtRest}
 use Rattle.words_barrier.specs.declared.view.View.{View}
 use Rattle.words_barrier.proofs.Flags.{never, number-no}
 
-module _ {S : Type 0} (waiting_of : S → List ℕ) (s : State S View) (r : Ruled waiting_of s) where
+module _ {S : Type 0} (waiting_of entries_of : S → List ℕ) (s : State S View) (r : Ruled waiting_of entries_of s) where
   at_home : number has_list_out s.views ≡ 0 → (list : S) × Lies s list × LosesNone (finished s) (waiting_of list) s.views
   at_home out = let h = r.home out in (h.0, h.1, subst (λ l. LosesNone (finished s) l s.views) (sym h.2) r.wakes)
 
@@ -22,3 +22,6 @@ module _ {S : Type 0} (waiting_of : S → List ℕ) (s : State S View) (r : Rule
     ⊎_elim (λ c. never (sym ((rest c.0 c.1 c.2).0) ∙ c.3))
         (λ all. λ n t. let c = all n t in (c.0, c.1, c.2, (c.3.0, c.3.1, ⊎_elim (λ f. never (sym ((rest c.0 c.1 c.2).1) ∙ f)) (λ e. e) c.3.2))) h.2,
   )
+
+  pub standing : IsListHome s → (list : S) × Lies s list × AreOf IsEntryOf (entries_of list) s.views
+  standing even = let h = r.home (sym r.list_word.1 ∙ even) in (h.0, h.1, subst (λ l. AreOf IsEntryOf l s.views) (sym h.3) r.standing)

@@ -1,5 +1,5 @@
 -- What always holds of the table of a barrier and its waiting list, between any two atomic steps of any number of seats.
-use Rattle.std.specs.Prelude.{◌≡◌, ℕ, ◌<◌, ◌≤◌, ◌%◌, ◌⊎◌, Bool, true, false, List, [], ◌∷◌, length, slice_index}
+use Rattle.std.specs.Prelude.{◌≡◌, ℕ, ◌<◌, ◌≤◌, ◌%◌, ◌⊎◌, Bool, true, false, List, [], length, slice_index}
 use mathlib.Core.Option.{some}
 use lib.ListN.{get_elem?}
 use Rattle.atomic_table.specs.Table.{State}
@@ -8,7 +8,7 @@ use Rattle.words_base.specs.Waiting.{SomeSeat, AreOf}
 use Rattle.words_barrier.specs.declared.view.View.{View}
 
 abbrev pub first_view : View
-first_view = record { owes = false; listed = false; fresh = false; counted = false; led = false; has_list = false; entry = 0; found = 0; generation = 0; waiting = [] }
+first_view = record { owes = false; listed = false; fresh = false; counted = false; led = false; has_list = false; entry = 0; found = 0; generation = 0; waiting = []; entries = [] }
 
 abbrev pub has_list_out : View → Bool
 has_list_out v = v.has_list
@@ -20,6 +20,10 @@ Owes v = v.owes ≡ true
 -- The entry n is the seat's, which has joined and not looked since, or has found, since it joined, as many generations finished as there are.
 abbrev pub WaitsFor : ℕ → ℕ → View → Type 0
 WaitsFor finished n v = (v.listed ≡ true) × (v.entry ≡ n) × ((v.fresh ≡ true) ⊎ (v.found ≡ finished))
+
+-- The entry of this number is the seat's.
+abbrev pub IsEntryOf : ℕ → View → Type 0
+IsEntryOf n v = (v.listed ≡ true) × (v.entry ≡ n)
 
 -- No wake-up is lost: a seat owes the whole list a notification, or each entry that isn't notified is of a seat that waits for the
 -- generation which is under way, or has not looked yet since it joined.
@@ -35,13 +39,15 @@ IsListWord words views = (number has_list_out views ≤ 1) × (slice_index words
 abbrev pub SaysEmpty : ℕ → Type 0
 SaysEmpty word = word % 8 < 4
 
--- Word 0 is how many generations are finished. In the list the entries `waiting` are not notified: it lies in the slot 0, or a seat has it out,
--- which knows these as they were when it took the list out.
-pub record Ruled {S : Type 0} (waiting_of : S → List ℕ) (s : State S View) : Type 0 where
+-- Word 0 is how many generations are finished. The list has these entries, of which `waiting` are not notified: it lies in the slot 0, or a seat has
+-- it out, which knows both as they were when it took the list out. Each entry, notified or not, is of a seat that stands in the list.
+pub record Ruled {S : Type 0} (waiting_of entries_of : S → List ℕ) (s : State S View) : Type 0 where
   pub two_words : 1 < length s.words
   pub list_word : IsListWord s.words s.views
   pub waiting : List ℕ
+  pub entries : List ℕ
   pub wakes : LosesNone (slice_index s.words 0) waiting s.views
+  pub standing : AreOf IsEntryOf entries s.views
   pub unlisted : SaysEmpty (slice_index s.words 1) → waiting ≡ []
-  pub home : number has_list_out s.views ≡ 0 → (list : S) × (get_elem? s.homes 0 ≡ some (some list)) × (waiting_of list ≡ waiting)
-  pub out : (i : ℕ) (v : View) → get_elem? s.views i ≡ some v → v.has_list ≡ true → v.waiting ≡ waiting
+  pub home : number has_list_out s.views ≡ 0 → (list : S) × (get_elem? s.homes 0 ≡ some (some list)) × (waiting_of list ≡ waiting) × (entries_of list ≡ entries)
+  pub out : (i : ℕ) (v : View) → get_elem? s.views i ≡ some v → v.has_list ≡ true → (v.waiting ≡ waiting) × (v.entries ≡ entries)

@@ -1,5 +1,5 @@
 -- What each step makes of a seat's view.
-use Rattle.std.specs.Prelude.{ℕ, ◌+◌, true, false, List, [], ◌∷◌}
+use Rattle.std.specs.Prelude.{ℕ, ◌+◌, true, false, List, []}
 use Rattle.words_barrier.specs.declared.view.View.{View}
 
 -- A look found so many generations finished.
@@ -18,18 +18,18 @@ finished_by v = record v { owes = true; led = true; found = v.found + 1 }
 abbrev pub eased_of : View → View
 eased_of v = record v { owes = false }
 
-abbrev pub listing_of : List ℕ → View → View
-listing_of waiting v = record v { has_list = true; waiting = waiting }
+abbrev pub listing_of : List ℕ → List ℕ → View → View
+listing_of waiting entries v = record v { has_list = true; waiting = waiting; entries = entries }
 
 -- It has given the list back.
 abbrev pub back : View → View
-back v = record v { has_list = false; waiting = [] }
+back v = record v { has_list = false; waiting = []; entries = [] }
 
 abbrev pub joined_of : ℕ → View → View
-joined_of n v = record v { listed = true; fresh = true; entry = n; has_list = false; waiting = [] }
+joined_of n v = record v { listed = true; fresh = true; entry = n; has_list = false; waiting = []; entries = [] }
 
 abbrev pub gone_of : View → View
-gone_of v = record v { listed = false; fresh = false; has_list = false; waiting = [] }
+gone_of v = record v { listed = false; fresh = false; has_list = false; waiting = []; entries = [] }
 
 abbrev pub paid_of : View → View
-paid_of v = record v { owes = false; has_list = false; waiting = [] }
+paid_of v = record v { owes = false; has_list = false; waiting = []; entries = [] }

@@ -3,7 +3,7 @@
 ghost use Rattle.std.specs.Prelude.{ℕ, ◌⊎◌};
 ghost use Rattle.atomic_table.specs.Table.{State};
 ghost use Rattle.words_base.specs.Waiting.{AreOf};
-ghost use Rattle.words_barrier.specs.Rule.{Ruled, LosesNone};
+ghost use Rattle.words_barrier.specs.Rule.{Ruled, LosesNone, IsEntryOf};
 ghost use Rattle.words_barrier.specs.Laws.{finished, IsListHome, Lies, IsOfThis, IsAtRest};
 ghost use Rattle.words_barrier.specs.declared.view.View.{View};
 
@@ -14,8 +14,10 @@ use crate::rule::Content;
 /// While nobody has the list out, some seat that has finished a generation owes the whole list a notification, or each entry that isn't
 /// notified is of a seat that has found, since it joined, as many generations finished as there are, or has not looked yet since it
 /// joined. At rest, when no seat is inside a call, each entry that isn't notified is, by its number, of a seat that has found so, and so of
-/// the generation that is under way. The call does nothing: its clauses are the law.
+/// the generation that is under way. Each entry, notified or not, is of a seat that stands in the list. The call does nothing: its clauses are
+/// the law.
 pub fn no_lost_wakeup<S: Content>()
-    ensures running { (s : State S View) → Ruled S.waiting s → IsListHome s → (list : S) × Lies s list × LosesNone (finished s) (S.waiting list) s.views }
-    ensures at_rest { (s : State S View) → Ruled S.waiting s → IsAtRest s → (list : S) × Lies s list × AreOf (IsOfThis s) (S.waiting list) s.views }
+    ensures running { (s : State S View) → Ruled S.waiting S.entries s → IsListHome s → (list : S) × Lies s list × LosesNone (finished s) (S.waiting list) s.views }
+    ensures at_rest { (s : State S View) → Ruled S.waiting S.entries s → IsAtRest s → (list : S) × Lies s list × AreOf (IsOfThis s) (S.waiting list) s.views }
+    ensures standing { (s : State S View) → Ruled S.waiting S.entries s → IsListHome s → (list : S) × Lies s list × AreOf IsEntryOf (S.entries list) s.views }
 {}

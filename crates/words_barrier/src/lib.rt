@@ -15,5 +15,5 @@ mod view;
 pub use laws::no_lost_wakeup;
 pub use list_word::{take_out, wake_next};
 pub use plays::Looks;
-pub use rule::{BarrierRule, Content, Numbered};
+pub use rule::{BarrierRule, Content};
 pub use view::View;

@@ -46,7 +46,7 @@ pub(crate) struct Grabs;
 impl<S: Content> Play<S, View> for Grabs {
     ghost use Rattle.words_barrier.specs.Steps.{Grabbed};
 
-    ghost then = { λ _ m r m'. Grabbed S.waiting m r m' };
+    ghost then = { λ _ m r m'. Grabbed S.waiting S.entries m r m' };
 }
 
 // The step that gives the list back, where its entry stands last of those that wait.

@@ -9,12 +9,9 @@ use atomic_table::TableRule;
 pub trait Content {
     /// The numbers of the entries that are not notified.
     ghost waiting: { Self → List ℕ };
-}
 
-/// What names an entry, by its number.
-pub trait Numbered {
-    /// The entry's number.
-    ghost number: { Self → ℕ };
+    /// The numbers of all entries, notified or not.
+    ghost entries: { Self → List ℕ };
 }
 
 /// What always holds of the table of a barrier.
@@ -23,7 +20,7 @@ pub struct BarrierRule;
 impl<S: Content> TableRule<S, View, ()> for BarrierRule {
     ghost use Rattle.words_barrier.specs.Rule.{Ruled, first_view};
 
-    ghost holds = { λ _. Ruled S.waiting };
+    ghost holds = { λ _. Ruled S.waiting S.entries };
 
     ghost first = { λ _. first_view };
 }

@@ -27,6 +27,8 @@ pub struct View {
     pub ghost generation: { ℕ },
     /// Which entries were not notified when the seat took the list out.
     pub ghost waiting: { List ℕ } by { coded_list coded_ℕ },
+    /// Which entries it had then.
+    pub ghost entries: { List ℕ } by { coded_list coded_ℕ },
 }
 
 impl Model for View {

@@ -6,4 +6,4 @@ slot_mut-list-requires g c = (c.requires.table, lent c.args.inner.now.me c.requi
 
 pub returns-clause-ready : goal.returns-clause-ready
 returns-clause-ready g c =
-    leaves c.args.inner.now.me c.requires.held c.slot_mut-list.result.now (record c.slot_mut-list.result.now { queue = c.leave-kept.new.self }) c.says-says.result c.slot_mut-list.ensures.value c.says-says.ensures c.args.id.number c.leave-kept.ensures
+    leaves c.args.inner.now.me c.requires.held c.slot_mut-list.result.now (record c.slot_mut-list.result.now { queue = c.leave-kept.new.self }) c.says-says.result c.slot_mut-list.ensures.value c.says-says.ensures c.args.id.number c.requires.own c.leave-kept.ensures
