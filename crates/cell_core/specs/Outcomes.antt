@@ -1,10 +1,10 @@
 -- How a poll went.
-use Rattle.std.specs.Prelude.{◌≡◌, ℕ, ⊤, Result, Ok, Err, Option, Some, None}
+use Rattle.std.specs.Prelude.{◌≡◌, ℕ, ⊤, Result, Ok, Err}
 use Rattle.futures.specs.Task.{Covers}
 use Rattle.futures.specs.declared.task.context.Context.{Context}
 use Rattle.cell_core.specs.Cells.{Cell, IsOf}
 use Rattle.cell_core.specs.Courses.{making, waiting_to_make}
-use Rattle.cell_core.specs.Purposes.{IsSetting, IsAwaited, OnSets, maker_of}
+use Rattle.cell_core.specs.Purposes.{IsAwaited, maker_of}
 use Rattle.lock_queue.specs.Receipts.{IsReceipt}
 use Rattle.cell_core.specs.declared.maker.Purpose.{Purpose}
 use Rattle.cell_core.specs.declared.turn.Outcome.{Outcome}

@@ -17,24 +17,14 @@ use crate::list_steps::{
 use crate::seat::Seat;
 use futures::task::Context;
 use lock_event::{EntryId, Memory};
-use lock_queue::{AllDue, Heard, Whose};
+use lock_queue::{AllDue, Heard, Joining, Whose};
 use std::sync::Wait;
 use sync_program::once_cell::{Found, Place};
 use words_cell::steps::{
     give_gone, give_joined_active, give_joined_passive, give_paid, give_paid_active,
     give_paid_passive, give_same, give_told,
 };
-use words_cell::{Numbered, take_out, wake_next};
-
-// An entry that has joined, by which the rule names it.
-#[derive(Drop)]
-struct Joining {
-    id: EntryId,
-}
-
-impl Numbered for Joining {
-    ghost number = { λ joining. joining.id.number };
-}
+use words_cell::{take_out, wake_next};
 
 impl<T> RawCell<T> {
     /// Adds an entry at the back of those that would make the value, with no waker. The seat has not looked yet then. [`Memory`] comes only if

@@ -1,11 +1,11 @@
 //! What is done to the lists while they are out.
 
-ghost use Rattle.std.specs.Prelude.{◌≡◌, false, MatchResult};
+ghost use Rattle.std.specs.Prelude.{◌≡◌, true, false, MatchResult};
 ghost use Rattle.futures.specs.Task.{Keeps};
 ghost use Rattle.atomic_table.specs.Table.{rest};
 ghost use Rattle.words_cell.specs.Steps.{IsHeld, CanJoinActive, CanJoinPassive, CanHear, CanLeave, CanPay, CanPayActive, CanPayPassive, CanStay};
 ghost use Rattle.lock_queue.specs.Asking.{ByHeard};
-ghost use Rattle.cell_core.specs.Contents.{active_of, passive_of, marked_of};
+ghost use Rattle.cell_core.specs.Contents.{active_of, passive_of};
 ghost use Rattle.lock_queue.specs.Receipts.{IsReceipt};
 
 use crate::lists::Lists;
@@ -32,11 +32,11 @@ pub(crate) fn join_active_in(
     alloc: Global,
 ) -> (Result<EntryId, Memory>, u64)
     requires table { inner.old.table_id ≡ shared.now.table_id }
-    requires held { IsHeld active_of passive_of marked_of inner.old.me }
+    requires held { IsHeld active_of passive_of inner.old.me }
     ensures table { inner.new.table_id ≡ inner.old.table_id }
     ensures view { inner.new.me.0 ≡ inner.old.me.0 }
     ensures others { rest inner.new.me.1 ≡ rest inner.old.me.1 }
-    ensures ready { MatchResult result.0 (λ id. CanJoinActive active_of passive_of marked_of inner.new.me result.1 id.number) (λ _. CanStay active_of passive_of marked_of inner.new.me result.1) }
+    ensures ready { MatchResult result.0 (λ id. CanJoinActive active_of passive_of inner.new.me result.1 id.number) (λ _. CanStay active_of passive_of inner.new.me result.1) }
 {
     let lists = inner.slot_mut(shared, LIST_SLOT);
     let joined = lists.join_active(alloc);
@@ -50,11 +50,11 @@ pub(crate) fn join_passive_in(
     alloc: Global,
 ) -> (Result<EntryId, Memory>, u64)
     requires table { inner.old.table_id ≡ shared.now.table_id }
-    requires held { IsHeld active_of passive_of marked_of inner.old.me }
+    requires held { IsHeld active_of passive_of inner.old.me }
     ensures table { inner.new.table_id ≡ inner.old.table_id }
     ensures view { inner.new.me.0 ≡ inner.old.me.0 }
     ensures others { rest inner.new.me.1 ≡ rest inner.old.me.1 }
-    ensures ready { MatchResult result.0 (λ id. CanJoinPassive active_of passive_of marked_of inner.new.me result.1 id.number) (λ _. CanStay active_of passive_of marked_of inner.new.me result.1) }
+    ensures ready { MatchResult result.0 (λ id. CanJoinPassive active_of passive_of inner.new.me result.1 id.number) (λ _. CanStay active_of passive_of inner.new.me result.1) }
 {
     let lists = inner.slot_mut(shared, LIST_SLOT);
     let joined = lists.join_passive(alloc);
@@ -70,11 +70,12 @@ pub(crate) fn ask_active_in(
     cx: &mut Context<'_>,
 ) -> (Heard<Whose>, u64)
     requires table { inner.old.table_id ≡ shared.now.table_id }
-    requires held { IsHeld active_of passive_of marked_of inner.old.me }
+    requires held { IsHeld active_of passive_of inner.old.me }
+    requires entry { inner.old.me.0.entry ≡ id.number }
     ensures table { inner.new.table_id ≡ inner.old.table_id }
     ensures view { inner.new.me.0 ≡ inner.old.me.0 }
     ensures others { rest inner.new.me.1 ≡ rest inner.old.me.1 }
-    ensures ready { ByHeard result.0 (CanHear active_of passive_of marked_of inner.new.me result.1) (λ _. CanStay active_of passive_of marked_of inner.new.me result.1) }
+    ensures ready { ByHeard result.0 (CanHear active_of passive_of inner.new.me result.1) (λ _. CanStay active_of passive_of inner.new.me result.1) }
     ensures waits { ByHeard result.0 (cx.new ≡ cx.old) (IsReceipt source.now.id cx.new) }
     ensures kept { Keeps cx.old cx.new }
 {
@@ -92,12 +93,12 @@ pub(crate) fn ask_passive_in(
     cx: &mut Context<'_>,
 ) -> (Heard<Whose>, u64)
     requires table { inner.old.table_id ≡ shared.now.table_id }
-    requires held { IsHeld active_of passive_of marked_of inner.old.me }
-    requires looked { inner.old.me.0.fresh ≡ false }
+    requires held { IsHeld active_of passive_of inner.old.me }
+    requires entry { (inner.old.me.0.in_passive ≡ true) × (inner.old.me.0.in_active ≡ false) × (inner.old.me.0.entry ≡ id.number) }
     ensures table { inner.new.table_id ≡ inner.old.table_id }
     ensures view { inner.new.me.0 ≡ inner.old.me.0 }
     ensures others { rest inner.new.me.1 ≡ rest inner.old.me.1 }
-    ensures ready { ByHeard result.0 (CanLeave active_of passive_of marked_of inner.new.me result.1) (λ _. CanStay active_of passive_of marked_of inner.new.me result.1) }
+    ensures ready { ByHeard result.0 (CanLeave active_of passive_of inner.new.me result.1) (λ _. CanStay active_of passive_of inner.new.me result.1) }
     ensures waits { ByHeard result.0 (cx.new ≡ cx.old) (IsReceipt source.now.id cx.new) }
     ensures kept { Keeps cx.old cx.new }
 {
@@ -113,12 +114,12 @@ pub(crate) fn leave_active_in(
     id: EntryId,
 ) -> (Option<Waker>, Due, u64)
     requires table { inner.old.table_id ≡ shared.now.table_id }
-    requires held { IsHeld active_of passive_of marked_of inner.old.me }
-    requires entry { (inner.old.me.0.in_passive ≡ false) × (inner.old.me.0.entry ≡ id.number) }
+    requires held { IsHeld active_of passive_of inner.old.me }
+    requires entry { (inner.old.me.0.in_active ≡ true) × (inner.old.me.0.in_passive ≡ false) × (inner.old.me.0.entry ≡ id.number) }
     ensures table { inner.new.table_id ≡ inner.old.table_id }
     ensures view { inner.new.me.0 ≡ inner.old.me.0 }
     ensures others { rest inner.new.me.1 ≡ rest inner.old.me.1 }
-    ensures ready { CanLeave active_of passive_of marked_of inner.new.me result.2 }
+    ensures ready { CanLeave active_of passive_of inner.new.me result.2 }
 {
     let lists = inner.slot_mut(shared, LIST_SLOT);
     let (kept, due) = lists.leave_active(id);
@@ -132,12 +133,12 @@ pub(crate) fn leave_passive_in(
     id: EntryId,
 ) -> (Option<Waker>, Due, u64)
     requires table { inner.old.table_id ≡ shared.now.table_id }
-    requires held { IsHeld active_of passive_of marked_of inner.old.me }
-    requires entry { (inner.old.me.0.in_active ≡ false) × (inner.old.me.0.entry ≡ id.number) }
+    requires held { IsHeld active_of passive_of inner.old.me }
+    requires entry { (inner.old.me.0.in_passive ≡ true) × (inner.old.me.0.in_active ≡ false) × (inner.old.me.0.entry ≡ id.number) }
     ensures table { inner.new.table_id ≡ inner.old.table_id }
     ensures view { inner.new.me.0 ≡ inner.old.me.0 }
     ensures others { rest inner.new.me.1 ≡ rest inner.old.me.1 }
-    ensures ready { CanLeave active_of passive_of marked_of inner.new.me result.2 }
+    ensures ready { CanLeave active_of passive_of inner.new.me result.2 }
 {
     let lists = inner.slot_mut(shared, LIST_SLOT);
     let (kept, due) = lists.leave_passive(id);
@@ -147,11 +148,11 @@ pub(crate) fn leave_passive_in(
 
 pub(crate) fn notify_active_in(shared: &Listing, inner: &mut Lister) -> (Due, u64)
     requires table { inner.old.table_id ≡ shared.now.table_id }
-    requires held { IsHeld active_of passive_of marked_of inner.old.me }
+    requires held { IsHeld active_of passive_of inner.old.me }
     ensures table { inner.new.table_id ≡ inner.old.table_id }
     ensures view { inner.new.me.0 ≡ inner.old.me.0 }
     ensures others { rest inner.new.me.1 ≡ rest inner.old.me.1 }
-    ensures ready { CanPay active_of passive_of marked_of inner.new.me result.1 }
+    ensures ready { CanPay active_of passive_of inner.new.me result.1 }
 {
     let lists = inner.slot_mut(shared, LIST_SLOT);
     let due = lists.notify_active();
@@ -161,11 +162,11 @@ pub(crate) fn notify_active_in(shared: &Listing, inner: &mut Lister) -> (Due, u6
 
 pub(crate) fn notify_passive_in(shared: &Listing, inner: &mut Lister) -> (Due, u64)
     requires table { inner.old.table_id ≡ shared.now.table_id }
-    requires held { IsHeld active_of passive_of marked_of inner.old.me }
+    requires held { IsHeld active_of passive_of inner.old.me }
     ensures table { inner.new.table_id ≡ inner.old.table_id }
     ensures view { inner.new.me.0 ≡ inner.old.me.0 }
     ensures others { rest inner.new.me.1 ≡ rest inner.old.me.1 }
-    ensures ready { CanStay active_of passive_of marked_of inner.new.me result.1 }
+    ensures ready { CanStay active_of passive_of inner.new.me result.1 }
 {
     let lists = inner.slot_mut(shared, LIST_SLOT);
     let due = lists.notify_passive();
@@ -179,11 +180,11 @@ pub(crate) fn notify_all_active_in(
     alloc: Global,
 ) -> (AllDue, u64)
     requires table { inner.old.table_id ≡ shared.now.table_id }
-    requires held { IsHeld active_of passive_of marked_of inner.old.me }
+    requires held { IsHeld active_of passive_of inner.old.me }
     ensures table { inner.new.table_id ≡ inner.old.table_id }
     ensures view { inner.new.me.0 ≡ inner.old.me.0 }
     ensures others { rest inner.new.me.1 ≡ rest inner.old.me.1 }
-    ensures ready { CanPayActive active_of passive_of marked_of inner.new.me result.1 }
+    ensures ready { CanPayActive active_of passive_of inner.new.me result.1 }
 {
     let lists = inner.slot_mut(shared, LIST_SLOT);
     let due = lists.notify_all_active(alloc);
@@ -197,11 +198,11 @@ pub(crate) fn notify_all_passive_in(
     alloc: Global,
 ) -> (AllDue, u64)
     requires table { inner.old.table_id ≡ shared.now.table_id }
-    requires held { IsHeld active_of passive_of marked_of inner.old.me }
+    requires held { IsHeld active_of passive_of inner.old.me }
     ensures table { inner.new.table_id ≡ inner.old.table_id }
     ensures view { inner.new.me.0 ≡ inner.old.me.0 }
     ensures others { rest inner.new.me.1 ≡ rest inner.old.me.1 }
-    ensures ready { CanPayPassive active_of passive_of marked_of inner.new.me result.1 }
+    ensures ready { CanPayPassive active_of passive_of inner.new.me result.1 }
 {
     let lists = inner.slot_mut(shared, LIST_SLOT);
     let due = lists.notify_all_passive(alloc);
@@ -211,11 +212,11 @@ pub(crate) fn notify_all_passive_in(
 
 pub(crate) fn next_due_in(shared: &Listing, inner: &mut Lister) -> (Due, u64)
     requires table { inner.old.table_id ≡ shared.now.table_id }
-    requires held { IsHeld active_of passive_of marked_of inner.old.me }
+    requires held { IsHeld active_of passive_of inner.old.me }
     ensures table { inner.new.table_id ≡ inner.old.table_id }
     ensures view { inner.new.me.0 ≡ inner.old.me.0 }
     ensures others { rest inner.new.me.1 ≡ rest inner.old.me.1 }
-    ensures ready { CanStay active_of passive_of marked_of inner.new.me result.1 }
+    ensures ready { CanStay active_of passive_of inner.new.me result.1 }
 {
     let lists = inner.slot_mut(shared, LIST_SLOT);
     let due = lists.next_due();
@@ -230,11 +231,11 @@ pub(crate) fn entry_in(
     index: usize,
 ) -> (Option<(EntryId, Mark)>, u64)
     requires table { inner.old.table_id ≡ shared.now.table_id }
-    requires held { IsHeld active_of passive_of marked_of inner.old.me }
+    requires held { IsHeld active_of passive_of inner.old.me }
     ensures table { inner.new.table_id ≡ inner.old.table_id }
     ensures view { inner.new.me.0 ≡ inner.old.me.0 }
     ensures others { rest inner.new.me.1 ≡ rest inner.old.me.1 }
-    ensures ready { CanStay active_of passive_of marked_of inner.new.me result.1 }
+    ensures ready { CanStay active_of passive_of inner.new.me result.1 }
 {
     let lists = inner.slot_mut(shared, LIST_SLOT);
     let entry = lists.entry(side, index);

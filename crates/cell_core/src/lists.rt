@@ -1,9 +1,10 @@
 //! What lies in the slot of a cell's table: its two lists.
 
 ghost use Rattle.std.specs.Prelude.{◌≡◌, ◌%◌, [], IfOk, OnErr};
+ghost use Rattle.words_cell.specs.Lists.{nobody};
 ghost use Rattle.futures.specs.Task.{Keeps};
 ghost use Rattle.lock_queue.specs.Asking.{ByHeard};
-ghost use Rattle.cell_core.specs.Contents.{active_of, passive_of, Says, HaveFewer, AreKept, HasJoinedActive, HasJoinedPassive, HasLeftActive, HasLeftPassive, IsOneTold, AreActiveTold, ArePassiveTold};
+ghost use Rattle.cell_core.specs.Contents.{active_of, passive_of, Says, AreKept, HasJoinedActive, HasJoinedPassive, HasHeardActive, HasLeftActive, HasLeftPassive, IsOneTold, AreActiveTold, ArePassiveTold};
 ghost use Rattle.lock_queue.specs.Receipts.{IsReceipt};
 
 use crate::watch::Side;
@@ -32,21 +33,17 @@ impl Drop for Lists {
 }
 
 impl Content for Lists {
-    ghost use Rattle.lock_event.specs.Lists.{marked_count};
-    ghost use Rattle.lock_queue.specs.Queues.{entries_of};
-    ghost use Rattle.lock_queue.specs.Entries.{waiting_in};
+    ghost use Rattle.cell_core.specs.Contents.{listed_in};
 
-    ghost active = { λ lists. waiting_in (entries_of lists.active) };
+    ghost active = { λ lists. listed_in lists.active };
 
-    ghost passive = { λ lists. waiting_in (entries_of lists.passive) };
-
-    ghost marked = { λ lists. marked_count (entries_of lists.active) };
+    ghost passive = { λ lists. listed_in lists.passive };
 }
 
 impl Lists {
     // Lists that nobody has joined.
     pub(crate) fn new() -> Lists
-        ensures { (active_of result ≡ []) × (passive_of result ≡ []) }
+        ensures { (active_of result ≡ nobody) × (passive_of result ≡ nobody) }
     {
         Lists {
             active: Queue::new(),
@@ -85,7 +82,7 @@ impl Lists {
         source: &Source,
         cx: &mut Context<'_>,
     ) -> Heard<Whose>
-        ensures asked { ByHeard result (HaveFewer self.old self.new) (λ _. AreKept self.old self.new) }
+        ensures asked { ByHeard result (HasHeardActive self.old self.new id.number) (λ _. AreKept self.old self.new) }
         ensures waits { ByHeard result (cx.new ≡ cx.old) (IsReceipt source.now.id cx.new) }
         ensures kept { Keeps cx.old cx.new }
     {
@@ -98,7 +95,7 @@ impl Lists {
         source: &Source,
         cx: &mut Context<'_>,
     ) -> Heard<Whose>
-        ensures asked { ByHeard result (AreKept self.old self.new) (λ _. AreKept self.old self.new) }
+        ensures asked { ByHeard result (HasLeftPassive self.old self.new id.number) (λ _. AreKept self.old self.new) }
         ensures waits { ByHeard result (cx.new ≡ cx.old) (IsReceipt source.now.id cx.new) }
         ensures kept { Keeps cx.old cx.new }
     {

@@ -2,20 +2,21 @@
 use Rattle.std.proofs.Common.{◌≡◌, ℕ, List, [], ◌∷◌, sym, ap, ◌∙◌}
 use Rattle.atomic_table.specs.Table.{Me, rest}
 use Rattle.words_base.specs.Waiting.{last_of}
+use Rattle.words_cell.specs.Lists.{Listed}
 use Rattle.words_cell.specs.Seats.{listing_of, joined_active_of, joined_passive_of}
 use Rattle.words_cell.specs.Steps.{IsHeld, IsSame, CanJoinActive, CanJoinPassive}
+use Rattle.words_base.proofs.Waiting.{last-pushed}
 use Rattle.words_cell.specs.declared.view.View.{View}
 
 -- the lists are out now
-pub held_of : {S : Type 0} (active_of passive_of : S → List ℕ) (marked_of : S → ℕ) (m m' : Me S View) (lists : S) → m' ≡ (listing_of (active_of lists) (passive_of lists) (marked_of lists) m.0, (0, lists) ∷ m.1)
-    → IsHeld active_of passive_of marked_of m' × IsSame m.0 m'.0 × (rest m'.1 ≡ m.1)
-held_of {S} active_of passive_of marked_of m m' lists e = (
+pub held_of : {S : Type 0} (active_of passive_of : S → Listed) (m m' : Me S View) (lists : S) → m' ≡ (listing_of (active_of lists) (passive_of lists) m.0, (0, lists) ∷ m.1)
+    → IsHeld active_of passive_of m' × IsSame m.0 m'.0 × (rest m'.1 ≡ m.1)
+held_of {S} active_of passive_of m m' lists e = (
   (
     lists,
     ap (λ (n : Me S View). n.0.has_lists) e,
     ap (λ (n : Me S View). n.0.active) e,
     ap (λ (n : Me S View). n.0.passive) e,
-    ap (λ (n : Me S View). n.0.marked) e,
     ap (λ (n : Me S View). n.1) e ∙ ap (λ (n : Me S View). (0, lists) ∷ rest n.1) (sym e),
   ),
   (
@@ -41,9 +42,9 @@ same_out {S} x y l e f = ap (λ (k : List (ℕ × S)). first x k) (sym e ∙ f)
     first z [] = z
     first z (k ∷ ks) = k.1
 
-module _ {S : Type 0} (active_of passive_of : S → List ℕ) (marked_of : S → ℕ) (m : Me S View) (n k : ℕ) where
-  pub joined_active_same : CanJoinActive active_of passive_of marked_of m n k → (m' : Me S View) → (lists : S) × (m.1 ≡ (0, lists) ∷ rest m.1) × (m' ≡ (joined_active_of (last_of (active_of lists)) m.0, rest m.1)) → m' ≡ (joined_active_of k m.0, rest m.1)
-  joined_active_same c m' t = t.2 ∙ ap (λ j. (joined_active_of j m.0, rest m.1)) (ap (λ l. last_of (active_of l)) (same_out t.0 c.0 m.1 t.1 c.1.1) ∙ c.3)
+module _ {S : Type 0} (active_of passive_of : S → Listed) (m : Me S View) (n k : ℕ) where
+  pub joined_active_same : CanJoinActive active_of passive_of m n k → (m' : Me S View) → (lists : S) × (m.1 ≡ (0, lists) ∷ rest m.1) × (m' ≡ (joined_active_of (last_of (active_of lists).entries) m.0, rest m.1)) → m' ≡ (joined_active_of k m.0, rest m.1)
+  joined_active_same c m' t = t.2 ∙ ap (λ j. (joined_active_of j m.0, rest m.1)) (ap (λ l. last_of (active_of l).entries) (same_out t.0 c.0 m.1 t.1 c.1.1) ∙ ap last_of (c.2).0 ∙ last-pushed k m.0.active.entries)
 
-  pub joined_passive_same : CanJoinPassive active_of passive_of marked_of m n k → (m' : Me S View) → (lists : S) × (m.1 ≡ (0, lists) ∷ rest m.1) × (m' ≡ (joined_passive_of (last_of (passive_of lists)) m.0, rest m.1)) → m' ≡ (joined_passive_of k m.0, rest m.1)
-  joined_passive_same c m' t = t.2 ∙ ap (λ j. (joined_passive_of j m.0, rest m.1)) (ap (λ l. last_of (passive_of l)) (same_out t.0 c.0 m.1 t.1 c.1.1) ∙ c.4)
+  pub joined_passive_same : CanJoinPassive active_of passive_of m n k → (m' : Me S View) → (lists : S) × (m.1 ≡ (0, lists) ∷ rest m.1) × (m' ≡ (joined_passive_of (last_of (passive_of lists).entries) m.0, rest m.1)) → m' ≡ (joined_passive_of k m.0, rest m.1)
+  joined_passive_same c m' t = t.2 ∙ ap (λ j. (joined_passive_of j m.0, rest m.1)) (ap (λ l. last_of (passive_of l).entries) (same_out t.0 c.0 m.1 t.1 c.1.1) ∙ ap last_of (c.3).0 ∙ last-pushed k m.0.passive.entries)

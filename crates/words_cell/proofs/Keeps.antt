@@ -1,60 +1,66 @@
 -- Each step on the table keeps its rule: of one state.
-use Rattle.std.proofs.Common.{◌≡◌, ◌≢◌, ℕ, zero, suc, ◌+◌, ◌*◌, ◌-◌, ◌%◌, ◌^◌, ◌<◌, ◌≤◌, bit_or, lt_of_not-le, Bool, true, false, ◌&&◌, not, List, [], ◌∷◌, ◌++◌, length, get_or, set, sym, refl, ap, ◌∙◌, subst, arith, ◌⊎◌, ⊎_elim, inl, inr, length-set, get_or-set_same, get_or-set_other}
-use mathlib.Core.Option.{Option, none, some, some-injective, some-ne-none}
-use mathlib.Core.Logic.{dite}
-use native.Mathlib.Decide.{dec_le, ℕ_discrete}
+use Rattle.std.proofs.Common.{◌≡◌, ◌≢◌, ℕ, zero, suc, ◌+◌, ◌*◌, ◌-◌, ◌%◌, ◌^◌, ◌<◌, ◌≤◌, Bool, true, false, List, [], ◌∷◌, length, get_or, set, sym, refl, ap, ◌∙◌, subst, arith, ◌⊎◌, ⊎_elim, inl, inr, length-set, get_or-set_same, get_or-set_other}
+use mathlib.Core.Option.{some, some-injective, some-ne-none}
 use lib.ListN.{get_elem?}
 use Rattle.atomic_table.specs.Table.{State, Me, keeps, takes, gives, stepped, put_back, rest, opening}
-use Rattle.atomic_table.proofs.Lists.{set_here, set_else, at_set}
+use Rattle.atomic_table.proofs.Lists.{set_here, at_set}
 use Rattle.words_base.specs.Sums.{weight, number, total}
 use Rattle.words_base.proofs.Sums.{number-set, number-at, total-set}
-use Rattle.words_base.specs.Waiting.{Has, NoneWaits, Fewer, JoinedBy, LeftBy, StaysTold, SomeSeat, AreOf}
-use Rattle.words_cell.specs.Rule.{first_view, makes_of, has_lists_out, filled_of, taken_of, Owes, OwesActive, OwesPassive, IsFreshActive, IsFreshPassive, LosesNoneEmpty, LosesNoneFull, IsCell, IsListWord, SaysEmpty, Ruled}
+use Rattle.words_base.specs.Waiting.{Has, NoneWaits, Fewer, SomeSeat, AreOf}
+use Rattle.words_cell.specs.Lists.{Listed, nobody}
+use Rattle.words_cell.specs.Rule.{first_view, makes_of, has_lists_out, filled_of, taken_of, Owes, OwesActive, OwesPassive, IsActiveEntryOf, IsPassiveEntryOf, IsFreshActive, IsFreshPassive, AllStand, LosesNoneEmpty, LosesNoneFull, IsCell, SaysEmpty, Ruled}
 use Rattle.words_cell.specs.Seats.{saw_of, saw_full_of, claimed_of, missed_of, late_of, filled_by, emptied_by, taken_by, having_found, eased_of, listing_of, back, joined_active_of, joined_passive_of, told_of, gone_of, paid_of, paid_active_of, paid_passive_of}
+use Rattle.words_cell.specs.Steps.{KeepsEntries, AllTold, HasJoined, HasLeft, LeftIf, KeepsTold}
 use Rattle.words_cell.specs.declared.view.View.{View}
 use Rattle.words_cell.proofs.Flags.{never}
+use Rattle.words_base.proofs.Waiting.{joined_by}
 use Rattle.words_base.proofs.Views.{own, apart, stays, all_stay as fresh_stays}
 
-module _ (S : Type 0) (active_of passive_of : S → List ℕ) (marked_of : S → ℕ) where
-  module _ (lists : S) (a : active_of lists ≡ []) (p : passive_of lists ≡ []) where
-    nobody : (i : ℕ) (v : View) → get_elem? (first_view ∷ []) i ≡ some v → v.has_lists ≡ true → (v.active ≡ []) × (v.passive ≡ []) × (v.marked ≡ marked_of lists)
-    nobody zero v e is = never (ap (λ (u : View). u.has_lists) (some-injective first_view v e) ∙ is)
-    nobody (suc i) v e is = absurd (some-ne-none v (sym e))
+-- no entry is new, and none is the seat's where it stands
+left_if : (b : Bool) (k : ℕ) (old new : Listed) → LeftIf b k old new → ((n : ℕ) → Has n new.entries → Has n old.entries × (b ≡ true → n ≢ k)) × ((n : ℕ) → Has n new.waiting → Has n old.waiting × (b ≡ true → n ≢ k))
+left_if true k old new left = ((λ n h. let l = left.0 n h in (l.0, λ _. l.1)), λ n h. let l = left.1 n h in (l.0, λ _. l.1))
+left_if false k old new kept = ((λ n h. (subst (Has n) kept.0 h, λ b. never b)), λ n h. (kept.1 n h, λ b. never b))
+
+module _ (S : Type 0) (active_of passive_of : S → Listed) where
+  module _ (lists : S) (a : active_of lists ≡ nobody) (p : passive_of lists ≡ nobody) where
+    none_out : (i : ℕ) (v : View) → get_elem? (first_view ∷ []) i ≡ some v → v.has_lists ≡ true → (v.active ≡ nobody) × (v.passive ≡ nobody)
+    none_out zero v e is = never (ap (λ (u : View). u.has_lists) (some-injective first_view v e) ∙ is)
+    none_out (suc i) v e is = absurd (some-ne-none v (sym e))
 
     -- an empty cell, and a full one
-    pub opens_empty : Ruled active_of passive_of marked_of false (opening (0 ∷ 0 ∷ []) (lists ∷ []) first_view)
+    pub opens_empty : Ruled active_of passive_of false (opening (0 ∷ 0 ∷ []) (lists ∷ []) first_view)
     opens_empty = record {
       two_words = omega arith;
       cell = record { full = 0; one_maker = omega arith; word = refl; values = refl };
       list_word = (omega arith, refl);
-      active = [];
-      passive = [];
-      marked = marked_of lists;
+      active = nobody;
+      passive = nobody;
+      standing = ((λ n h. absurd h), λ n h. absurd h);
       empty = λ _. inr (inr (λ n h. absurd h));
       filled = λ e. absurd (omega (arith, e));
       unlisted = λ _. (refl, refl);
-      home = λ _. (lists, refl, a, p, refl);
-      out = nobody;
+      home = λ _. (lists, refl, a, p);
+      out = none_out;
     }
 
-    pub opens_full : Ruled active_of passive_of marked_of true (opening (2 ∷ 0 ∷ []) (lists ∷ []) first_view)
+    pub opens_full : Ruled active_of passive_of true (opening (2 ∷ 0 ∷ []) (lists ∷ []) first_view)
     opens_full = record {
       two_words = omega arith;
       cell = record { full = 1; one_maker = omega arith; word = refl; values = refl };
       list_word = (omega arith, refl);
-      active = [];
-      passive = [];
-      marked = marked_of lists;
+      active = nobody;
+      passive = nobody;
+      standing = ((λ n h. absurd h), λ n h. absurd h);
       empty = λ e. absurd (omega (arith, e));
       filled = λ _. (inr (λ n h. absurd h), inr (λ n h. absurd h));
       unlisted = λ _. (refl, refl);
-      home = λ _. (lists, refl, a, p, refl);
-      out = nobody;
+      home = λ _. (lists, refl, a, p);
+      out = none_out;
     }
 
   module _ (start : Bool) where
     abbrev R : State S View → Type 0
-    R = Ruled active_of passive_of marked_of start
+    R = Ruled active_of passive_of start
 
     module _ (s : State S View) (id : ℕ) (me : Me S View) (r : R s) (at : get_elem? s.views id ≡ some me.0) where
       abbrev x : ℕ
@@ -78,24 +84,31 @@ module _ (S : Type 0) (active_of passive_of : S → List ℕ) (marked_of : S →
       all_stay : (P : ℕ → View → Type 0) (waiting : List ℕ) (w : View) → ((n : ℕ) → P n me.0 → P n w) → AreOf P waiting s.views → AreOf P waiting (after w)
       all_stay = fresh_stays s.views id me.0 at
 
-      out_set : (w : View) → (w.has_lists ≡ true → (w.active ≡ r.active) × (w.passive ≡ r.passive) × (w.marked ≡ r.marked)) → (i : ℕ) (v : View) → get_elem? (after w) i ≡ some v → v.has_lists ≡ true → (v.active ≡ r.active) × (v.passive ≡ r.passive) × (v.marked ≡ r.marked)
-      out_set w good i v e is = ⊎_elim (λ here. subst (λ (u : View). (u.active ≡ r.active) × (u.passive ≡ r.passive) × (u.marked ≡ r.marked)) here.1 (good (ap (λ (u : View). u.has_lists) here.1 ∙ is))) (λ else. r.out i v else.1 is) (at_set s.views id i w v e)
+      out_set : (w : View) → (w.has_lists ≡ true → (w.active ≡ r.active) × (w.passive ≡ r.passive)) → (i : ℕ) (v : View) → get_elem? (after w) i ≡ some v → v.has_lists ≡ true → (v.active ≡ r.active) × (v.passive ≡ r.passive)
+      out_set w good i v e is = ⊎_elim (λ here. subst (λ (u : View). (u.active ≡ r.active) × (u.passive ≡ r.passive)) here.1 (good (ap (λ (u : View). u.has_lists) here.1 ∙ is))) (λ else. r.out i v else.1 is) (at_set s.views id i w v e)
 
       -- what a step on the word 0 leaves of a seat, and what one on the word 1 does
       abbrev Leaves : View → Type 0
-      Leaves w = (w.has_lists ≡ me.0.has_lists) × (w.active ≡ me.0.active) × (w.passive ≡ me.0.passive) × (w.marked ≡ me.0.marked)
+      Leaves w = (w.has_lists ≡ me.0.has_lists) × (w.active ≡ me.0.active) × (w.passive ≡ me.0.passive) × (w.in_active ≡ me.0.in_active) × (w.in_passive ≡ me.0.in_passive) × (w.entry ≡ me.0.entry)
 
       abbrev Does : View → Type 0
       Does w = (w.makes ≡ me.0.makes) × (w.filled ≡ me.0.filled) × (w.taken ≡ me.0.taken)
 
-      out_left : (w : View) → Leaves w → (i : ℕ) (v : View) → get_elem? (after w) i ≡ some v → v.has_lists ≡ true → (v.active ≡ r.active) × (v.passive ≡ r.passive) × (v.marked ≡ r.marked)
-      out_left w left = out_set w (λ is. let o = r.out id me.0 at (sym left.0 ∙ is) in (left.1 ∙ o.0, left.2 ∙ o.1, left.3 ∙ o.2))
+      out_left : (w : View) → Leaves w → (i : ℕ) (v : View) → get_elem? (after w) i ≡ some v → v.has_lists ≡ true → (v.active ≡ r.active) × (v.passive ≡ r.passive)
+      out_left w left = out_set w (λ is. let o = r.out id me.0 at (sym left.0 ∙ is) in (left.1 ∙ o.0, left.2 ∙ o.1))
+
+      -- the lists stay, and the seat stands where it stood
+      all_stand : (w : View) → w.in_active ≡ me.0.in_active → w.in_passive ≡ me.0.in_passive → w.entry ≡ me.0.entry → AllStand r.active r.passive (after w)
+      all_stand w active passive entry = (
+        all_stay IsActiveEntryOf r.active.entries w (λ n q. (active ∙ q.0, entry ∙ q.1)) r.standing.0,
+        all_stay IsPassiveEntryOf r.passive.entries w (λ n q. (passive ∙ q.0, entry ∙ q.1)) r.standing.1,
+      )
 
       same_out : (w : View) → w.has_lists ≡ me.0.has_lists → number has_lists_out (after w) ≡ number has_lists_out s.views
       same_out w e = let c = number-set has_lists_out s.views id me.0 w at in let e' : weight (has_lists_out w) ≡ weight (has_lists_out me.0) = ap weight e in omega arith
 
       -- the cell's word becomes n; what is known of the lists stays
-      moved : (n : ℕ) (w : View) → IsCell start (set s.words 0 n) (after w) → Leaves w → (n ≡ 0 → LosesNoneEmpty r.active r.marked (after w)) → (n ≡ 2 → LosesNoneFull r.active r.passive (after w)) → R (stepped s 0 n id me.1 w keeps)
+      moved : (n : ℕ) (w : View) → IsCell start (set s.words 0 n) (after w) → Leaves w → (n ≡ 0 → LosesNoneEmpty r.active (after w)) → (n ≡ 2 → LosesNoneFull r.active r.passive (after w)) → R (stepped s 0 n id me.1 w keeps)
       moved n w cell left empty filled =
           let same = same_out w left.0 in let one = r.list_word.0 in let is = r.list_word.1 in
           let here : get_or (set s.words 0 n) 0 0 ≡ n = get_or-set_same s.words 0 n 0 one_word in
@@ -105,7 +118,7 @@ module _ (S : Type 0) (active_of passive_of : S → List ℕ) (marked_of : S →
             list_word = (omega arith, ap (λ k. k % 2) there ∙ is ∙ sym same);
             active = r.active;
             passive = r.passive;
-            marked = r.marked;
+            standing = all_stand w left.3 left.4 left.5;
             empty = λ e. empty (sym here ∙ e);
             filled = λ e. filled (sym here ∙ e);
             unlisted = λ low. r.unlisted (subst SaysEmpty there low);
@@ -124,7 +137,7 @@ module _ (S : Type 0) (active_of passive_of : S → List ℕ) (marked_of : S →
           record { full = r.cell.full; one_maker = omega arith; word = is ∙ (omega arith); values = omega arith }
 
       -- the cell's word stays
-      unmoved : (w : View) → Leaves w → Does w → (x ≡ 0 → LosesNoneEmpty r.active r.marked (after w)) → (x ≡ 2 → LosesNoneFull r.active r.passive (after w)) → R (stepped s 0 x id me.1 w keeps)
+      unmoved : (w : View) → Leaves w → Does w → (x ≡ 0 → LosesNoneEmpty r.active (after w)) → (x ≡ 2 → LosesNoneFull r.active r.passive (after w)) → R (stepped s 0 x id me.1 w keeps)
       unmoved w left does = moved x w (cell_same (set s.words 0 x) w (get_or-set_same s.words 0 x 0 one_word) does) left
 
       pub few : x ≤ 2
@@ -134,25 +147,25 @@ module _ (S : Type 0) (active_of passive_of : S → List ℕ) (marked_of : S →
       abbrev IsAs : View → Type 0
       IsAs w = (Owes me.0 → Owes w) × (OwesActive me.0 → OwesActive w) × (OwesPassive me.0 → OwesPassive w) × ((n : ℕ) → IsFreshActive n me.0 → IsFreshActive n w) × ((n : ℕ) → IsFreshPassive n me.0 → IsFreshPassive n w)
 
-      empty_as : (w : View) → IsAs w → x ≡ 0 → LosesNoneEmpty r.active r.marked (after w)
+      empty_as : (w : View) → IsAs w → x ≡ 0 → LosesNoneEmpty r.active (after w)
       empty_as w is e = ⊎_elim (λ m. inl m)
-          (λ b. inr (⊎_elim (λ c. inl (some_stays (λ v. Owes v ⊎ OwesActive v) w (λ o. ⊎_elim (λ q. inl (is.0 q)) (λ q. inr (is.1 q)) o) c)) (λ all. inr (all_stay IsFreshActive r.active w is.3 all)) b)) (r.empty e)
+          (λ b. inr (⊎_elim (λ c. inl (some_stays (λ v. Owes v ⊎ OwesActive v) w (λ o. ⊎_elim (λ q. inl (is.0 q)) (λ q. inr (is.1 q)) o) c)) (λ all. inr (all_stay IsFreshActive r.active.waiting w is.3 all)) b)) (r.empty e)
 
       full_as : (w : View) → IsAs w → x ≡ 2 → LosesNoneFull r.active r.passive (after w)
       full_as w is e = let f = r.filled e in (
-        ⊎_elim (λ c. inl (some_stays OwesActive w is.1 c)) (λ all. inr (all_stay IsFreshActive r.active w is.3 all)) f.0,
-        ⊎_elim (λ c. inl (some_stays OwesPassive w is.2 c)) (λ all. inr (all_stay IsFreshPassive r.passive w is.4 all)) f.1,
+        ⊎_elim (λ c. inl (some_stays OwesActive w is.1 c)) (λ all. inr (all_stay IsFreshActive r.active.waiting w is.3 all)) f.0,
+        ⊎_elim (λ c. inl (some_stays OwesPassive w is.2 c)) (λ all. inr (all_stay IsFreshPassive r.passive.waiting w is.4 all)) f.1,
       )
 
       -- a look that doesn't find the cell full, by a seat that is not of those that would make
       pub sees : x ≢ 2 → me.0.in_active ≡ false → R (stepped s 0 x id me.1 (saw_of x me.0) keeps)
-      sees ne away = let w : View = saw_of x me.0 in unmoved w (refl, refl, refl, refl) (refl, refl, refl)
+      sees ne away = let w : View = saw_of x me.0 in unmoved w (refl, refl, refl, refl, refl, refl) (refl, refl, refl)
           (λ e. ⊎_elim (λ m. inl m)
-          (λ b. inr (⊎_elim (λ c. inl (some_stays (λ v. Owes v ⊎ OwesActive v) w (λ o. o) c)) (λ all. inr (all_stay IsFreshActive r.active w (λ n f. never (sym away ∙ f.1)) all)) b)) (r.empty e))
+          (λ b. inr (⊎_elim (λ c. inl (some_stays (λ v. Owes v ⊎ OwesActive v) w (λ o. o) c)) (λ all. inr (all_stay IsFreshActive r.active.waiting w (λ n f. never (sym away ∙ f.1.0)) all)) b)) (r.empty e))
           (λ e. absurd (ne e))
 
       pub sees_full : x ≡ 2 → R (stepped s 0 x id me.1 (saw_full_of me.0) keeps)
-      sees_full is = let w : View = saw_full_of me.0 in unmoved w (refl, refl, refl, refl) (refl, refl, refl) (empty_as w ((λ o. o), (λ o. o), (λ o. o), (λ n f. f), λ n f. f)) (full_as w ((λ o. o), (λ o. o), (λ o. o), (λ n f. f), λ n f. f))
+      sees_full is = let w : View = saw_full_of me.0 in unmoved w (refl, refl, refl, refl, refl, refl) (refl, refl, refl) (empty_as w ((λ o. o), (λ o. o), (λ o. o), (λ n f. f), λ n f. f)) (full_as w ((λ o. o), (λ o. o), (λ o. o), (λ n f. f), λ n f. f))
 
       -- the seat gets the right to make
       pub claims : x ≡ 0 → R (stepped s 0 1 id me.1 (claimed_of me.0) keeps)
@@ -161,18 +174,18 @@ module _ (S : Type 0) (active_of passive_of : S → List ℕ) (marked_of : S →
           let ms = number-set makes_of s.views id me.0 w at in let ts = total-set taken_of s.views id me.0 w at in let fs = total-set filled_of s.views id me.0 w at in
           let m = number-at makes_of s.views id me.0 at in let m' : weight (makes_of w) ≡ 1 = refl in
           let one = r.cell.one_maker in let word = r.cell.word in let values = r.cell.values in
-          moved 1 w (cell_of w 1 0 (omega arith) (omega arith) (omega arith)) (refl, refl, refl, refl) (λ e. absurd (omega (arith, e))) (λ e. absurd (omega (arith, e)))
+          moved 1 w (cell_of w 1 0 (omega arith) (omega arith) (omega arith)) (refl, refl, refl, refl, refl, refl) (λ e. absurd (omega (arith, e))) (λ e. absurd (omega (arith, e)))
 
       -- another makes
       pub misses : x ≡ 1 → R (stepped s 0 x id me.1 (missed_of me.0) keeps)
-      misses is = unmoved (missed_of me.0) (refl, refl, refl, refl) (refl, refl, refl) (λ e. absurd (omega (arith, e, is))) (λ e. absurd (omega (arith, e, is)))
+      misses is = unmoved (missed_of me.0) (refl, refl, refl, refl, refl, refl) (refl, refl, refl) (λ e. absurd (omega (arith, e, is))) (λ e. absurd (omega (arith, e, is)))
 
       -- the cell is full
       pub comes_late : x ≡ 2 → R (stepped s 0 x id me.1 (late_of me.0) keeps)
-      comes_late is = let w : View = late_of me.0 in unmoved w (refl, refl, refl, refl) (refl, refl, refl) (λ e. absurd (omega (arith, e, is)))
+      comes_late is = let w : View = late_of me.0 in unmoved w (refl, refl, refl, refl, refl, refl) (refl, refl, refl) (λ e. absurd (omega (arith, e, is)))
           (λ e. let f = r.filled e in (
-            ⊎_elim (λ c. inl (some_stays OwesActive w (λ o. o) c)) (λ all. inr (all_stay IsFreshActive r.active w (λ n q. q) all)) f.0,
-            ⊎_elim (λ c. inl (some_stays OwesPassive w (λ o. o) c)) (λ all. inr (all_stay IsFreshPassive r.passive w (λ n q. q) all)) f.1,
+            ⊎_elim (λ c. inl (some_stays OwesActive w (λ o. o) c)) (λ all. inr (all_stay IsFreshActive r.active.waiting w (λ n q. q) all)) f.0,
+            ⊎_elim (λ c. inl (some_stays OwesPassive w (λ o. o) c)) (λ all. inr (all_stay IsFreshPassive r.passive.waiting w (λ n q. q) all)) f.1,
           ))
 
       pub fills : me.0.makes ≡ true → R (stepped s 0 ((x + 1) % 2 ^ 64) id me.1 (filled_by me.0) keeps)
@@ -182,7 +195,7 @@ module _ (S : Type 0) (active_of passive_of : S → List ℕ) (marked_of : S →
           let m = number-at makes_of s.views id me.0 at in let did : weight (makes_of me.0) ≡ 1 = ap weight makes in let m' : weight (makes_of w) ≡ 0 = refl in
           let one = r.cell.one_maker in let word = r.cell.word in let values = r.cell.values in
           let up : (x + 1) % 18446744073709551616 ≡ 2 = omega arith in
-          moved ((x + 1) % 2 ^ 64) w (cell_of w ((x + 1) % 2 ^ 64) 1 (omega arith) (up ∙ (omega arith)) (omega arith)) (refl, refl, refl, refl) (λ e. absurd (omega (arith, e, up)))
+          moved ((x + 1) % 2 ^ 64) w (cell_of w ((x + 1) % 2 ^ 64) 1 (omega arith) (up ∙ (omega arith)) (omega arith)) (refl, refl, refl, refl, refl, refl) (λ e. absurd (omega (arith, e, up)))
           (λ _. (inl (mine OwesActive w refl), inl (mine OwesPassive w refl)))
 
       pub empties : me.0.makes ≡ true → R (stepped s 0 ((x + (2 ^ 64 - 1)) % 2 ^ 64) id me.1 (emptied_by me.0) keeps)
@@ -192,7 +205,7 @@ module _ (S : Type 0) (active_of passive_of : S → List ℕ) (marked_of : S →
           let m = number-at makes_of s.views id me.0 at in let did : weight (makes_of me.0) ≡ 1 = ap weight makes in let m' : weight (makes_of w) ≡ 0 = refl in
           let one = r.cell.one_maker in let word = r.cell.word in let values = r.cell.values in
           let down : (x + 18446744073709551615) % 18446744073709551616 ≡ 0 = omega arith in
-          moved ((x + (2 ^ 64 - 1)) % 2 ^ 64) w (cell_of w ((x + (2 ^ 64 - 1)) % 2 ^ 64) 0 (omega arith) (down ∙ (omega arith)) (omega arith)) (refl, refl, refl, refl)
+          moved ((x + (2 ^ 64 - 1)) % 2 ^ 64) w (cell_of w ((x + (2 ^ 64 - 1)) % 2 ^ 64) 0 (omega arith) (down ∙ (omega arith)) (omega arith)) (refl, refl, refl, refl, refl, refl)
           (λ _. inr (inl (mine (λ v. Owes v ⊎ OwesActive v) w (inl refl)))) (λ e. absurd (omega (arith, e, down)))
 
       pub takes_value : x ≡ 2 → R (stepped s 0 0 id me.1 (taken_by me.0) keeps)
@@ -201,18 +214,18 @@ module _ (S : Type 0) (active_of passive_of : S → List ℕ) (marked_of : S →
           let ms = number-set makes_of s.views id me.0 w at in let ts = total-set taken_of s.views id me.0 w at in let fs = total-set filled_of s.views id me.0 w at in
           let m' : weight (makes_of w) ≡ weight (makes_of me.0) = refl in let f' : filled_of w ≡ filled_of me.0 = refl in let t' : taken_of w ≡ taken_of me.0 + 1 = refl in
           let one = r.cell.one_maker in let word = r.cell.word in let values = r.cell.values in
-          moved 0 w (cell_of w 0 0 (omega arith) (omega arith) (omega arith)) (refl, refl, refl, refl)
-          (λ _. inr (⊎_elim (λ c. inl (some_stays (λ v. Owes v ⊎ OwesActive v) w (λ o. o) (c.0, c.1, c.2, inr c.3))) (λ all. inr (all_stay IsFreshActive r.active w (λ n f. f) all)) (r.filled is).0))
+          moved 0 w (cell_of w 0 0 (omega arith) (omega arith) (omega arith)) (refl, refl, refl, refl, refl, refl)
+          (λ _. inr (⊎_elim (λ c. inl (some_stays (λ v. Owes v ⊎ OwesActive v) w (λ o. o) (c.0, c.1, c.2, inr c.3))) (λ all. inr (all_stay IsFreshActive r.active.waiting w (λ n f. f) all)) (r.filled is).0))
           (λ e. absurd (omega (arith, e)))
 
       pub finds : (n : ℕ) → R (stepped s 0 x id me.1 (having_found n me.0) keeps)
-      finds n = let w : View = having_found n me.0 in unmoved w (refl, refl, refl, refl) (refl, refl, refl) (empty_as w ((λ o. o), (λ o. o), (λ o. o), (λ n f. f), λ n f. f)) (full_as w ((λ o. o), (λ o. o), (λ o. o), (λ n f. f), λ n f. f))
+      finds n = let w : View = having_found n me.0 in unmoved w (refl, refl, refl, refl, refl, refl) (refl, refl, refl) (empty_as w ((λ o. o), (λ o. o), (λ o. o), (λ n f. f), λ n f. f)) (full_as w ((λ o. o), (λ o. o), (λ o. o), (λ n f. f), λ n f. f))
 
       -- the word of the lists becomes n, and who has them out stays
       beside : (n : ℕ) → get_or (set s.words 1 n) 0 0 ≡ x
       beside n = get_or-set_other s.words 1 0 n 0 (λ q. omega arith)
 
-      at_list : (n : ℕ) (w : View) → n % 2 ≡ y % 2 → (SaysEmpty n → SaysEmpty y) → Leaves w → Does w → (x ≡ 0 → LosesNoneEmpty r.active r.marked (after w)) → (x ≡ 2 → LosesNoneFull r.active r.passive (after w)) → R (stepped s 1 n id me.1 w keeps)
+      at_list : (n : ℕ) (w : View) → n % 2 ≡ y % 2 → (SaysEmpty n → SaysEmpty y) → Leaves w → Does w → (x ≡ 0 → LosesNoneEmpty r.active (after w)) → (x ≡ 2 → LosesNoneFull r.active r.passive (after w)) → R (stepped s 1 n id me.1 w keeps)
       at_list n w parity below left does empty filled =
           let same = same_out w left.0 in let one = r.list_word.0 in let is = r.list_word.1 in
           let here : get_or (set s.words 1 n) 1 0 ≡ n = get_or-set_same s.words 1 n 0 r.two_words in let there = beside n in record {
@@ -221,7 +234,7 @@ module _ (S : Type 0) (active_of passive_of : S → List ℕ) (marked_of : S →
             list_word = (omega arith, ap (λ k. k % 2) here ∙ parity ∙ is ∙ sym same);
             active = r.active;
             passive = r.passive;
-            marked = r.marked;
+            standing = all_stand w left.3 left.4 left.5;
             empty = λ e. empty (sym there ∙ e);
             filled = λ e. filled (sym there ∙ e);
             unlisted = λ low. r.unlisted (below (subst SaysEmpty here low));
@@ -231,15 +244,15 @@ module _ (S : Type 0) (active_of passive_of : S → List ℕ) (marked_of : S →
 
       -- the lists' word is read, or set by another that finds them out
       pub busy : (n : ℕ) → n % 2 ≡ y % 2 → (SaysEmpty n → SaysEmpty y) → R (stepped s 1 n id me.1 me.0 keeps)
-      busy n parity below = let w : View = me.0 in at_list n w parity below (refl, refl, refl, refl) (refl, refl, refl) (empty_as w ((λ o. o), (λ o. o), (λ o. o), (λ n f. f), λ n f. f)) (full_as w ((λ o. o), (λ o. o), (λ o. o), (λ n f. f), λ n f. f))
+      busy n parity below = let w : View = me.0 in at_list n w parity below (refl, refl, refl, refl, refl, refl) (refl, refl, refl) (empty_as w ((λ o. o), (λ o. o), (λ o. o), (λ n f. f), λ n f. f)) (full_as w ((λ o. o), (λ o. o), (λ o. o), (λ n f. f), λ n f. f))
 
       -- the lists are empty
       pub eases : SaysEmpty y → R (stepped s 1 y id me.1 (eased_of me.0) keeps)
-      eases low = let z = r.unlisted low in at_list y (eased_of me.0) refl (λ l. l) (refl, refl, refl, refl) (refl, refl, refl) (λ _. inr (inr (λ n h. absurd (subst (Has n) z.0 h))))
+      eases low = let z = r.unlisted low in at_list y (eased_of me.0) refl (λ l. l) (refl, refl, refl, refl, refl, refl) (refl, refl, refl) (λ _. inr (inr (λ n h. absurd (subst (Has n) z.0 h))))
           (λ _. (inr (λ n h. absurd (subst (Has n) z.0 h)), inr (λ n h. absurd (subst (Has n) z.1 h))))
 
       abbrev pub listing : S → View
-      listing lists = listing_of (active_of lists) (passive_of lists) (marked_of lists) me.0
+      listing lists = listing_of (active_of lists) (passive_of lists) me.0
 
       -- the seat takes the lists out
       pub grabbed : y % 2 ≡ 0 → (n : ℕ) → n % 2 ≡ 1 → (SaysEmpty n → SaysEmpty y) → (lists : S) × (get_elem? s.homes 0 ≡ some (some lists)) × R (stepped s 1 n id me.1 (listing lists) (takes 0 lists))
@@ -256,28 +269,54 @@ module _ (S : Type 0) (active_of passive_of : S → List ℕ) (marked_of : S →
               list_word = (omega arith, ap (λ k. k % 2) here ∙ odd ∙ sym one);
               active = r.active;
               passive = r.passive;
-              marked = r.marked;
+              standing = all_stand w refl refl refl;
               empty = λ e. empty_as w ((λ o. o), (λ o. o), (λ o. o), (λ n f. f), λ n f. f) (sym there ∙ e);
               filled = λ e. full_as w ((λ o. o), (λ o. o), (λ o. o), (λ n f. f), λ n f. f) (sym there ∙ e);
               unlisted = λ low. r.unlisted (below (subst SaysEmpty here low));
               home = λ absent. absurd (omega arith);
-              out = out_set w (λ _. (h.2, h.3, h.4));
+              out = out_set w (λ _. (h.2, h.3));
             },
           )
 
       -- the seat gives the lists back, and has this view then
-      module _ (lists : S) (n : ℕ) (is_out : me.0.has_lists ≡ true) (has : me.1 ≡ (0, lists) ∷ rest me.1) (wide : 0 < length s.homes) (four : n % 4 ≡ 0) (low : SaysEmpty n → (active_of lists ≡ []) × (passive_of lists ≡ [])) where
-        abbrev new_active : List ℕ
+      module _ (lists : S) (n : ℕ) (is_out : me.0.has_lists ≡ true) (has : me.1 ≡ (0, lists) ∷ rest me.1) (wide : 0 < length s.homes) (four : n % 4 ≡ 0) (low : SaysEmpty n → ((active_of lists).waiting ≡ []) × ((passive_of lists).waiting ≡ [])) where
+        abbrev new_active : Listed
         new_active = active_of lists
 
-        abbrev new_passive : List ℕ
+        abbrev new_passive : Listed
         new_passive = passive_of lists
 
-        abbrev new_marked : ℕ
-        new_marked = marked_of lists
+        known : (me.0.active ≡ r.active) × (me.0.passive ≡ r.passive)
+        known = r.out id me.0 at is_out
 
-        returned : (w : View) → w.has_lists ≡ false → Does w → (x ≡ 0 → LosesNoneEmpty new_active new_marked (after w)) → (x ≡ 2 → LosesNoneFull new_active new_passive (after w)) → R (stepped s 1 n id me.1 w gives)
-        returned w off does empty filled =
+        -- who is listed now was before, or is the seat's own
+        abbrev Stands : (ℕ → View → Type 0) → View → List ℕ → List ℕ → Type 0
+        Stands P w old new = (k : ℕ) → Has k new → (Has k old × (P k me.0 → P k w)) ⊎ P k w
+
+        stand : (P : ℕ → View → Type 0) (w : View) (old new : List ℕ) → Stands P w old new → AreOf P old s.views → AreOf P new (after w)
+        stand P w old new all were k h = ⊎_elim (λ t. some_stays (P k) w t.1 (were k t.0)) (λ p. mine (P k) w p) (all k h)
+
+        fewer : (P : ℕ → View → Type 0) (w : View) (old new : List ℕ) → Fewer old new → ((k : ℕ) → P k me.0 → P k w) → Stands P w old new
+        fewer P w old new all good k h = inl (all k h, good k)
+
+        abbrev Stood : View → Type 0
+        Stood w = Stands IsActiveEntryOf w me.0.active.entries new_active.entries × Stands IsPassiveEntryOf w me.0.passive.entries new_passive.entries
+
+        stands_now : (w : View) → Stood w → AllStand new_active new_passive (after w)
+        stands_now w stood = let k = known in (
+          stand IsActiveEntryOf w me.0.active.entries new_active.entries stood.0 (subst (λ (l : Listed). AreOf IsActiveEntryOf l.entries s.views) (sym k.0) r.standing.0),
+          stand IsPassiveEntryOf w me.0.passive.entries new_passive.entries stood.1 (subst (λ (l : Listed). AreOf IsPassiveEntryOf l.entries s.views) (sym k.1) r.standing.1),
+        )
+
+        -- the same entries, and the seat stands where it stood
+        keeps_place : (w : View) → w.in_active ≡ me.0.in_active → w.in_passive ≡ me.0.in_passive → w.entry ≡ me.0.entry → new_active.entries ≡ me.0.active.entries → new_passive.entries ≡ me.0.passive.entries → Stood w
+        keeps_place w in_active in_passive entry active passive = (
+          fewer IsActiveEntryOf w me.0.active.entries new_active.entries (λ j. subst (Has j) active) (λ j q. (in_active ∙ q.0, entry ∙ q.1)),
+          fewer IsPassiveEntryOf w me.0.passive.entries new_passive.entries (λ j. subst (Has j) passive) (λ j q. (in_passive ∙ q.0, entry ∙ q.1)),
+        )
+
+        returned : (w : View) → w.has_lists ≡ false → Does w → Stood w → (x ≡ 0 → LosesNoneEmpty new_active (after w)) → (x ≡ 2 → LosesNoneFull new_active new_passive (after w)) → R (stepped s 1 n id me.1 w gives)
+        returned w off does stood empty filled =
             let c = number-set has_lists_out s.views id me.0 w at in let c' : weight (has_lists_out w) ≡ 0 = ap weight off in let l : weight (has_lists_out me.0) ≡ 1 = ap weight is_out in
             let one = r.list_word.0 in
             let none_out : number has_lists_out (after w) ≡ 0 = omega arith in
@@ -287,101 +326,109 @@ module _ (S : Type 0) (active_of passive_of : S → List ℕ) (marked_of : S →
               list_word = (omega arith, ap (λ k. k % 2) here ∙ (omega arith));
               active = new_active;
               passive = new_passive;
-              marked = new_marked;
+              standing = stands_now w stood;
               empty = λ e. empty (sym there ∙ e);
               filled = λ e. filled (sym there ∙ e);
               unlisted = λ below. low (subst SaysEmpty here below);
-              home = λ _. (lists, subst (λ (t : List (ℕ × S)). get_elem? (put_back s.homes t) 0 ≡ some (some lists)) (sym has) (set_here s.homes 0 (some lists) wide), refl, refl, refl);
+              home = λ _. (lists, subst (λ (t : List (ℕ × S)). get_elem? (put_back s.homes t) 0 ≡ some (some lists)) (sym has) (set_here s.homes 0 (some lists) wide), refl, refl);
               out = λ i v e is. let m = number-at has_lists_out (after w) i v e in let q : weight (has_lists_out v) ≡ 1 = ap weight is in absurd (omega arith);
             }
 
-        known : (me.0.active ≡ r.active) × (me.0.passive ≡ r.passive) × (me.0.marked ≡ r.marked)
-        known = r.out id me.0 at is_out
-
-        -- who waits now waited before, or is the seat's own
-        abbrev Stands : (ℕ → View → Type 0) → View → List ℕ → List ℕ → Type 0
-        Stands P w old new = (k : ℕ) → Has k new → (Has k old × (P k me.0 → P k w)) ⊎ P k w
-
-        stand : (P : ℕ → View → Type 0) (w : View) (old new : List ℕ) → Stands P w old new → AreOf P old s.views → AreOf P new (after w)
-        stand P w old new all fresh k h = ⊎_elim (λ t. some_stays (P k) w t.1 (fresh k t.0)) (λ p. mine (P k) w p) (all k h)
-
         -- one is notified, or the seat owes, or nobody waits
         abbrev Ends : View → Type 0
-        Ends w = (0 < new_marked) ⊎ ((Owes w ⊎ OwesActive w) ⊎ NoneWaits new_active)
+        Ends w = (0 < new_active.notified) ⊎ ((Owes w ⊎ OwesActive w) ⊎ NoneWaits new_active.waiting)
 
-        ends : (w : View) → Ends w → LosesNoneEmpty new_active new_marked (after w)
+        ends : (w : View) → Ends w → LosesNoneEmpty new_active (after w)
         ends w e = ⊎_elim (λ m. inl m) (λ b. inr (⊎_elim (λ o. inl (mine (λ v. Owes v ⊎ OwesActive v) w o)) (λ none. inr (λ k h. absurd (none k h))) b)) e
 
-        emptying : (w : View) → (0 < me.0.marked → Ends w) → (Owes me.0 ⊎ OwesActive me.0 → Ends w) → Stands IsFreshActive w me.0.active new_active → x ≡ 0 → LosesNoneEmpty new_active new_marked (after w)
-        emptying w told owed all e = let k = known in ⊎_elim (λ m. ends w (told (subst (λ (z : ℕ). 0 < z) (sym k.2) m)))
+        emptying : (w : View) → (0 < me.0.active.notified → Ends w) → (Owes me.0 ⊎ OwesActive me.0 → Ends w) → Stands IsFreshActive w me.0.active.waiting new_active.waiting → x ≡ 0 → LosesNoneEmpty new_active (after w)
+        emptying w told owed all e = let k = known in ⊎_elim (λ m. ends w (told (subst (λ (l : Listed). 0 < l.notified) (sym k.0) m)))
             (λ b. ⊎_elim (λ c. ⊎_elim (λ o. ends w (owed o)) (λ other. inr (inl (other w))) (apart s.views id me.0 at (λ v. Owes v ⊎ OwesActive v) c))
-            (λ fresh. inr (inr (stand IsFreshActive w me.0.active new_active all (subst (λ l. AreOf IsFreshActive l s.views) (sym k.0) fresh)))) b) (r.empty e)
+            (λ fresh. inr (inr (stand IsFreshActive w me.0.active.waiting new_active.waiting all (subst (λ (l : Listed). AreOf IsFreshActive l.waiting s.views) (sym k.0) fresh)))) b) (r.empty e)
 
         half : (O : View → Type 0) (P : ℕ → View → Type 0) (w : View) (old new : List ℕ) → (O me.0 → O w ⊎ NoneWaits new) → Stands P w old new → SomeSeat O s.views ⊎ AreOf P old s.views → SomeSeat O (after w) ⊎ AreOf P new (after w)
         half O P w old new duty all f = ⊎_elim (λ c. ⊎_elim (λ own_duty. ⊎_elim (λ q. inl (mine O w q)) (λ none. inr (λ k h. absurd (none k h))) (duty own_duty)) (λ other. inl (other w)) (apart s.views id me.0 at O c))
             (λ fresh. inr (stand P w old new all fresh)) f
 
-        filling : (w : View) → (OwesActive me.0 → OwesActive w ⊎ NoneWaits new_active) → (OwesPassive me.0 → OwesPassive w ⊎ NoneWaits new_passive) → Stands IsFreshActive w me.0.active new_active → Stands IsFreshPassive w me.0.passive new_passive → x ≡ 2 → LosesNoneFull new_active new_passive (after w)
+        filling : (w : View) → (OwesActive me.0 → OwesActive w ⊎ NoneWaits new_active.waiting) → (OwesPassive me.0 → OwesPassive w ⊎ NoneWaits new_passive.waiting) → Stands IsFreshActive w me.0.active.waiting new_active.waiting → Stands IsFreshPassive w me.0.passive.waiting new_passive.waiting → x ≡ 2 → LosesNoneFull new_active new_passive (after w)
         filling w active passive all_active all_passive e = let k = known in let f = r.filled e in (
-          half OwesActive IsFreshActive w me.0.active new_active active all_active (subst (λ l. SomeSeat OwesActive s.views ⊎ AreOf IsFreshActive l s.views) (sym k.0) f.0),
-          half OwesPassive IsFreshPassive w me.0.passive new_passive passive all_passive (subst (λ l. SomeSeat OwesPassive s.views ⊎ AreOf IsFreshPassive l s.views) (sym k.1) f.1),
+          half OwesActive IsFreshActive w me.0.active.waiting new_active.waiting active all_active (subst (λ (l : Listed). SomeSeat OwesActive s.views ⊎ AreOf IsFreshActive l.waiting s.views) (sym k.0) f.0),
+          half OwesPassive IsFreshPassive w me.0.passive.waiting new_passive.waiting passive all_passive (subst (λ (l : Listed). SomeSeat OwesPassive s.views ⊎ AreOf IsFreshPassive l.waiting s.views) (sym k.1) f.1),
         )
 
-        fewer : (P : ℕ → View → Type 0) (w : View) (old new : List ℕ) → Fewer old new → ((k : ℕ) → P k me.0 → P k w) → Stands P w old new
-        fewer P w old new all good k h = inl (all k h, good k)
-
-        told_still : (w : View) → StaysTold me.0.marked new_active new_marked → 0 < me.0.marked → Ends w
+        told_still : (w : View) → KeepsTold me.0.active new_active → 0 < me.0.active.notified → Ends w
         told_still w kept m = ⊎_elim (λ a. inl a) (λ none. inr (inr none)) (kept m)
 
-        -- its entry has joined
-        pub joins_active : (k : ℕ) → JoinedBy k me.0.active new_active → Fewer me.0.passive new_passive → me.0.marked ≤ new_marked → me.0.in_active ≡ false → me.0.in_passive ≡ false → R (stepped s 1 n id me.1 (joined_active_of k me.0) gives)
-        joins_active k joined passive more away off = let w : View = joined_active_of k me.0 in
-            let act : Stands IsFreshActive w me.0.active new_active = λ j h. ⊎_elim (λ old. inl (old, λ f. never (sym away ∙ f.1))) (λ e. inr (refl, refl, sym e)) (joined j h) in
-            let pas : Stands IsFreshPassive w me.0.passive new_passive = fewer IsFreshPassive w me.0.passive new_passive passive (λ j f. never (sym off ∙ f.1)) in
-            returned w refl (refl, refl, refl) (emptying w (λ m. inl (omega arith)) (λ o. inr (inl o)) act) (filling w (λ o. inl o) (λ o. inl o) act pas)
+        abbrev Active : View → Type 0
+        Active w = Stands IsFreshActive w me.0.active.waiting new_active.waiting
 
-        pub joins_passive : (k : ℕ) → Fewer me.0.active new_active → JoinedBy k me.0.passive new_passive → me.0.marked ≤ new_marked → me.0.in_active ≡ false → me.0.in_passive ≡ false → R (stepped s 1 n id me.1 (joined_passive_of k me.0) gives)
+        abbrev Passive : View → Type 0
+        Passive w = Stands IsFreshPassive w me.0.passive.waiting new_passive.waiting
+
+        active_fewer : (w : View) → KeepsEntries me.0.active new_active → ((k : ℕ) → IsFreshActive k me.0 → IsFreshActive k w) → Active w
+        active_fewer w all = fewer IsFreshActive w me.0.active.waiting new_active.waiting all.1
+
+        passive_fewer : (w : View) → KeepsEntries me.0.passive new_passive → ((k : ℕ) → IsFreshPassive k me.0 → IsFreshPassive k w) → Passive w
+        passive_fewer w all = fewer IsFreshPassive w me.0.passive.waiting new_passive.waiting all.1
+
+        -- its entry has joined
+        pub joins_active : (k : ℕ) → HasJoined k me.0.active new_active → KeepsEntries me.0.passive new_passive → me.0.active.notified ≤ new_active.notified → me.0.in_active ≡ false → me.0.in_passive ≡ false → R (stepped s 1 n id me.1 (joined_active_of k me.0) gives)
+        joins_active k joined passive more away off = let w : View = joined_active_of k me.0 in
+            let act : Active w = λ j h. ⊎_elim (λ old. inl (old, λ f. never (sym away ∙ f.1.0))) (λ e. inr (refl, (refl, sym e))) (joined.1 j h) in
+            let pas = passive_fewer w passive (λ j f. never (sym off ∙ f.1.0)) in
+            let stood : Stood w = (
+              (λ j h. ⊎_elim (λ old. inl (old, λ q. never (sym away ∙ q.0))) (λ e. inr (refl, sym e)) (joined_by k me.0.active.entries j (subst (Has j) joined.0 h))),
+              λ j h. inl (subst (Has j) passive.0 h, λ q. never (sym off ∙ q.0)),
+            ) in
+            returned w refl (refl, refl, refl) stood (emptying w (λ m. inl (omega arith)) (λ o. inr (inl o)) act) (filling w (λ o. inl o) (λ o. inl o) act pas)
+
+        pub joins_passive : (k : ℕ) → KeepsEntries me.0.active new_active → HasJoined k me.0.passive new_passive → me.0.active.notified ≤ new_active.notified → me.0.in_active ≡ false → me.0.in_passive ≡ false → R (stepped s 1 n id me.1 (joined_passive_of k me.0) gives)
         joins_passive k active joined more away off = let w : View = joined_passive_of k me.0 in
-            let act : Stands IsFreshActive w me.0.active new_active = fewer IsFreshActive w me.0.active new_active active (λ j f. never (sym away ∙ f.1)) in
-            let pas : Stands IsFreshPassive w me.0.passive new_passive = λ j h. ⊎_elim (λ old. inl (old, λ f. never (sym off ∙ f.1))) (λ e. inr (refl, refl, sym e)) (joined j h) in
-            returned w refl (refl, refl, refl) (emptying w (λ m. inl (omega arith)) (λ o. inr (inl o)) act) (filling w (λ o. inl o) (λ o. inl o) act pas)
+            let act = active_fewer w active (λ j f. never (sym away ∙ f.1.0)) in
+            let pas : Passive w = λ j h. ⊎_elim (λ old. inl (old, λ f. never (sym off ∙ f.1.0))) (λ e. inr (refl, (refl, sym e))) (joined.1 j h) in
+            let stood : Stood w = (
+              (λ j h. inl (subst (Has j) active.0 h, λ q. never (sym away ∙ q.0))),
+              λ j h. ⊎_elim (λ old. inl (old, λ q. never (sym off ∙ q.0))) (λ e. inr (refl, sym e)) (joined_by k me.0.passive.entries j (subst (Has j) joined.0 h)),
+            ) in
+            returned w refl (refl, refl, refl) stood (emptying w (λ m. inl (omega arith)) (λ o. inr (inl o)) act) (filling w (λ o. inl o) (λ o. inl o) act pas)
 
         -- its entry was notified, and has left: it owes
-        pub hears : Fewer me.0.active new_active → Fewer me.0.passive new_passive → me.0.fresh ≡ false → R (stepped s 1 n id me.1 (told_of me.0) gives)
-        hears active passive looked = let w : View = told_of me.0 in
-            let act = fewer IsFreshActive w me.0.active new_active active (λ j f. never (sym looked ∙ f.0)) in let pas = fewer IsFreshPassive w me.0.passive new_passive passive (λ j f. never (sym looked ∙ f.0)) in
-            returned w refl (refl, refl, refl) (emptying w (λ _. inr (inl (inl refl))) (λ _. inr (inl (inl refl))) act) (filling w (λ o. inl o) (λ o. inl o) act pas)
+        pub hears : HasLeft me.0.entry me.0.active new_active → KeepsEntries me.0.passive new_passive → R (stepped s 1 n id me.1 (told_of me.0) gives)
+        hears left passive = let w : View = told_of me.0 in
+            let act : Active w = λ j h. let l = left.1 j h in inl (l.0, λ f. absurd (l.1 (sym f.1.1))) in let pas = passive_fewer w passive (λ j f. f) in
+            let stood : Stood w = ((λ j h. let l = left.0 j h in inl (l.0, λ q. absurd (l.1 (sym q.1)))), λ j h. inl (subst (Has j) passive.0 h, λ q. q)) in
+            returned w refl (refl, refl, refl) stood (emptying w (λ _. inr (inl (inl refl))) (λ _. inr (inl (inl refl))) act) (filling w (λ o. inl o) (λ o. inl o) act pas)
 
         -- its entry has left, and what it was told has gone on
-        pub leaves : Fewer me.0.active new_active → Fewer me.0.passive new_passive → StaysTold me.0.marked new_active new_marked → (me.0.fresh ≡ true → me.0.in_active ≡ true → LeftBy me.0.entry me.0.active new_active)
-            → (me.0.fresh ≡ true → me.0.in_passive ≡ true → LeftBy me.0.entry me.0.passive new_passive) → R (stepped s 1 n id me.1 (gone_of me.0) gives)
-        leaves active passive kept left_active left_passive = let w : View = gone_of me.0 in
-            let act : Stands IsFreshActive w me.0.active new_active = λ j h. inl (active j h, λ f. absurd ((left_active f.0 f.1 j h).1 (sym f.2))) in
-            let pas : Stands IsFreshPassive w me.0.passive new_passive = λ j h. inl (passive j h, λ f. absurd ((left_passive f.0 f.1 j h).1 (sym f.2))) in
-            returned w refl (refl, refl, refl) (emptying w (told_still w kept) (λ o. inr (inl o)) act) (filling w (λ o. inl o) (λ o. inl o) act pas)
+        pub leaves : LeftIf me.0.in_active me.0.entry me.0.active new_active → LeftIf me.0.in_passive me.0.entry me.0.passive new_passive → KeepsTold me.0.active new_active → R (stepped s 1 n id me.1 (gone_of me.0) gives)
+        leaves active passive kept = let w : View = gone_of me.0 in
+            let a = left_if me.0.in_active me.0.entry me.0.active new_active active in let p = left_if me.0.in_passive me.0.entry me.0.passive new_passive passive in
+            let act : Active w = λ j h. let l = a.1 j h in inl (l.0, λ f. absurd (l.1 f.1.0 (sym f.1.1))) in let pas : Passive w = λ j h. let l = p.1 j h in inl (l.0, λ f. absurd (l.1 f.1.0 (sym f.1.1))) in
+            let stood : Stood w = ((λ j h. let l = a.0 j h in inl (l.0, λ q. absurd (l.1 q.0 (sym q.1)))), λ j h. let l = p.0 j h in inl (l.0, λ q. absurd (l.1 q.0 (sym q.1)))) in
+            returned w refl (refl, refl, refl) stood (emptying w (told_still w kept) (λ o. inr (inl o)) act) (filling w (λ o. inl o) (λ o. inl o) act pas)
 
         -- it has notified one that would make
-        pub pays : Fewer me.0.active new_active → Fewer me.0.passive new_passive → (0 < new_marked) ⊎ NoneWaits new_active → R (stepped s 1 n id me.1 (paid_of me.0) gives)
+        pub pays : KeepsEntries me.0.active new_active → KeepsEntries me.0.passive new_passive → (0 < new_active.notified) ⊎ NoneWaits new_active.waiting → R (stepped s 1 n id me.1 (paid_of me.0) gives)
         pays active passive told = let w : View = paid_of me.0 in
             let end : Ends w = ⊎_elim (λ a. inl a) (λ none. inr (inr none)) told in
-            let act = fewer IsFreshActive w me.0.active new_active active (λ j f. f) in let pas = fewer IsFreshPassive w me.0.passive new_passive passive (λ j f. f) in
-            returned w refl (refl, refl, refl) (emptying w (λ _. end) (λ _. end) act) (filling w (λ o. inl o) (λ o. inl o) act pas)
+            let act = active_fewer w active (λ j f. f) in let pas = passive_fewer w passive (λ j f. f) in
+            returned w refl (refl, refl, refl) (keeps_place w refl refl refl active.0 passive.0) (emptying w (λ _. end) (λ _. end) act) (filling w (λ o. inl o) (λ o. inl o) act pas)
 
         -- all that would make
-        pub pays_active : NoneWaits new_active → Fewer me.0.passive new_passive → R (stepped s 1 n id me.1 (paid_active_of me.0) gives)
-        pays_active nobody_waits passive = let w : View = paid_active_of me.0 in
-            let end : Ends w = inr (inr nobody_waits) in
-            let act : Stands IsFreshActive w me.0.active new_active = λ j h. absurd (nobody_waits j h) in let pas = fewer IsFreshPassive w me.0.passive new_passive passive (λ j f. f) in
-            returned w refl (refl, refl, refl) (emptying w (λ _. end) (λ _. end) act) (filling w (λ _. inr nobody_waits) (λ o. inl o) act pas)
+        pub pays_active : AllTold me.0.active new_active → KeepsEntries me.0.passive new_passive → R (stepped s 1 n id me.1 (paid_active_of me.0) gives)
+        pays_active active passive = let w : View = paid_active_of me.0 in
+            let end : Ends w = inr (inr active.1) in
+            let act : Active w = λ j h. absurd (active.1 j h) in let pas = passive_fewer w passive (λ j f. f) in
+            returned w refl (refl, refl, refl) (keeps_place w refl refl refl active.0 passive.0) (emptying w (λ _. end) (λ _. end) act) (filling w (λ _. inr active.1) (λ o. inl o) act pas)
 
         -- all that wait
-        pub pays_passive : Fewer me.0.active new_active → NoneWaits new_passive → StaysTold me.0.marked new_active new_marked → R (stepped s 1 n id me.1 (paid_passive_of me.0) gives)
-        pays_passive active nobody_waits kept = let w : View = paid_passive_of me.0 in
-            let act = fewer IsFreshActive w me.0.active new_active active (λ j f. f) in let pas : Stands IsFreshPassive w me.0.passive new_passive = λ j h. absurd (nobody_waits j h) in
-            returned w refl (refl, refl, refl) (emptying w (told_still w kept) (λ o. inr (inl o)) act) (filling w (λ o. inl o) (λ _. inr nobody_waits) act pas)
+        pub pays_passive : KeepsEntries me.0.active new_active → AllTold me.0.passive new_passive → KeepsTold me.0.active new_active → R (stepped s 1 n id me.1 (paid_passive_of me.0) gives)
+        pays_passive active passive kept = let w : View = paid_passive_of me.0 in
+            let act = active_fewer w active (λ j f. f) in let pas : Passive w = λ j h. absurd (passive.1 j h) in
+            returned w refl (refl, refl, refl) (keeps_place w refl refl refl active.0 passive.0) (emptying w (told_still w kept) (λ o. inr (inl o)) act) (filling w (λ o. inl o) (λ _. inr passive.1) act pas)
 
         -- nothing has changed
-        pub remains : Fewer me.0.active new_active → Fewer me.0.passive new_passive → StaysTold me.0.marked new_active new_marked → R (stepped s 1 n id me.1 (back me.0) gives)
+        pub remains : KeepsEntries me.0.active new_active → KeepsEntries me.0.passive new_passive → KeepsTold me.0.active new_active → R (stepped s 1 n id me.1 (back me.0) gives)
         remains active passive kept = let w : View = back me.0 in
-            let act = fewer IsFreshActive w me.0.active new_active active (λ j f. f) in let pas = fewer IsFreshPassive w me.0.passive new_passive passive (λ j f. f) in
-            returned w refl (refl, refl, refl) (emptying w (told_still w kept) (λ o. inr (inl o)) act) (filling w (λ o. inl o) (λ o. inl o) act pas)
+            let act = active_fewer w active (λ j f. f) in let pas = passive_fewer w passive (λ j f. f) in
+            returned w refl (refl, refl, refl) (keeps_place w refl refl refl active.0 passive.0) (emptying w (told_still w kept) (λ o. inr (inl o)) act) (filling w (λ o. inl o) (λ o. inl o) act pas)

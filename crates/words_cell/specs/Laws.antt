@@ -1,5 +1,5 @@
 -- What the law speaks of: an empty and a full cell, its lists, and who is inside a call.
-use Rattle.std.specs.Prelude.{◌≡◌, ℕ, ◌%◌, true, false, slice_index}
+use Rattle.std.specs.Prelude.{◌≡◌, ℕ, ◌%◌, false, slice_index}
 use mathlib.Core.Option.{some}
 use lib.ListN.{get_elem?}
 use Rattle.atomic_table.specs.Table.{State}

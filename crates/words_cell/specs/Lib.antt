@@ -1,3 +1,4 @@
+pub mod Lists
 pub mod Rule
 pub mod Laws
 pub mod Seats

@@ -1,5 +1,6 @@
 -- What each step makes of a seat's view.
-use Rattle.std.specs.Prelude.{ℕ, ◌+◌, ◌&&◌, not, true, false, List, [], ◌∷◌}
+use Rattle.std.specs.Prelude.{ℕ, ◌+◌, ◌&&◌, not, true, false}
+use Rattle.words_cell.specs.Lists.{Listed, nobody}
 use Rattle.words_cell.specs.declared.view.View.{View}
 
 -- A look found this, and not a full cell.
@@ -41,30 +42,30 @@ having_found n v = record v { found = n }
 abbrev pub eased_of : View → View
 eased_of v = record v { owes = false; owes_active = false; owes_passive = false }
 
-abbrev pub listing_of : List ℕ → List ℕ → ℕ → View → View
-listing_of active passive marked v = record v { has_lists = true; active = active; passive = passive; marked = marked }
+abbrev pub listing_of : Listed → Listed → View → View
+listing_of active passive v = record v { has_lists = true; active = active; passive = passive }
 
 -- It has given the lists back.
 abbrev pub back : View → View
-back v = record v { has_lists = false; active = []; passive = []; marked = 0 }
+back v = record v { has_lists = false; active = nobody; passive = nobody }
 
 abbrev pub joined_active_of : ℕ → View → View
-joined_active_of n v = record v { in_active = true; fresh = true; entry = n; has_lists = false; active = []; passive = []; marked = 0 }
+joined_active_of n v = record v { in_active = true; fresh = true; entry = n; has_lists = false; active = nobody; passive = nobody }
 
 abbrev pub joined_passive_of : ℕ → View → View
-joined_passive_of n v = record v { in_passive = true; fresh = true; entry = n; has_lists = false; active = []; passive = []; marked = 0 }
+joined_passive_of n v = record v { in_passive = true; fresh = true; entry = n; has_lists = false; active = nobody; passive = nobody }
 
 abbrev pub told_of : View → View
-told_of v = record v { in_active = false; owes = true; has_lists = false; active = []; passive = []; marked = 0 }
+told_of v = record v { in_active = false; owes = true; has_lists = false; active = nobody; passive = nobody }
 
 abbrev pub gone_of : View → View
-gone_of v = record v { in_active = false; in_passive = false; fresh = false; has_lists = false; active = []; passive = []; marked = 0 }
+gone_of v = record v { in_active = false; in_passive = false; fresh = false; has_lists = false; active = nobody; passive = nobody }
 
 abbrev pub paid_of : View → View
-paid_of v = record v { owes = false; has_lists = false; active = []; passive = []; marked = 0 }
+paid_of v = record v { owes = false; has_lists = false; active = nobody; passive = nobody }
 
 abbrev pub paid_active_of : View → View
-paid_active_of v = record v { owes = false; owes_active = false; has_lists = false; active = []; passive = []; marked = 0 }
+paid_active_of v = record v { owes = false; owes_active = false; has_lists = false; active = nobody; passive = nobody }
 
 abbrev pub paid_passive_of : View → View
-paid_passive_of v = record v { owes_passive = false; has_lists = false; active = []; passive = []; marked = 0 }
+paid_passive_of v = record v { owes_passive = false; has_lists = false; active = nobody; passive = nobody }

@@ -1,7 +1,8 @@
 -- What steps tell, and what a seat has that has the lists out.
-use Rattle.std.specs.Prelude.{◌≡◌, ◌≢◌, ℕ, ◌%◌, ◌<◌, ◌≤◌, ◌⊎◌, true, List, [], ◌∷◌}
+use Rattle.std.specs.Prelude.{◌≡◌, ◌≢◌, ℕ, ◌%◌, ◌<◌, ◌≤◌, ◌⊎◌, Bool, true, false, [], ◌∷◌, ◌++◌}
 use Rattle.atomic_table.specs.Table.{Me, rest}
-use Rattle.words_base.specs.Waiting.{Has, NoneWaits, Fewer, JoinedBy, LeftBy, StaysTold, last_of}
+use Rattle.words_base.specs.Waiting.{NoneWaits, Fewer, JoinedBy, LeftBy, StaysTold}
+use Rattle.words_cell.specs.Lists.{Listed}
 use Rattle.words_cell.specs.Rule.{SaysEmpty}
 use Rattle.words_cell.specs.Seats.{saw_of, saw_full_of, claimed_of, missed_of, late_of, taken_by, having_found, eased_of, listing_of}
 use Rattle.words_cell.specs.declared.view.View.{View}
@@ -31,50 +32,74 @@ module _ {S : Type 0} where
 abbrev pub IsSame : View → View → Type 0
 IsSame v w = (w.makes ≡ v.makes) × (w.owes ≡ v.owes) × (w.owes_active ≡ v.owes_active) × (w.owes_passive ≡ v.owes_passive) × (w.in_active ≡ v.in_active) × (w.in_passive ≡ v.in_passive) × (w.fresh ≡ v.fresh) × (w.entry ≡ v.entry) × (w.found ≡ v.found) × (w.taken ≡ v.taken)
 
-module _ {S : Type 0} (active_of passive_of : S → List ℕ) (marked_of : S → ℕ) where
+module _ {S : Type 0} (active_of passive_of : S → Listed) where
   -- From an even word the seat has the lists, and knows what they have.
   abbrev pub Grabbed : Me S View → ℕ → Me S View → Type 0
-  Grabbed m r m' = (r % 2 ≡ 0 → (lists : S) × (m' ≡ (listing_of (active_of lists) (passive_of lists) (marked_of lists) m.0, (0, lists) ∷ m.1))) × (r % 2 ≡ 1 → m' ≡ m)
+  Grabbed m r m' = (r % 2 ≡ 0 → (lists : S) × (m' ≡ (listing_of (active_of lists) (passive_of lists) m.0, (0, lists) ∷ m.1))) × (r % 2 ≡ 1 → m' ≡ m)
 
   -- The seat has the lists out, and knows what they have.
   abbrev pub IsHeld : Me S View → Type 0
-  IsHeld m = (lists : S) × (m.0.has_lists ≡ true) × (m.0.active ≡ active_of lists) × (m.0.passive ≡ passive_of lists) × (m.0.marked ≡ marked_of lists) × (m.1 ≡ (0, lists) ∷ rest m.1)
+  IsHeld m = (lists : S) × (m.0.has_lists ≡ true) × (m.0.active ≡ active_of lists) × (m.0.passive ≡ passive_of lists) × (m.1 ≡ (0, lists) ∷ rest m.1)
+
+-- The same entries stand in the list, and none waits that didn't before.
+abbrev pub KeepsEntries : Listed → Listed → Type 0
+KeepsEntries old new = (new.entries ≡ old.entries) × Fewer old.waiting new.waiting
+
+-- The same entries stand in it, and all are notified.
+abbrev pub AllTold : Listed → Listed → Type 0
+AllTold old new = (new.entries ≡ old.entries) × NoneWaits new.waiting
+
+-- The entry of this number has joined at the back.
+abbrev pub HasJoined : ℕ → Listed → Listed → Type 0
+HasJoined k old new = (new.entries ≡ old.entries ++ k ∷ []) × JoinedBy k old.waiting new.waiting
+
+-- No entry of this number stands in it any more, notified or not.
+abbrev pub HasLeft : ℕ → Listed → Listed → Type 0
+HasLeft k old new = LeftBy k old.entries new.entries × LeftBy k old.waiting new.waiting
+
+-- The same of a list in which a seat stands; one in which it doesn't keeps its entries.
+abbrev pub LeftIf : Bool → ℕ → Listed → Listed → Type 0
+LeftIf true k old new = HasLeft k old new
+LeftIf false k old new = KeepsEntries old new
+
+-- If one was notified, one is, or nobody waits.
+abbrev pub KeepsTold : Listed → Listed → Type 0
+KeepsTold old new = StaysTold old.notified new.waiting new.notified
 
 -- The lists that are out with a seat may be given back with this word.
-module _ {S : Type 0} (active_of passive_of : S → List ℕ) (marked_of : S → ℕ) (m : Me S View) (n : ℕ) where
+module _ {S : Type 0} (active_of passive_of : S → Listed) (m : Me S View) (n : ℕ) where
   -- The lists are out with the seat, and the word says whether they have entries.
   abbrev pub Out : S → Type 0
-  Out lists = (m.0.has_lists ≡ true) × (m.1 ≡ (0, lists) ∷ rest m.1) × (n % 4 ≡ 0) × (SaysEmpty n → (active_of lists ≡ []) × (passive_of lists ≡ []))
+  Out lists = (m.0.has_lists ≡ true) × (m.1 ≡ (0, lists) ∷ rest m.1) × (n % 4 ≡ 0) × (SaysEmpty n → ((active_of lists).waiting ≡ []) × ((passive_of lists).waiting ≡ []))
 
   -- One has joined those that would make.
   abbrev pub CanJoinActive : ℕ → Type 0
-  CanJoinActive k = (lists : S) × Out lists × JoinedBy k m.0.active (active_of lists) × (last_of (active_of lists) ≡ k) × Fewer m.0.passive (passive_of lists) × (m.0.marked ≤ marked_of lists)
+  CanJoinActive k = (lists : S) × Out lists × HasJoined k m.0.active (active_of lists) × KeepsEntries m.0.passive (passive_of lists) × (m.0.active.notified ≤ (active_of lists).notified)
 
   -- One has joined those that wait.
   abbrev pub CanJoinPassive : ℕ → Type 0
-  CanJoinPassive k = (lists : S) × Out lists × Fewer m.0.active (active_of lists) × JoinedBy k m.0.passive (passive_of lists) × (last_of (passive_of lists) ≡ k) × (m.0.marked ≤ marked_of lists)
+  CanJoinPassive k = (lists : S) × Out lists × KeepsEntries m.0.active (active_of lists) × HasJoined k m.0.passive (passive_of lists) × (m.0.active.notified ≤ (active_of lists).notified)
 
-  -- One that was notified has left.
+  -- The seat's entry was notified, and has left those that would make.
   abbrev pub CanHear : Type 0
-  CanHear = (lists : S) × Out lists × Fewer m.0.active (active_of lists) × Fewer m.0.passive (passive_of lists)
+  CanHear = (lists : S) × Out lists × HasLeft m.0.entry m.0.active (active_of lists) × KeepsEntries m.0.passive (passive_of lists)
 
-  -- The seat's entry has left: what it was notified of has gone on.
+  -- The seat's entry has left the list in which it stood: what it was notified of has gone on.
   abbrev pub CanLeave : Type 0
-  CanLeave = (lists : S) × Out lists × Fewer m.0.active (active_of lists) × Fewer m.0.passive (passive_of lists) × StaysTold m.0.marked (active_of lists) (marked_of lists)
-      × (m.0.fresh ≡ true → m.0.in_active ≡ true → LeftBy m.0.entry m.0.active (active_of lists)) × (m.0.fresh ≡ true → m.0.in_passive ≡ true → LeftBy m.0.entry m.0.passive (passive_of lists))
+  CanLeave = (lists : S) × Out lists × LeftIf m.0.in_active m.0.entry m.0.active (active_of lists) × LeftIf m.0.in_passive m.0.entry m.0.passive (passive_of lists) × KeepsTold m.0.active (active_of lists)
 
   -- One that would make is notified.
   abbrev pub CanPay : Type 0
-  CanPay = (lists : S) × Out lists × Fewer m.0.active (active_of lists) × Fewer m.0.passive (passive_of lists) × ((0 < marked_of lists) ⊎ NoneWaits (active_of lists))
+  CanPay = (lists : S) × Out lists × KeepsEntries m.0.active (active_of lists) × KeepsEntries m.0.passive (passive_of lists) × ((0 < (active_of lists).notified) ⊎ NoneWaits (active_of lists).waiting)
 
   -- All that would make are.
   abbrev pub CanPayActive : Type 0
-  CanPayActive = (lists : S) × Out lists × NoneWaits (active_of lists) × Fewer m.0.passive (passive_of lists)
+  CanPayActive = (lists : S) × Out lists × AllTold m.0.active (active_of lists) × KeepsEntries m.0.passive (passive_of lists)
 
   -- All that wait are.
   abbrev pub CanPayPassive : Type 0
-  CanPayPassive = (lists : S) × Out lists × Fewer m.0.active (active_of lists) × NoneWaits (passive_of lists) × StaysTold m.0.marked (active_of lists) (marked_of lists)
+  CanPayPassive = (lists : S) × Out lists × KeepsEntries m.0.active (active_of lists) × AllTold m.0.passive (passive_of lists) × KeepsTold m.0.active (active_of lists)
 
-  -- Nobody waits that didn't before.
+  -- The same entries stand in both lists, and none waits that didn't before.
   abbrev pub CanStay : Type 0
-  CanStay = (lists : S) × Out lists × Fewer m.0.active (active_of lists) × Fewer m.0.passive (passive_of lists) × StaysTold m.0.marked (active_of lists) (marked_of lists)
+  CanStay = (lists : S) × Out lists × KeepsEntries m.0.active (active_of lists) × KeepsEntries m.0.passive (passive_of lists) × KeepsTold m.0.active (active_of lists)

@@ -15,5 +15,5 @@ mod view;
 pub use laws::no_lost_wakeup;
 pub use list_word::{take_out, wake_next};
 pub use plays::Keep;
-pub use rule::{CellRule, Content, Numbered};
+pub use rule::{CellRule, Content};
 pub use view::View;

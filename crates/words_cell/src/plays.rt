@@ -75,7 +75,7 @@ pub(crate) struct Grabs;
 impl<S: Content> Play<S, View> for Grabs {
     ghost use Rattle.words_cell.specs.Steps.{Grabbed};
 
-    ghost then = { λ _ m r m'. Grabbed S.active S.passive S.marked m r m' };
+    ghost then = { λ _ m r m'. Grabbed S.active S.passive m r m' };
 }
 
 // The step that gives the lists back, where its entry stands last of those that would make.
@@ -87,7 +87,7 @@ impl<S: Content> Play<S, View> for JoinsActive {
     ghost use Rattle.words_base.specs.Waiting.{last_of};
     ghost use Rattle.words_cell.specs.Seats.{joined_active_of};
 
-    ghost then = { λ _ m _ m'. (lists : S) × (m.1 ≡ (0, lists) ∷ rest m.1) × (m' ≡ (joined_active_of (last_of (S.active lists)) m.0, rest m.1)) };
+    ghost then = { λ _ m _ m'. (lists : S) × (m.1 ≡ (0, lists) ∷ rest m.1) × (m' ≡ (joined_active_of (last_of (S.active lists).entries) m.0, rest m.1)) };
 }
 
 // The same, of those that wait.
@@ -99,7 +99,7 @@ impl<S: Content> Play<S, View> for JoinsPassive {
     ghost use Rattle.words_base.specs.Waiting.{last_of};
     ghost use Rattle.words_cell.specs.Seats.{joined_passive_of};
 
-    ghost then = { λ _ m _ m'. (lists : S) × (m.1 ≡ (0, lists) ∷ rest m.1) × (m' ≡ (joined_passive_of (last_of (S.passive lists)) m.0, rest m.1)) };
+    ghost then = { λ _ m _ m'. (lists : S) × (m.1 ≡ (0, lists) ∷ rest m.1) × (m' ≡ (joined_passive_of (last_of (S.passive lists).entries) m.0, rest m.1)) };
 }
 
 // The same, where its entry was notified, and has left those that would make: the seat owes.

@@ -9,9 +9,10 @@ use crate::plays::{
     Claims, Empties, Fills, Grabs, Hears, JoinsActive, JoinsPassive, Leaves, Looks, Pays,
     PaysActive, PaysPassive, Peeks, Stays, Takes,
 };
-use crate::rule::{CellRule, Content, Numbered};
+use crate::rule::{CellRule, Content};
 use crate::view::View;
 use atomic_table::{Seat as TableSeat, Shared};
+use words_base::Numbered;
 
 /// The tables of cells with their lists.
 pub type Ruled<S> = Shared<S, View, bool, CellRule>;
@@ -114,7 +115,7 @@ pub fn peek<S: Content>(shared: &Ruled<S>, inner: &mut TableSeat<S, View>) -> u6
 pub fn grab<S: Content>(shared: &Ruled<S>, inner: &mut TableSeat<S, View>) -> u64
     requires table { (inner.old.table_id ≡ shared.now.table_id) × (shared.now.table_id.words ≡ 2) }
     ensures table { inner.new.table_id ≡ inner.old.table_id }
-    ensures took { result % 2 ≡ 0 → IsHeld S.active S.passive S.marked inner.new.me × IsSame inner.old.me.0 inner.new.me.0 × (rest inner.new.me.1 ≡ inner.old.me.1) }
+    ensures took { result % 2 ≡ 0 → IsHeld S.active S.passive inner.new.me × IsSame inner.old.me.0 inner.new.me.0 × (rest inner.new.me.1 ≡ inner.old.me.1) }
     ensures not { result % 2 ≢ 0 → inner.new.me ≡ inner.old.me }
 {
     shared.fetch_or::<Grabs>(inner, LIST, OUT)
@@ -125,7 +126,7 @@ pub fn grab<S: Content>(shared: &Ruled<S>, inner: &mut TableSeat<S, View>) -> u6
 pub fn grab_asleep<S: Content>(shared: &Ruled<S>, inner: &mut TableSeat<S, View>) -> u64
     requires table { (inner.old.table_id ≡ shared.now.table_id) × (shared.now.table_id.words ≡ 2) }
     ensures table { inner.new.table_id ≡ inner.old.table_id }
-    ensures took { result % 2 ≡ 0 → IsHeld S.active S.passive S.marked inner.new.me × IsSame inner.old.me.0 inner.new.me.0 × (rest inner.new.me.1 ≡ inner.old.me.1) }
+    ensures took { result % 2 ≡ 0 → IsHeld S.active S.passive inner.new.me × IsSame inner.old.me.0 inner.new.me.0 × (rest inner.new.me.1 ≡ inner.old.me.1) }
     ensures not { result % 2 ≢ 0 → inner.new.me ≡ inner.old.me }
 {
     shared.fetch_or::<Grabs>(inner, LIST, OUT_AND_ASLEEP)
@@ -140,7 +141,7 @@ pub fn give_joined_active<S: Content, N: Numbered>(
     entry: &N,
 ) -> u64
     requires table { (inner.old.table_id ≡ shared.now.table_id) × (shared.now.table_id.words ≡ 2) × (shared.now.table_id.slots ≡ 1) }
-    requires lists { CanJoinActive S.active S.passive S.marked inner.old.me new (N.number entry.now) }
+    requires lists { CanJoinActive S.active S.passive inner.old.me new (N.number entry.now) }
     requires away { (inner.old.me.0.in_active ≡ false) × (inner.old.me.0.in_passive ≡ false) }
     ensures table { inner.new.table_id ≡ inner.old.table_id }
     ensures step { inner.new.me ≡ (joined_active_of (N.number entry.now) inner.old.me.0, rest inner.old.me.1) }
@@ -158,7 +159,7 @@ pub fn give_joined_passive<S: Content, N: Numbered>(
     entry: &N,
 ) -> u64
     requires table { (inner.old.table_id ≡ shared.now.table_id) × (shared.now.table_id.words ≡ 2) × (shared.now.table_id.slots ≡ 1) }
-    requires lists { CanJoinPassive S.active S.passive S.marked inner.old.me new (N.number entry.now) }
+    requires lists { CanJoinPassive S.active S.passive inner.old.me new (N.number entry.now) }
     requires away { (inner.old.me.0.in_active ≡ false) × (inner.old.me.0.in_passive ≡ false) }
     ensures table { inner.new.table_id ≡ inner.old.table_id }
     ensures step { inner.new.me ≡ (joined_passive_of (N.number entry.now) inner.old.me.0, rest inner.old.me.1) }
@@ -171,8 +172,7 @@ pub fn give_joined_passive<S: Content, N: Numbered>(
 #[inline]
 pub fn give_told<S: Content>(shared: &Ruled<S>, inner: &mut TableSeat<S, View>, new: u64) -> u64
     requires table { (inner.old.table_id ≡ shared.now.table_id) × (shared.now.table_id.words ≡ 2) × (shared.now.table_id.slots ≡ 1) }
-    requires lists { CanHear S.active S.passive S.marked inner.old.me new }
-    requires stands { inner.old.me.0.fresh ≡ false }
+    requires lists { CanHear S.active S.passive inner.old.me new }
     ensures table { inner.new.table_id ≡ inner.old.table_id }
     ensures step { inner.new.me ≡ (told_of inner.old.me.0, rest inner.old.me.1) }
 {
@@ -183,7 +183,7 @@ pub fn give_told<S: Content>(shared: &Ruled<S>, inner: &mut TableSeat<S, View>, 
 #[inline]
 pub fn give_gone<S: Content>(shared: &Ruled<S>, inner: &mut TableSeat<S, View>, new: u64) -> u64
     requires table { (inner.old.table_id ≡ shared.now.table_id) × (shared.now.table_id.words ≡ 2) × (shared.now.table_id.slots ≡ 1) }
-    requires lists { CanLeave S.active S.passive S.marked inner.old.me new }
+    requires lists { CanLeave S.active S.passive inner.old.me new }
     ensures table { inner.new.table_id ≡ inner.old.table_id }
     ensures step { inner.new.me ≡ (gone_of inner.old.me.0, rest inner.old.me.1) }
 {
@@ -194,7 +194,7 @@ pub fn give_gone<S: Content>(shared: &Ruled<S>, inner: &mut TableSeat<S, View>, 
 #[inline]
 pub fn give_paid<S: Content>(shared: &Ruled<S>, inner: &mut TableSeat<S, View>, new: u64) -> u64
     requires table { (inner.old.table_id ≡ shared.now.table_id) × (shared.now.table_id.words ≡ 2) × (shared.now.table_id.slots ≡ 1) }
-    requires lists { CanPay S.active S.passive S.marked inner.old.me new }
+    requires lists { CanPay S.active S.passive inner.old.me new }
     ensures table { inner.new.table_id ≡ inner.old.table_id }
     ensures step { inner.new.me ≡ (paid_of inner.old.me.0, rest inner.old.me.1) }
 {
@@ -209,7 +209,7 @@ pub fn give_paid_active<S: Content>(
     new: u64,
 ) -> u64
     requires table { (inner.old.table_id ≡ shared.now.table_id) × (shared.now.table_id.words ≡ 2) × (shared.now.table_id.slots ≡ 1) }
-    requires lists { CanPayActive S.active S.passive S.marked inner.old.me new }
+    requires lists { CanPayActive S.active S.passive inner.old.me new }
     ensures table { inner.new.table_id ≡ inner.old.table_id }
     ensures step { inner.new.me ≡ (paid_active_of inner.old.me.0, rest inner.old.me.1) }
 {
@@ -224,7 +224,7 @@ pub fn give_paid_passive<S: Content>(
     new: u64,
 ) -> u64
     requires table { (inner.old.table_id ≡ shared.now.table_id) × (shared.now.table_id.words ≡ 2) × (shared.now.table_id.slots ≡ 1) }
-    requires lists { CanPayPassive S.active S.passive S.marked inner.old.me new }
+    requires lists { CanPayPassive S.active S.passive inner.old.me new }
     ensures table { inner.new.table_id ≡ inner.old.table_id }
     ensures step { inner.new.me ≡ (paid_passive_of inner.old.me.0, rest inner.old.me.1) }
 {
@@ -235,7 +235,7 @@ pub fn give_paid_passive<S: Content>(
 #[inline]
 pub fn give_same<S: Content>(shared: &Ruled<S>, inner: &mut TableSeat<S, View>, new: u64) -> u64
     requires table { (inner.old.table_id ≡ shared.now.table_id) × (shared.now.table_id.words ≡ 2) × (shared.now.table_id.slots ≡ 1) }
-    requires lists { CanStay S.active S.passive S.marked inner.old.me new }
+    requires lists { CanStay S.active S.passive inner.old.me new }
     ensures table { inner.new.table_id ≡ inner.old.table_id }
     ensures step { inner.new.me ≡ (back inner.old.me.0, rest inner.old.me.1) }
 {

@@ -1,7 +1,7 @@
 //! What a seat knows of itself.
 
-ghost use Rattle.std.specs.Prelude.{ℕ, List};
-ghost use Rattle.std.specs.Coded.{coded_list, coded_ℕ};
+ghost use Rattle.std.specs.Prelude.{ℕ};
+ghost use Rattle.words_cell.specs.Lists.{Listed, listed_coded};
 
 use std::marker::Model;
 
@@ -31,12 +31,10 @@ pub struct View {
     pub ghost filled: { ℕ },
     /// How often it has emptied the full cell.
     pub ghost taken: { ℕ },
-    /// Which entries waited to make the value when the seat took the lists out.
-    pub ghost active: { List ℕ } by { coded_list coded_ℕ },
-    /// Which entries waited for the value then.
-    pub ghost passive: { List ℕ } by { coded_list coded_ℕ },
-    /// How many of those that would make the value were notified then.
-    pub ghost marked: { ℕ },
+    /// The list of those that would make the value, as it was when the seat took the lists out.
+    pub ghost active: { Listed } by { listed_coded },
+    /// The list of those that only wait for it, as it was then.
+    pub ghost passive: { Listed } by { listed_coded },
 }
 
 impl Model for View {

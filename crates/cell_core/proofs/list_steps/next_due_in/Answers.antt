@@ -1,4 +1,3 @@
-use Rattle.cell_core.specs.Contents.{active_of, passive_of, marked_of}
 use Rattle.cell_core.proofs.Returning.{lent, stays}
 use Rattle.cell_core.proofs.list_steps.next_due_in.Goals as goal
 

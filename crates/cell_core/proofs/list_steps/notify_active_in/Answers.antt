@@ -1,4 +1,3 @@
-use Rattle.cell_core.specs.Contents.{active_of, passive_of, marked_of}
 use Rattle.cell_core.proofs.Returning.{lent, pays}
 use Rattle.cell_core.proofs.list_steps.notify_active_in.Goals as goal
 

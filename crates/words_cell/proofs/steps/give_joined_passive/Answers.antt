@@ -4,7 +4,7 @@ use Rattle.words_cell.proofs.Holding.{joined_passive_same}
 use Rattle.words_cell.proofs.steps.give_joined_passive.Goals as goal
 
 pub swap-requires : goal.swap-requires
-swap-requires g c = let t = c.requires.table.2 in (search rules, search rules, given_passive _ _ _ _ _ _ _ _ _ (omega (arith, t)) (g.N.Numbered.number c.args.entry.now) c.requires.lists c.requires.away.0 c.requires.away.1)
+swap-requires g c = let t = c.requires.table.2 in (search rules, search rules, given_passive _ _ _ _ _ _ _ _ (omega (arith, t)) (g.N.Numbered.number c.args.entry.now) c.requires.lists c.requires.away.0 c.requires.away.1)
 
 pub returns-clause-step : goal.returns-clause-step
-returns-clause-step g c = joined_passive_same _ _ _ c.args.inner.now.me c.args.new (g.N.Numbered.number c.args.entry.now) c.requires.lists _ c.swap.ensures.2
+returns-clause-step g c = joined_passive_same g.S.Content.active g.S.Content.passive c.args.inner.now.me c.args.new (g.N.Numbered.number c.args.entry.now) c.requires.lists _ c.swap.ensures.2
