@@ -149,7 +149,7 @@ impl RawBarrier {
     pub fn leave<R: Wait>(&self, rt: &R, seat: &mut Seat, id: EntryId, at: Place)
         requires of { IsOf self.now seat.old }
         requires course { IsAt at act.Leave seat.old }
-        requires own { seat.old.entry ≡ id.number }
+        requires own { (seat.old.listed ≡ true) × (seat.old.entry ≡ id.number) }
         ensures { seat.new ≡ goes at finds.Done (with_gone seat.old) }
     {
         self.remove(rt, seat, id);
@@ -159,7 +159,7 @@ impl RawBarrier {
     // The same, of a party that stays at its place.
     fn remove<R: Wait>(&self, rt: &R, seat: &mut Seat, id: EntryId)
         requires of { IsOf self.now seat.old }
-        requires own { seat.old.entry ≡ id.number }
+        requires own { (seat.old.listed ≡ true) × (seat.old.entry ≡ id.number) }
         ensures { seat.new ≡ with_gone seat.old }
     {
         let shared = &self.table.shared;
@@ -183,7 +183,7 @@ impl RawBarrier {
     ) -> Option<Whose>
         requires of { IsOf self.now seat.old }
         requires course { IsAt at act.Ask seat.old }
-        requires own { seat.old.entry ≡ id.number }
+        requires own { (seat.old.listed ≡ true) × (seat.old.entry ≡ id.number) }
         ensures told { IfNone result ((seat.new ≡ goes at finds.Yes (with_gone seat.old)) × (cx.new ≡ cx.old)) }
         ensures waits { IfSome result (λ whose. (seat.new ≡ goes at finds.No seat.old) × IsReceipt self.now.inner.source cx.new whose) }
         ensures kept { Keeps cx.old cx.new }
@@ -202,7 +202,7 @@ impl RawBarrier {
     fn ask_again<R: Wait>(&self, rt: &R, seat: &mut Seat, id: EntryId, at: Place) -> bool
         requires of { IsOf self.now seat.old }
         requires course { IsAt at act.Ask seat.old }
-        requires own { seat.old.entry ≡ id.number }
+        requires own { (seat.old.listed ≡ true) × (seat.old.entry ≡ id.number) }
         ensures told { result ≡ false → seat.new ≡ goes at finds.Yes (with_gone seat.old) }
         ensures waits { result ≡ true → seat.new ≡ goes at finds.No seat.old }
     {
@@ -219,7 +219,7 @@ impl RawBarrier {
     pub fn still_waits<R: Wait>(&self, rt: &R, seat: &mut Seat, joined: &Joined, at: Place) -> bool
         requires of { IsOf self.now seat.old }
         requires course { IsAt at act.Ask seat.old }
-        requires own { seat.old.entry ≡ joined.now.id.number }
+        requires own { (seat.old.listed ≡ true) × (seat.old.entry ≡ joined.now.id.number) }
         ensures told { result ≡ false → seat.new ≡ goes at finds.Yes (with_gone seat.old) }
         ensures waits { result ≡ true → seat.new ≡ goes at finds.No seat.old }
     {

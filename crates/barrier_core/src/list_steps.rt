@@ -195,6 +195,7 @@ pub(crate) fn give_asked<K>(
 ) -> Option<K>
     requires table { (inner.old.table_id ≡ shared.now.table_id) × (shared.now.table_id.words ≡ 2) × (shared.now.table_id.slots ≡ 1) }
     requires list { ByHeard heard (CanLeave waiting_of numbers_of inner.old.me word) (λ _. CanStay waiting_of numbers_of inner.old.me word) }
+    requires stands { inner.old.me.0.listed ≡ true }
     ensures table { inner.new.table_id ≡ inner.old.table_id }
     ensures told { IfNone result ((inner.new.me ≡ (gone_of inner.old.me.0, rest inner.old.me.1)) × ByHeard heard ⊤ (λ _. ⊥)) }
     ensures waits { IfSome result (λ kept. (inner.new.me ≡ (back inner.old.me.0, rest inner.old.me.1)) × (heard ≡ heard_as.Waits kept)) }
