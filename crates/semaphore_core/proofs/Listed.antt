@@ -1,5 +1,5 @@
 -- What the calls on a list do to who stands in it.
-use Rattle.std.proofs.Common.{eq-eqb, ◌≡◌, ◌≢◌, ℕ, zero, suc, ◌<◌, ◌≤◌, Bool, true, false, ◌||◌, ◌==◌, if◌then◌else◌, List, [], ◌∷◌, ◌++◌, refl, sym, ap, ◌∙◌, subst, arith, true≢false, MatchBool, Result, Ok, Err, IfOk, Option, None}
+use Rattle.std.proofs.Common.{eq-eqb, ◌≡◌, ◌≢◌, ℕ, zero, suc, ◌<◌, ◌≤◌, Bool, true, false, ◌||◌, ◌==◌, if◌then◌else◌, List, [], ◌∷◌, ◌++◌, refl, sym, ap, ◌∙◌, subst, arith, true≢false, MatchBool, Result, Ok, Err, IfOk, Option, None, length, ◌+◌}
 use Rattle.std.proofs.lemmas.Bool.{eqb-true, le-leb, leb-true}
 use mathlib.Core.Option.{some, some-injective, some-ne-none}
 use lib.ListN.{get_elem?}
@@ -92,16 +92,25 @@ module _ {W : Type 0} where
       by r true is = let w : weight (has_id id e.key) ≡ 1 = ap weight is in omega arith
       by r false is = let w : weight (has_id id e.key) ≡ 0 = ap weight is in let z = r (omega arith) in omega arith
 
+  long-without : (es : List (Entry (Slot (Load W)))) (id : EntryId) → length (waiters_in es) ≤ length (waiters_in (without (has_id id) es)) + 1
+  long-without [] id = omega arith
+  long-without (e ∷ es) id = by (long-without es id) (has_id id e.key)
+    where
+      by : length (waiters_in es) ≤ length (waiters_in (without (has_id id) es)) + 1 → (b : Bool) → length (waiters_in (e ∷ es)) ≤ length (waiters_in (if b then es else e ∷ without (has_id id) es)) + 1
+      by r true = omega arith
+      by r false = omega arith
+
   pub gone-without : (old new : List (Entry (Slot (Load W)))) (id : EntryId) → new ≡ without (has_id id) old → IsGone old new id.number
   gone-without old new id is = subst (λ (l : List (Entry (Slot (Load W)))). IsGone old l id.number) (sym is)
       (λ sound. (
         ((λ w s. sound.0 w (stood old id s.0 w s.1)), λ n. let f = fewer (is_of n) old id in let one = sound.1 n in omega arith),
-        λ w s. (stood old id s.0 w s.1, another (waiters_in (without (has_id id) old)) id.number w (gone old id (sound.1 id.number)) s),
+        (λ w s. (stood old id s.0 w s.1, another (waiters_in (without (has_id id) old)) id.number w (gone old id (sound.1 id.number)) s)),
+        long-without old id,
       ))
 
   -- nor is one left that wasn't there
   pub gone-unlisted : (old new : List (Entry (Slot (Load W)))) (id : EntryId) → is_listed (has_id id) old ≡ false → new ≡ old → IsGone old new id.number
-  gone-unlisted old new id absent is = subst (λ (l : List (Entry (Slot (Load W)))). IsGone old l id.number) (sym is) (λ sound. (sound, λ w s. (s, another (waiters_in old) id.number w (has-no old id absent) s)))
+  gone-unlisted old new id absent is = subst (λ (l : List (Entry (Slot (Load W)))). IsGone old l id.number) (sym is) (λ sound. (sound, (λ w s. (s, another (waiters_in old) id.number w (has-no old id absent) s)), omega arith))
 
   -- whoever leaves without asking
   pub withdrawn : (id : EntryId) (old new : List (Entry (Slot (Load W)))) (b : Bool) → b ≡ is_marked_at (has_id id) old → new ≡ without (has_id id) old → MatchBool b (IsGone old new id.number) (HasLeft old new id.number)

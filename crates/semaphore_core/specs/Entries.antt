@@ -1,5 +1,5 @@
 -- What calls on a list do, as far as the rule of the semaphore asks: who stands in it, and how many are notified.
-use Rattle.std.specs.Prelude.{◌≡◌, ℕ, ◌≤◌, List, [], ◌∷◌, ◌++◌}
+use Rattle.std.specs.Prelude.{◌≡◌, ℕ, ◌≤◌, List, [], ◌∷◌, ◌++◌, length, ◌+◌}
 use Rattle.lock_event.specs.Lists.{marked_count}
 use Rattle.weighted_event.specs.Loads.{weight_of}
 use Rattle.lock_event.specs.declared.event.Entry.{Entry}
@@ -22,9 +22,9 @@ module _ {W : Type 0} where
     abbrev pub IsSame : Type 0
     IsSame = (waiters_in new ≡ waiters_in old) × (marked_count new ≡ marked_count old)
 
-    -- No entry of this number is left: no two have one number, and none waits for nothing, if that was so before.
+    -- No entry of this number is left, and one entry has left at most: no two have one number, and none waits for nothing, if that was so before.
     abbrev pub IsGone : ℕ → Type 0
-    IsGone entry = IsSound (waiters_in old) → IsSound (waiters_in new) × LeftBy entry (waiters_in old) (waiters_in new)
+    IsGone entry = IsSound (waiters_in old) → IsSound (waiters_in new) × LeftBy entry (waiters_in old) (waiters_in new) × (length (waiters_in old) ≤ length (waiters_in new) + 1)
 
     -- This entry has left, which was not notified.
     abbrev pub HasLeft : ℕ → Type 0

@@ -1,6 +1,6 @@
 //! What is done to the list while it is out, and how it is given back.
 
-ghost use Rattle.std.specs.Prelude.{◌≡◌, ◌<◌, ⊤, false, IfNone, IfOk, IfSome, MatchBool, MatchResult};
+ghost use Rattle.std.specs.Prelude.{◌≡◌, ◌<◌, ⊤, false, IfNone, IfOk, IfSome, MatchBool, MatchResult, true};
 ghost use Rattle.futures.specs.Task.{Keeps};
 ghost use Rattle.atomic_table.specs.Table.{rest};
 ghost use Rattle.lock_queue.specs.Asking.{ByHeard};
@@ -177,7 +177,7 @@ pub(crate) fn give_left(
 ) -> u64
     requires table { (inner.old.table_id ≡ shared.now.table_id) × (shared.now.table_id.words ≡ 3) × (shared.now.table_id.slots ≡ 1) }
     requires list { MatchBool was_notified (CanHear queue_waiters queue_marked inner.old.me word id.number) (CanLeave queue_waiters queue_marked inner.old.me word id.number) }
-    requires own { inner.old.me.0.entry ≡ id.number }
+    requires own { (inner.old.me.0.listed ≡ true) × (inner.old.me.0.entry ≡ id.number) }
     ensures table { inner.new.table_id ≡ inner.old.table_id }
     ensures step { MatchBool was_notified (inner.new.me ≡ (told_of inner.old.me.0, rest inner.old.me.1)) (inner.new.me ≡ (gone_of inner.old.me.0, rest inner.old.me.1)) }
 {
@@ -223,7 +223,7 @@ pub(crate) fn give_asked<K>(
 ) -> Option<K>
     requires table { (inner.old.table_id ≡ shared.now.table_id) × (shared.now.table_id.words ≡ 3) × (shared.now.table_id.slots ≡ 1) }
     requires list { ByHeard heard (CanHear queue_waiters queue_marked inner.old.me word id.number) (λ _. CanStay queue_waiters queue_marked inner.old.me word) }
-    requires own { inner.old.me.0.entry ≡ id.number }
+    requires own { (inner.old.me.0.listed ≡ true) × (inner.old.me.0.entry ≡ id.number) }
     ensures table { inner.new.table_id ≡ inner.old.table_id }
     ensures told { IfNone result ((inner.new.me ≡ (told_of inner.old.me.0, rest inner.old.me.1)) × ByHeard heard ⊤ (λ _. ⊥)) }
     ensures waits { IfSome result (λ kept. (inner.new.me ≡ (back inner.old.me.0, rest inner.old.me.1)) × (heard ≡ heard_as.Waits kept)) }
