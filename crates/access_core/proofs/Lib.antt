@@ -1,1 +1,2 @@
 pub mod Returning
+pub mod Queues

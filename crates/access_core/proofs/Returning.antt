@@ -68,11 +68,11 @@ module _ (m : Me Lists View) (held : IsHeld readers_of writer_of m) where
       joined_readers number (Err b) f g = stays_readers g
 
       pub asked_readers : {K : Type 0} (k : ℕ) (h : Heard K) → m.0.entry ≡ k → ByHeard h (HasHeard (readers_of now) (readers_of left) k) (λ _. IsKept (readers_of now) (readers_of left)) → ByHeard h (CanHearReader readers_of writer_of After n) (λ _. CanStay readers_of writer_of After n)
-      asked_readers k (Told kept) is f = (left, out, subst (λ j. Hears j m.0.readers (readers_of left)) (sym is) (subst (λ l. Hears k l (readers_of left)) readers-now (f.fewer, f.stand)), writer_same other)
+      asked_readers k (Told kept) is f = (left, out, subst (λ j. Hears j m.0.readers (readers_of left)) (sym is) (subst (λ l. Hears k l (readers_of left)) readers-now (f.fewer, f.stand, f.size)), writer_same other)
       asked_readers k (Waits kept) is f = stays_readers f
 
       pub left_readers : (k : ℕ) → HasLeft (readers_of now) (readers_of left) k → m.0.entry ≡ k → CanLeaveReaders readers_of writer_of After n
-      left_readers k f is = (left, out, subst (λ j. Goes j m.0.readers (readers_of left)) (sym is) (subst (λ l. Goes k l (readers_of left)) readers-now (f.left, f.told, f.stand)), writer_same other)
+      left_readers k f is = (left, out, subst (λ j. Goes j m.0.readers (readers_of left)) (sym is) (subst (λ l. Goes k l (readers_of left)) readers-now (f.left, f.told, f.stand, f.size)), writer_same other)
 
       pub pays_readers : IsTold (readers_of now) (readers_of left) → CanPayReaders readers_of writer_of After n
       pays_readers f = (left, out, subst (λ l. Pays l (readers_of left)) readers-now (f.fewer, f.settled, f.stand), writer_same other)
@@ -87,11 +87,11 @@ module _ (m : Me Lists View) (held : IsHeld readers_of writer_of m) where
       joined_writer number (Err b) f g = stays_writer g
 
       pub asked_writer : {K : Type 0} (k : ℕ) (h : Heard K) → m.0.entry ≡ k → ByHeard h (HasHeard (writer_of now) (writer_of left) k) (λ _. IsKept (writer_of now) (writer_of left)) → ByHeard h (CanHearWriter readers_of writer_of After n) (λ _. CanStay readers_of writer_of After n)
-      asked_writer k (Told kept) is f = (left, out, readers_same other, subst (λ j. Hears j m.0.writer (writer_of left)) (sym is) (subst (λ l. Hears k l (writer_of left)) writer-now (f.fewer, f.stand)))
+      asked_writer k (Told kept) is f = (left, out, readers_same other, subst (λ j. Hears j m.0.writer (writer_of left)) (sym is) (subst (λ l. Hears k l (writer_of left)) writer-now (f.fewer, f.stand, f.size)))
       asked_writer k (Waits kept) is f = stays_writer f
 
       pub left_writer : (k : ℕ) → HasLeft (writer_of now) (writer_of left) k → m.0.entry ≡ k → CanLeaveWriter readers_of writer_of After n
-      left_writer k f is = (left, out, readers_same other, subst (λ j. Goes j m.0.writer (writer_of left)) (sym is) (subst (λ l. Goes k l (writer_of left)) writer-now (f.left, f.told, f.stand)))
+      left_writer k f is = (left, out, readers_same other, subst (λ j. Goes j m.0.writer (writer_of left)) (sym is) (subst (λ l. Goes k l (writer_of left)) writer-now (f.left, f.told, f.stand, f.size)))
 
       pub pays_writer : IsTold (writer_of now) (writer_of left) → CanPayWriter readers_of writer_of After n
       pays_writer f = (left, out, readers_same other, subst (λ l. Pays l (writer_of left)) writer-now (f.fewer, f.settled, f.stand))

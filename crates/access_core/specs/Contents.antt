@@ -1,5 +1,5 @@
 -- What lies in the slot: two lists, and what the calls on them do.
-use Rattle.std.specs.Prelude.{◌≡◌, ℕ, ◌≤◌, ◌%◌, [], ◌∷◌, ◌++◌}
+use Rattle.std.specs.Prelude.{◌≡◌, ℕ, ◌+◌, ◌≤◌, ◌%◌, [], ◌∷◌, ◌++◌, length}
 use Rattle.lock_event.specs.Lists.{marked_count}
 use Rattle.words_base.specs.Waiting.{Fewer, JoinedBy, LeftBy, StaysTold, last_of}
 use Rattle.words_access.specs.Laws.{IsSettled}
@@ -38,16 +38,18 @@ pub record HasJoined (old new : Listed) (n : ℕ) : Type 0 where
   pub notified : old.notified ≤ new.notified
   pub stand : new.entries ≡ old.entries ++ n ∷ []
 
--- Nobody waits that didn't before, and no entry of this number is there any more.
+-- Nobody waits that didn't before, no entry of this number is there any more, and one has left at most.
 pub record HasHeard (old new : Listed) (n : ℕ) : Type 0 where
   pub fewer : Fewer old.waiting new.waiting
   pub stand : LeftBy n old.entries new.entries
+  pub size : length old.entries ≤ length new.entries + 1
 
--- No entry of this number is there any more; and if one was notified, one is, or nobody waits.
+-- No entry of this number is there any more, and one has left at most; and if one was notified, one is, or nobody waits.
 pub record HasLeft (old new : Listed) (n : ℕ) : Type 0 where
   pub left : LeftBy n old.waiting new.waiting
   pub told : StaysTold old.notified new.waiting new.notified
   pub stand : LeftBy n old.entries new.entries
+  pub size : length old.entries ≤ length new.entries + 1
 
 -- One is notified, unless nobody waits; and the same entries stand in it.
 pub record IsTold (old new : Listed) : Type 0 where

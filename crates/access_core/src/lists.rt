@@ -91,6 +91,7 @@ impl Lists {
         self.readers.join_waking(alloc, source, cx)
     }
 
+    #[tactic(auto, using(crate::proofs::Queues::shorter))]
     pub(crate) fn ask_readers(
         &mut self,
         id: EntryId,
@@ -105,6 +106,7 @@ impl Lists {
         self.readers.ask(id, source, cx)
     }
 
+    #[tactic(auto, using(crate::proofs::Queues::shorter))]
     pub(crate) fn ask_readers_again(&mut self, id: EntryId) -> Heard<()>
         ensures asked { ByHeard result (HasHeard (readers_of self.old) (readers_of self.new) id.number) (λ _. IsKept (readers_of self.old) (readers_of self.new)) }
         ensures other { writer_of self.new ≡ writer_of self.old }
@@ -112,6 +114,7 @@ impl Lists {
         self.readers.ask_again(id)
     }
 
+    #[tactic(auto, using(crate::proofs::Queues::shorter))]
     pub(crate) fn leave_readers(&mut self, id: EntryId) -> (Option<Waker>, Due)
         ensures left { HasLeft (readers_of self.old) (readers_of self.new) id.number }
         ensures other { writer_of self.new ≡ writer_of self.old }
@@ -149,6 +152,7 @@ impl Lists {
         self.writer.join_waking(alloc, source, cx)
     }
 
+    #[tactic(auto, using(crate::proofs::Queues::shorter))]
     pub(crate) fn ask_writer(
         &mut self,
         id: EntryId,
@@ -163,6 +167,7 @@ impl Lists {
         self.writer.ask(id, source, cx)
     }
 
+    #[tactic(auto, using(crate::proofs::Queues::shorter))]
     pub(crate) fn ask_writer_again(&mut self, id: EntryId) -> Heard<()>
         ensures asked { ByHeard result (HasHeard (writer_of self.old) (writer_of self.new) id.number) (λ _. IsKept (writer_of self.old) (writer_of self.new)) }
         ensures other { readers_of self.new ≡ readers_of self.old }
@@ -170,6 +175,7 @@ impl Lists {
         self.writer.ask_again(id)
     }
 
+    #[tactic(auto, using(crate::proofs::Queues::shorter))]
     pub(crate) fn leave_writer(&mut self, id: EntryId) -> (Option<Waker>, Due)
         ensures left { HasLeft (writer_of self.old) (writer_of self.new) id.number }
         ensures other { readers_of self.new ≡ readers_of self.old }

@@ -1,5 +1,5 @@
 -- Each step on the table keeps its rule: of one state.
-use Rattle.std.proofs.Common.{◌≡◌, ◌≢◌, ℕ, zero, suc, ◌+◌, ◌*◌, ◌-◌, ◌/◌, ◌%◌, ◌^◌, ◌<◌, ◌≤◌, Bool, true, false, List, [], ◌∷◌, length, get_or, set, sym, refl, ap, ◌∙◌, subst, arith, ◌⊎◌, ⊎_elim, inl, inr, length-set, get_or-set_same, get_or-set_other}
+use Rattle.std.proofs.Common.{◌≡◌, ◌≢◌, ℕ, zero, suc, ◌+◌, ◌*◌, ◌-◌, ◌/◌, ◌%◌, ◌^◌, ◌<◌, ◌≤◌, Bool, true, false, List, [], ◌∷◌, ◌++◌, length, get_or, set, sym, refl, ap, ◌∙◌, subst, arith, ◌⊎◌, ⊎_elim, inl, inr, length-set, get_or-set_same, get_or-set_other}
 use mathlib.Core.Option.{some, some-injective, some-ne-none}
 use lib.ListN.{get_elem?}
 use Rattle.atomic_table.specs.Table.{State, Me, keeps, takes, gives, stepped, put_back, rest, opening}
@@ -8,13 +8,13 @@ use Rattle.words_base.specs.Sums.{weight, number}
 use Rattle.words_base.specs.Waiting.{Has, NoneWaits, SomeSeat, AreOf, JoinedBy, LeftBy}
 use Rattle.words_base.proofs.Sums.{number-set, number-at}
 use Rattle.words_access.specs.Lists.{Listed, nobody}
-use Rattle.words_access.specs.Rule.{first_view, marks_of, reads_of, writes_of, has_lists_out, OwesReaders, TellsWriter, IsEntryOfReaders, IsEntryOfWriter, IsFreshReader, IsFreshWriter, LosesNone, Nested, AllNested, IsState, SaysEmpty, Ruled}
+use Rattle.words_access.specs.Rule.{first_view, marks_of, reads_of, writes_of, has_lists_out, is_in_readers, is_in_writer, OwesReaders, TellsWriter, IsEntryOfReaders, IsEntryOfWriter, IsFreshReader, IsFreshWriter, LosesNone, Nested, AllNested, IsState, SaysEmpty, Ruled}
 use Rattle.words_access.specs.Laws.{IsSettled}
 use Rattle.words_access.specs.Seats.{having_found, saw_writer_of, saw_readers_of, reading_of, left_of, last_left_of, writing_of, marking_of, upgraded_of, down_of, unmarked_of, eased_of, listing_of, back, joined_readers_of, joined_writer_of, told_reader_of, told_writer_of, gone_reader_of, gone_writer_of, paid_readers_of, paid_writer_of}
 use Rattle.words_access.specs.Steps.{Stays, Joins, Hears, Goes, Pays}
 use Rattle.words_access.specs.declared.view.View.{View}
 use Rattle.words_access.proofs.Flags.{never, count_le, weight_le}
-use Rattle.words_base.proofs.Waiting.{joined_by}
+use Rattle.words_base.proofs.Waiting.{joined_by, length-pushed}
 use Rattle.words_base.proofs.Views.{own, apart, stays, all_stay}
 
 nested_set : (vs : List View) (id : ℕ) (w : View) → AllNested vs → Nested w → AllNested (set vs id w)
@@ -49,6 +49,8 @@ module _ (S : Type 0) (readers_of writer_of : S → Listed) where
       left = λ e. absurd (omega (arith, e));
       standing_readers = λ n h. absurd (subst (λ (l : Listed). Has n l.entries) a h);
       standing_writer = λ n h. absurd (subst (λ (l : Listed). Has n l.entries) p h);
+      placed_readers = omega arith;
+      placed_writer = omega arith;
       unlisted = λ _. (ap (λ (l : Listed). l.waiting) a, ap (λ (l : Listed). l.waiting) p);
       home = λ _. (lists, refl, refl, refl);
       out = nobody_out;
@@ -96,6 +98,12 @@ module _ (S : Type 0) (readers_of writer_of : S → Listed) where
     same : (f : View → Bool) (w : View) → f w ≡ f me.0 → number f (after w) ≡ number f s.views
     same f w e = let c = number-set f s.views id me.0 w at in let e' : weight (f w) ≡ weight (f me.0) = ap weight e in omega arith
 
+    readers_placed : (w : View) → w.in_readers ≡ me.0.in_readers → number is_in_readers (after w) ≤ length r.readers.entries
+    readers_placed w e = let c = same is_in_readers w e in let p = r.placed_readers in omega arith
+
+    writer_placed : (w : View) → w.in_writer ≡ me.0.in_writer → number is_in_writer (after w) ≤ length r.writer.entries
+    writer_placed w e = let c = same is_in_writer w e in let p = r.placed_writer in omega arith
+
     -- the state becomes n; what is known of the lists stays
     moved : (n : ℕ) (w : View) → IsState (set s.words 0 n) (after w) → Nested w → Leaves w → (n % 2 ≡ 0 → LosesNone OwesReaders IsFreshReader r.readers (after w)) → (n ≡ 1 → LosesNone TellsWriter IsFreshWriter r.writer (after w)) → R (stepped s 0 n id me.1 w keeps)
     moved n w state tidy left clear gone =
@@ -112,6 +120,8 @@ module _ (S : Type 0) (readers_of writer_of : S → Listed) where
           left = λ e. gone (sym here ∙ e);
           standing_readers = readers_stand w left;
           standing_writer = writer_stands w left;
+          placed_readers = readers_placed w left.3;
+          placed_writer = writer_placed w left.4;
           unlisted = λ low. r.unlisted (subst SaysEmpty there low);
           home = λ absent. r.home (sym out' ∙ absent);
           out = out_left w left;
@@ -278,6 +288,8 @@ module _ (S : Type 0) (readers_of writer_of : S → Listed) where
           left = λ e. gone (sym there ∙ e);
           standing_readers = readers_stand w left;
           standing_writer = writer_stands w left;
+          placed_readers = readers_placed w left.3;
+          placed_writer = writer_placed w left.4;
           unlisted = λ low. r.unlisted (below (subst SaysEmpty here low));
           home = λ absent. r.home (sym out' ∙ absent);
           out = out_left w left;
@@ -314,6 +326,8 @@ module _ (S : Type 0) (readers_of writer_of : S → Listed) where
             left = λ e. left_as w (λ o. o) (λ k f. f) (sym there ∙ e);
             standing_readers = all_stay s.views id me.0 at IsEntryOfReaders r.readers.entries w (λ k f. f) r.standing_readers;
             standing_writer = all_stay s.views id me.0 at IsEntryOfWriter r.writer.entries w (λ k f. f) r.standing_writer;
+            placed_readers = readers_placed w refl;
+            placed_writer = writer_placed w refl;
             unlisted = λ low. r.unlisted (below (subst SaysEmpty here low));
             home = λ absent. absurd (omega arith);
             out = out_set w (λ _. (h.2, h.3));
@@ -328,15 +342,19 @@ module _ (S : Type 0) (readers_of writer_of : S → Listed) where
       abbrev new_writer : Listed
       new_writer = writer_of lists
 
-      -- of one list no wake-up is lost then, and each entry is of a seat that stands in it, if it was so before
-      abbrev Turns : (View → Type 0) → (ℕ → View → Type 0) → (ℕ → View → Type 0) → Listed → Listed → View → Type 0
-      Turns O P Q old new w = (LosesNone O P old s.views → LosesNone O P new (after w)) × (AreOf Q old.entries s.views → AreOf Q new.entries (after w))
+      -- no more seats stand in a list than it has entries, if it was so before
+      abbrev Placed : (View → Bool) → View → List ℕ → List ℕ → Type 0
+      Placed stands w old new = number stands s.views ≤ length old → number stands (after w) ≤ length new
+
+      -- of one list no wake-up is lost then, each entry is of a seat that stands in it, and no more stand in it than it has entries, if it was so before
+      abbrev Turns : (View → Type 0) → (ℕ → View → Type 0) → (ℕ → View → Type 0) → (View → Bool) → Listed → Listed → View → Type 0
+      Turns O P Q stands old new w = (LosesNone O P old s.views → LosesNone O P new (after w)) × (AreOf Q old.entries s.views → AreOf Q new.entries (after w)) × Placed stands w old.entries new.entries
 
       abbrev ReadersTurn : View → Type 0
-      ReadersTurn w = Turns OwesReaders IsFreshReader IsEntryOfReaders me.0.readers new_readers w
+      ReadersTurn w = Turns OwesReaders IsFreshReader IsEntryOfReaders is_in_readers me.0.readers new_readers w
 
       abbrev WriterTurns : View → Type 0
-      WriterTurns w = Turns TellsWriter IsFreshWriter IsEntryOfWriter me.0.writer new_writer w
+      WriterTurns w = Turns TellsWriter IsFreshWriter IsEntryOfWriter is_in_writer me.0.writer new_writer w
 
       returned : (w : View) → w.has_lists ≡ false → Does w → Nested w → ReadersTurn w → WriterTurns w → R (stepped s 1 n id me.1 w gives)
       returned w off does tidy readers writer =
@@ -354,6 +372,8 @@ module _ (S : Type 0) (readers_of writer_of : S → Listed) where
             left = λ e. writer.0 (subst (λ l'. LosesNone TellsWriter IsFreshWriter l' s.views) (sym known.1) (r.left (sym there ∙ e)));
             standing_readers = readers.1 (subst (λ (l' : Listed). AreOf IsEntryOfReaders l'.entries s.views) (sym known.0) r.standing_readers);
             standing_writer = writer.1 (subst (λ (l' : Listed). AreOf IsEntryOfWriter l'.entries s.views) (sym known.1) r.standing_writer);
+            placed_readers = readers.2 (subst (λ (l' : Listed). number is_in_readers s.views ≤ length l'.entries) (sym known.0) r.placed_readers);
+            placed_writer = writer.2 (subst (λ (l' : Listed). number is_in_writer s.views ≤ length l'.entries) (sym known.1) r.placed_writer);
             unlisted = λ below. low (subst SaysEmpty here below);
             home = λ _. (lists, subst (λ (t : List (ℕ × S)). get_elem? (put_back s.homes t) 0 ≡ some (some lists)) (sym has) (set_here s.homes 0 (some lists) wide), refl, refl);
             out = λ i v e is. let m = number-at has_lists_out (after w) i v e in let q : weight (has_lists_out v) ≡ 1 = ap weight is in absurd (omega arith);
@@ -376,8 +396,19 @@ module _ (S : Type 0) (readers_of writer_of : S → Listed) where
         stand : Stands → AreOf P old s.views → AreOf P new (after w)
         stand all were k h = ⊎_elim (λ t. stays s.views id me.0 at (P k) w t.1 (were k t.0)) (λ p. its (P k) w p) (all k h)
 
-      -- what becomes of one list, of those who have to notify it, and of the fresh
-      module _ (O : View → Type 0) (P Q : ℕ → View → Type 0) (w : View) (old new : Listed) where
+      -- how many stand in it: as many as did, one more at most, or one less
+      module _ (stands : View → Bool) (w : View) (old new : List ℕ) where
+        same_placed : new ≡ old → stands w ≡ stands me.0 → Placed stands w old new
+        same_placed is e p = let c = same stands w e in let l : length new ≡ length old = ap length is in omega arith
+
+        joined_placed : (k : ℕ) → new ≡ old ++ k ∷ [] → Placed stands w old new
+        joined_placed k is p = let c = number-set stands s.views id me.0 w at in let one = weight_le (stands w) in let l : length new ≡ length old + 1 = ap length is ∙ length-pushed k old in omega arith
+
+        left_placed : length old ≤ length new + 1 → stands me.0 ≡ true → stands w ≡ false → Placed stands w old new
+        left_placed shorter was off p = let c = number-set stands s.views id me.0 w at in let a : weight (stands me.0) ≡ 1 = ap weight was in let b : weight (stands w) ≡ 0 = ap weight off in omega arith
+
+      -- what becomes of one list, of those who have to notify it, of the fresh, and of those who stand in it
+      module _ (O : View → Type 0) (P Q : ℕ → View → Type 0) (stands : View → Bool) (w : View) (old new : Listed) where
         -- one is notified, or the seat owes, or nobody waits
         abbrev Ends : Type 0
         Ends = (0 < new.notified) ⊎ (O w ⊎ NoneWaits new.waiting)
@@ -385,44 +416,45 @@ module _ (S : Type 0) (readers_of writer_of : S → Listed) where
         ends : Ends → LosesNone O P new (after w)
         ends e = ⊎_elim (λ m. inl m) (λ b. inr (⊎_elim (λ o. inl (its O w o)) (λ none. inr (λ k h. absurd (none k h))) b)) e
 
-        turned : (0 < old.notified → Ends) → (O me.0 → Ends) → Stands P w old.waiting new.waiting → Stands Q w old.entries new.entries → Turns O P Q old new w
-        turned told owed waits all = (
+        turned : (0 < old.notified → Ends) → (O me.0 → Ends) → Stands P w old.waiting new.waiting → Stands Q w old.entries new.entries → Placed stands w old.entries new.entries → Turns O P Q stands old new w
+        turned told owed waits all size = (
           (λ l. ⊎_elim (λ m. ends (told m))
               (λ b. ⊎_elim (λ c. ⊎_elim (λ o. ends (owed o)) (λ other. inr (inl (other w))) (apart s.views id me.0 at O c)) (λ fresh. inr (inr (stand P w old.waiting new.waiting waits fresh))) b) l),
           stand Q w old.entries new.entries all,
+          size,
         )
 
         settled : IsSettled new → Ends
         settled i = ⊎_elim (λ a. inl a) (λ none. inr (inr none)) i
 
         -- the list stays, as far as the rule asks
-        untouched : Stays old new → (O me.0 → O w) → ((k : ℕ) → P k me.0 → P k w) → ((k : ℕ) → Q k me.0 → Q k w) → Turns O P Q old new w
-        untouched st tells fresh same = turned (λ m. settled (st.1 m)) (λ o. inr (inl (tells o))) (λ k h. inl (st.0 k h, fresh k)) (same_stand Q w old.entries new.entries st.2 same)
+        untouched : Stays old new → (O me.0 → O w) → ((k : ℕ) → P k me.0 → P k w) → ((k : ℕ) → Q k me.0 → Q k w) → stands w ≡ stands me.0 → Turns O P Q stands old new w
+        untouched st tells fresh same_entry same_flag = turned (λ m. settled (st.1 m)) (λ o. inr (inl (tells o))) (λ k h. inl (st.0 k h, fresh k)) (same_stand Q w old.entries new.entries st.2 same_entry) (same_placed stands w old.entries new.entries st.2 same_flag)
 
       module _ (w : View) where
         abbrev EndsReaders : Type 0
-        EndsReaders = Ends OwesReaders IsFreshReader IsEntryOfReaders w me.0.readers new_readers
+        EndsReaders = Ends OwesReaders IsFreshReader IsEntryOfReaders is_in_readers w me.0.readers new_readers
 
         abbrev EndsWriter : Type 0
-        EndsWriter = Ends TellsWriter IsFreshWriter IsEntryOfWriter w me.0.writer new_writer
+        EndsWriter = Ends TellsWriter IsFreshWriter IsEntryOfWriter is_in_writer w me.0.writer new_writer
 
         readers_settled : IsSettled new_readers → EndsReaders
-        readers_settled = settled OwesReaders IsFreshReader IsEntryOfReaders w me.0.readers new_readers
+        readers_settled = settled OwesReaders IsFreshReader IsEntryOfReaders is_in_readers w me.0.readers new_readers
 
         writer_settled : IsSettled new_writer → EndsWriter
-        writer_settled = settled TellsWriter IsFreshWriter IsEntryOfWriter w me.0.writer new_writer
+        writer_settled = settled TellsWriter IsFreshWriter IsEntryOfWriter is_in_writer w me.0.writer new_writer
 
-        readers_turned : (0 < me.0.readers.notified → EndsReaders) → (OwesReaders me.0 → EndsReaders) → Stands IsFreshReader w me.0.readers.waiting new_readers.waiting → Stands IsEntryOfReaders w me.0.readers.entries new_readers.entries → ReadersTurn w
-        readers_turned = turned OwesReaders IsFreshReader IsEntryOfReaders w me.0.readers new_readers
+        readers_turned : (0 < me.0.readers.notified → EndsReaders) → (OwesReaders me.0 → EndsReaders) → Stands IsFreshReader w me.0.readers.waiting new_readers.waiting → Stands IsEntryOfReaders w me.0.readers.entries new_readers.entries → Placed is_in_readers w me.0.readers.entries new_readers.entries → ReadersTurn w
+        readers_turned = turned OwesReaders IsFreshReader IsEntryOfReaders is_in_readers w me.0.readers new_readers
 
-        writer_turned : (0 < me.0.writer.notified → EndsWriter) → (TellsWriter me.0 → EndsWriter) → Stands IsFreshWriter w me.0.writer.waiting new_writer.waiting → Stands IsEntryOfWriter w me.0.writer.entries new_writer.entries → WriterTurns w
-        writer_turned = turned TellsWriter IsFreshWriter IsEntryOfWriter w me.0.writer new_writer
+        writer_turned : (0 < me.0.writer.notified → EndsWriter) → (TellsWriter me.0 → EndsWriter) → Stands IsFreshWriter w me.0.writer.waiting new_writer.waiting → Stands IsEntryOfWriter w me.0.writer.entries new_writer.entries → Placed is_in_writer w me.0.writer.entries new_writer.entries → WriterTurns w
+        writer_turned = turned TellsWriter IsFreshWriter IsEntryOfWriter is_in_writer w me.0.writer new_writer
 
-        readers_stay : Stays me.0.readers new_readers → (OwesReaders me.0 → OwesReaders w) → ((k : ℕ) → IsFreshReader k me.0 → IsFreshReader k w) → ((k : ℕ) → IsEntryOfReaders k me.0 → IsEntryOfReaders k w) → ReadersTurn w
-        readers_stay = untouched OwesReaders IsFreshReader IsEntryOfReaders w me.0.readers new_readers
+        readers_stay : Stays me.0.readers new_readers → (OwesReaders me.0 → OwesReaders w) → ((k : ℕ) → IsFreshReader k me.0 → IsFreshReader k w) → ((k : ℕ) → IsEntryOfReaders k me.0 → IsEntryOfReaders k w) → w.in_readers ≡ me.0.in_readers → ReadersTurn w
+        readers_stay = untouched OwesReaders IsFreshReader IsEntryOfReaders is_in_readers w me.0.readers new_readers
 
-        writer_stays : Stays me.0.writer new_writer → (TellsWriter me.0 → TellsWriter w) → ((k : ℕ) → IsFreshWriter k me.0 → IsFreshWriter k w) → ((k : ℕ) → IsEntryOfWriter k me.0 → IsEntryOfWriter k w) → WriterTurns w
-        writer_stays = untouched TellsWriter IsFreshWriter IsEntryOfWriter w me.0.writer new_writer
+        writer_stays : Stays me.0.writer new_writer → (TellsWriter me.0 → TellsWriter w) → ((k : ℕ) → IsFreshWriter k me.0 → IsFreshWriter k w) → ((k : ℕ) → IsEntryOfWriter k me.0 → IsEntryOfWriter k w) → w.in_writer ≡ me.0.in_writer → WriterTurns w
+        writer_stays = untouched TellsWriter IsFreshWriter IsEntryOfWriter is_in_writer w me.0.writer new_writer
 
       -- its entry has joined
       pub joins_readers : (k : ℕ) → Joins k me.0.readers new_readers → Stays me.0.writer new_writer → me.0.in_readers ≡ false → me.0.in_writer ≡ false → R (stepped s 1 n id me.1 (joined_readers_of k me.0) gives)
@@ -430,62 +462,64 @@ module _ (S : Type 0) (readers_of writer_of : S → Listed) where
           returned w refl (refl, refl, refl) mine
           (readers_turned w (λ m. inl (omega arith)) (λ o. inr (inl o))
           (joined_stand IsFreshReader w me.0.readers.waiting new_readers.waiting k readers.0 (λ j f. never (sym away ∙ f.1.0)) (refl, (refl, refl)))
-          (joined_stand IsEntryOfReaders w me.0.readers.entries new_readers.entries k (subst (JoinedBy k me.0.readers.entries) (sym readers.3) (joined_by k me.0.readers.entries)) (λ j f. never (sym away ∙ f.0)) (refl, refl)))
-          (writer_stays w writer (λ o. o) (λ j f. never (sym off ∙ f.1.0)) (λ j f. never (sym off ∙ f.0)))
+          (joined_stand IsEntryOfReaders w me.0.readers.entries new_readers.entries k (subst (JoinedBy k me.0.readers.entries) (sym readers.3) (joined_by k me.0.readers.entries)) (λ j f. never (sym away ∙ f.0)) (refl, refl))
+          (joined_placed is_in_readers w me.0.readers.entries new_readers.entries k readers.3))
+          (writer_stays w writer (λ o. o) (λ j f. never (sym off ∙ f.1.0)) (λ j f. never (sym off ∙ f.0)) refl)
 
       pub joins_writer : (k : ℕ) → Stays me.0.readers new_readers → Joins k me.0.writer new_writer → me.0.in_readers ≡ false → me.0.in_writer ≡ false → me.0.marks ≡ true → R (stepped s 1 n id me.1 (joined_writer_of k me.0) gives)
       joins_writer k readers writer away off is = let w : View = joined_writer_of k me.0 in
           let m' : weight me.0.marks ≡ 1 = ap weight is in let t = mine.0 in let more = writer.2 in
           returned w refl (refl, refl, refl) (t, omega arith)
-          (readers_stay w readers (λ o. o) (λ j f. never (sym away ∙ f.1.0)) (λ j f. never (sym away ∙ f.0)))
+          (readers_stay w readers (λ o. o) (λ j f. never (sym away ∙ f.1.0)) (λ j f. never (sym away ∙ f.0)) refl)
           (writer_turned w (λ m. inl (omega arith)) (λ o. inr (inl o))
           (joined_stand IsFreshWriter w me.0.writer.waiting new_writer.waiting k writer.0 (λ j f. never (sym off ∙ f.1.0)) (refl, (refl, refl)))
-          (joined_stand IsEntryOfWriter w me.0.writer.entries new_writer.entries k (subst (JoinedBy k me.0.writer.entries) (sym writer.3) (joined_by k me.0.writer.entries)) (λ j f. never (sym off ∙ f.0)) (refl, refl)))
+          (joined_stand IsEntryOfWriter w me.0.writer.entries new_writer.entries k (subst (JoinedBy k me.0.writer.entries) (sym writer.3) (joined_by k me.0.writer.entries)) (λ j f. never (sym off ∙ f.0)) (refl, refl))
+          (joined_placed is_in_writer w me.0.writer.entries new_writer.entries k writer.3))
 
       -- its entry was notified, and has left: it owes
-      pub hears_reader : Hears me.0.entry me.0.readers new_readers → Stays me.0.writer new_writer → me.0.fresh ≡ false → R (stepped s 1 n id me.1 (told_reader_of me.0) gives)
-      hears_reader readers writer looked = let w : View = told_reader_of me.0 in
+      pub hears_reader : Hears me.0.entry me.0.readers new_readers → Stays me.0.writer new_writer → me.0.in_readers ≡ true → me.0.fresh ≡ false → R (stepped s 1 n id me.1 (told_reader_of me.0) gives)
+      hears_reader readers writer was looked = let w : View = told_reader_of me.0 in
           returned w refl (refl, refl, refl) mine
-          (readers_turned w (λ _. inr (inl refl)) (λ _. inr (inl refl)) (λ j h. inl (readers.0 j h, λ f. never (sym looked ∙ f.0))) (left_stand IsEntryOfReaders w me.0.readers.entries new_readers.entries readers.1 (λ j f. f.1)))
-          (writer_stays w writer (λ o. o) (λ j f. f) (λ j f. f))
+          (readers_turned w (λ _. inr (inl refl)) (λ _. inr (inl refl)) (λ j h. inl (readers.0 j h, λ f. never (sym looked ∙ f.0))) (left_stand IsEntryOfReaders w me.0.readers.entries new_readers.entries readers.1 (λ j f. f.1)) (left_placed is_in_readers w me.0.readers.entries new_readers.entries readers.2 was refl))
+          (writer_stays w writer (λ o. o) (λ j f. f) (λ j f. f) refl)
 
-      pub hears_writer : Stays me.0.readers new_readers → Hears me.0.entry me.0.writer new_writer → me.0.fresh ≡ false → R (stepped s 1 n id me.1 (told_writer_of me.0) gives)
-      hears_writer readers writer looked = let w : View = told_writer_of me.0 in let t = mine.0 in
+      pub hears_writer : Stays me.0.readers new_readers → Hears me.0.entry me.0.writer new_writer → me.0.in_writer ≡ true → me.0.fresh ≡ false → R (stepped s 1 n id me.1 (told_writer_of me.0) gives)
+      hears_writer readers writer was looked = let w : View = told_writer_of me.0 in let t = mine.0 in
           returned w refl (refl, refl, refl) (t, omega arith)
-          (readers_stay w readers (λ o. o) (λ j f. f) (λ j f. f))
-          (writer_turned w (λ _. inr (inl (inl refl))) (λ _. inr (inl (inl refl))) (λ j h. inl (writer.0 j h, λ f. never (sym looked ∙ f.0))) (left_stand IsEntryOfWriter w me.0.writer.entries new_writer.entries writer.1 (λ j f. f.1)))
+          (readers_stay w readers (λ o. o) (λ j f. f) (λ j f. f) refl)
+          (writer_turned w (λ _. inr (inl (inl refl))) (λ _. inr (inl (inl refl))) (λ j h. inl (writer.0 j h, λ f. never (sym looked ∙ f.0))) (left_stand IsEntryOfWriter w me.0.writer.entries new_writer.entries writer.1 (λ j f. f.1)) (left_placed is_in_writer w me.0.writer.entries new_writer.entries writer.2 was refl))
 
       -- its entry has left, and what it was told has gone on
-      pub leaves_readers : Goes me.0.entry me.0.readers new_readers → Stays me.0.writer new_writer → me.0.in_writer ≡ false → R (stepped s 1 n id me.1 (gone_reader_of me.0) gives)
-      leaves_readers readers writer off = let w : View = gone_reader_of me.0 in
+      pub leaves_readers : Goes me.0.entry me.0.readers new_readers → Stays me.0.writer new_writer → me.0.in_readers ≡ true → me.0.in_writer ≡ false → R (stepped s 1 n id me.1 (gone_reader_of me.0) gives)
+      leaves_readers readers writer was off = let w : View = gone_reader_of me.0 in
           returned w refl (refl, refl, refl) mine
-          (readers_turned w (λ m. readers_settled w (readers.1 m)) (λ o. inr (inl o)) (left_stand IsFreshReader w me.0.readers.waiting new_readers.waiting readers.0 (λ j f. f.1.1)) (left_stand IsEntryOfReaders w me.0.readers.entries new_readers.entries readers.2 (λ j f. f.1)))
-          (writer_stays w writer (λ o. o) (λ j f. never (sym off ∙ f.1.0)) (λ j f. f))
+          (readers_turned w (λ m. readers_settled w (readers.1 m)) (λ o. inr (inl o)) (left_stand IsFreshReader w me.0.readers.waiting new_readers.waiting readers.0 (λ j f. f.1.1)) (left_stand IsEntryOfReaders w me.0.readers.entries new_readers.entries readers.2 (λ j f. f.1)) (left_placed is_in_readers w me.0.readers.entries new_readers.entries readers.3 was refl))
+          (writer_stays w writer (λ o. o) (λ j f. never (sym off ∙ f.1.0)) (λ j f. f) refl)
 
-      pub leaves_writer : Stays me.0.readers new_readers → Goes me.0.entry me.0.writer new_writer → me.0.in_readers ≡ false → R (stepped s 1 n id me.1 (gone_writer_of me.0) gives)
-      leaves_writer readers writer away = let w : View = gone_writer_of me.0 in let t = mine.0 in
+      pub leaves_writer : Stays me.0.readers new_readers → Goes me.0.entry me.0.writer new_writer → me.0.in_writer ≡ true → me.0.in_readers ≡ false → R (stepped s 1 n id me.1 (gone_writer_of me.0) gives)
+      leaves_writer readers writer was away = let w : View = gone_writer_of me.0 in let t = mine.0 in
           returned w refl (refl, refl, refl) (t, omega arith)
-          (readers_stay w readers (λ o. o) (λ j f. never (sym away ∙ f.1.0)) (λ j f. f))
-          (writer_turned w (λ m. writer_settled w (writer.1 m)) (λ o. inr (inl o)) (left_stand IsFreshWriter w me.0.writer.waiting new_writer.waiting writer.0 (λ j f. f.1.1)) (left_stand IsEntryOfWriter w me.0.writer.entries new_writer.entries writer.2 (λ j f. f.1)))
+          (readers_stay w readers (λ o. o) (λ j f. never (sym away ∙ f.1.0)) (λ j f. f) refl)
+          (writer_turned w (λ m. writer_settled w (writer.1 m)) (λ o. inr (inl o)) (left_stand IsFreshWriter w me.0.writer.waiting new_writer.waiting writer.0 (λ j f. f.1.1)) (left_stand IsEntryOfWriter w me.0.writer.entries new_writer.entries writer.2 (λ j f. f.1)) (left_placed is_in_writer w me.0.writer.entries new_writer.entries writer.3 was refl))
 
       -- it has notified one
       pub pays_readers : Pays me.0.readers new_readers → Stays me.0.writer new_writer → R (stepped s 1 n id me.1 (paid_readers_of me.0) gives)
       pays_readers readers writer = let w : View = paid_readers_of me.0 in
           let end : EndsReaders w = readers_settled w readers.1 in
           returned w refl (refl, refl, refl) mine
-          (readers_turned w (λ _. end) (λ _. end) (λ j h. inl (readers.0 j h, λ f. f)) (same_stand IsEntryOfReaders w me.0.readers.entries new_readers.entries readers.2 (λ j f. f)))
-          (writer_stays w writer (λ o. o) (λ j f. f) (λ j f. f))
+          (readers_turned w (λ _. end) (λ _. end) (λ j h. inl (readers.0 j h, λ f. f)) (same_stand IsEntryOfReaders w me.0.readers.entries new_readers.entries readers.2 (λ j f. f)) (same_placed is_in_readers w me.0.readers.entries new_readers.entries readers.2 refl))
+          (writer_stays w writer (λ o. o) (λ j f. f) (λ j f. f) refl)
 
       pub pays_writer : Stays me.0.readers new_readers → Pays me.0.writer new_writer → R (stepped s 1 n id me.1 (paid_writer_of me.0) gives)
       pays_writer readers writer = let w : View = paid_writer_of me.0 in
           let end : EndsWriter w = writer_settled w writer.1 in
           returned w refl (refl, refl, refl) mine
-          (readers_stay w readers (λ o. o) (λ j f. f) (λ j f. f))
-          (writer_turned w (λ _. end) (λ _. end) (λ j h. inl (writer.0 j h, λ f. f)) (same_stand IsEntryOfWriter w me.0.writer.entries new_writer.entries writer.2 (λ j f. f)))
+          (readers_stay w readers (λ o. o) (λ j f. f) (λ j f. f) refl)
+          (writer_turned w (λ _. end) (λ _. end) (λ j h. inl (writer.0 j h, λ f. f)) (same_stand IsEntryOfWriter w me.0.writer.entries new_writer.entries writer.2 (λ j f. f)) (same_placed is_in_writer w me.0.writer.entries new_writer.entries writer.2 refl))
 
       -- nothing has changed
       pub remains : Stays me.0.readers new_readers → Stays me.0.writer new_writer → R (stepped s 1 n id me.1 (back me.0) gives)
-      remains readers writer = let w : View = back me.0 in returned w refl (refl, refl, refl) mine (readers_stay w readers (λ o. o) (λ j f. f) (λ j f. f)) (writer_stays w writer (λ o. o) (λ j f. f) (λ j f. f))
+      remains readers writer = let w : View = back me.0 in returned w refl (refl, refl, refl) mine (readers_stay w readers (λ o. o) (λ j f. f) (λ j f. f) refl) (writer_stays w writer (λ o. o) (λ j f. f) (λ j f. f) refl)
 
 -- ---- what the rule says of two seats: nobody reads or writes beside who writes
 pub alone_with : (S : Type 0) (readers_of writer_of : S → Listed) (s : State S View) → Ruled readers_of writer_of s → (i j : ℕ) (v w : View) → i ≢ j → get_elem? s.views i ≡ some v → get_elem? s.views j ≡ some w → v.writes ≡ true → (w.reads ≡ false) × (w.writes ≡ false)

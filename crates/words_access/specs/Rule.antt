@@ -24,6 +24,12 @@ writes_of v = v.writes
 abbrev pub has_lists_out : View → Bool
 has_lists_out v = v.has_lists
 
+abbrev pub is_in_readers : View → Bool
+is_in_readers v = v.in_readers
+
+abbrev pub is_in_writer : View → Bool
+is_in_writer v = v.in_writer
+
 -- It has to notify one of those that wait until the writer's bit is clear.
 abbrev pub OwesReaders : View → Type 0
 OwesReaders v = v.owes_readers ≡ true
@@ -88,6 +94,9 @@ pub record Ruled {S : Type 0} (readers_of writer_of : S → Listed) (s : State S
   -- each entry of a list, notified or not, is of a seat that stands in it
   pub standing_readers : AreOf IsEntryOfReaders readers.entries s.views
   pub standing_writer : AreOf IsEntryOfWriter writer.entries s.views
+  -- no more seats stand in a list than it has entries
+  pub placed_readers : number is_in_readers s.views ≤ length readers.entries
+  pub placed_writer : number is_in_writer s.views ≤ length writer.entries
   pub unlisted : SaysEmpty (slice_index s.words 1) → (readers.waiting ≡ []) × (writer.waiting ≡ [])
   pub home : number has_lists_out s.views ≡ 0 → (lists : S) × (get_elem? s.homes 0 ≡ some (some lists)) × (readers_of lists ≡ readers) × (writer_of lists ≡ writer)
   pub out : (i : ℕ) (v : View) → get_elem? s.views i ≡ some v → v.has_lists ≡ true → (v.readers ≡ readers) × (v.writer ≡ writer)

@@ -1,5 +1,5 @@
 -- What steps tell, and what a seat has that has the lists out.
-use Rattle.std.specs.Prelude.{◌≡◌, ◌≢◌, ℕ, ◌%◌, ◌<◌, ◌≤◌, true, [], ◌∷◌, ◌++◌}
+use Rattle.std.specs.Prelude.{◌≡◌, ◌≢◌, ℕ, ◌+◌, ◌%◌, ◌<◌, ◌≤◌, true, [], ◌∷◌, ◌++◌, length}
 use Rattle.atomic_table.specs.Table.{Me, rest}
 use Rattle.words_access.specs.Lists.{Listed}
 use Rattle.words_base.specs.Waiting.{Fewer, JoinedBy, LeftBy, StaysTold, last_of}
@@ -65,13 +65,13 @@ Stays old new = Fewer old.waiting new.waiting × StaysTold old.notified new.wait
 abbrev pub Joins : ℕ → Listed → Listed → Type 0
 Joins k old new = JoinedBy k old.waiting new.waiting × (last_of new.waiting ≡ k) × (old.notified ≤ new.notified) × (new.entries ≡ old.entries ++ k ∷ [])
 
--- The entry of this number was notified, and has left.
+-- The entry of this number was notified, and has left, and no other has.
 abbrev pub Hears : ℕ → Listed → Listed → Type 0
-Hears k old new = Fewer old.waiting new.waiting × LeftBy k old.entries new.entries
+Hears k old new = Fewer old.waiting new.waiting × LeftBy k old.entries new.entries × (length old.entries ≤ length new.entries + 1)
 
--- The entry of this number has left: what it was notified of has gone on.
+-- The entry of this number has left, and no other has: what it was notified of has gone on.
 abbrev pub Goes : ℕ → Listed → Listed → Type 0
-Goes k old new = LeftBy k old.waiting new.waiting × StaysTold old.notified new.waiting new.notified × LeftBy k old.entries new.entries
+Goes k old new = LeftBy k old.waiting new.waiting × StaysTold old.notified new.waiting new.notified × LeftBy k old.entries new.entries × (length old.entries ≤ length new.entries + 1)
 
 -- One is notified, or nobody waits; and the same entries stand in it.
 abbrev pub Pays : Listed → Listed → Type 0

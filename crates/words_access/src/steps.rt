@@ -244,7 +244,7 @@ pub fn give_told_reader<S: Content>(
 ) -> u64
     requires table { (inner.old.table_id ≡ shared.now.table_id) × (shared.now.table_id.words ≡ 2) × (shared.now.table_id.slots ≡ 1) }
     requires lists { CanHearReader S.readers S.writer inner.old.me new }
-    requires stands { inner.old.me.0.fresh ≡ false }
+    requires stands { (inner.old.me.0.in_readers ≡ true) × (inner.old.me.0.fresh ≡ false) }
     ensures seat { (inner.new.table_id ≡ inner.old.table_id) × (inner.new.id ≡ inner.old.id) }
     ensures step { inner.new.me ≡ (told_reader_of inner.old.me.0, rest inner.old.me.1) }
 {
@@ -260,7 +260,7 @@ pub fn give_told_writer<S: Content>(
 ) -> u64
     requires table { (inner.old.table_id ≡ shared.now.table_id) × (shared.now.table_id.words ≡ 2) × (shared.now.table_id.slots ≡ 1) }
     requires lists { CanHearWriter S.readers S.writer inner.old.me new }
-    requires stands { inner.old.me.0.fresh ≡ false }
+    requires stands { (inner.old.me.0.in_writer ≡ true) × (inner.old.me.0.fresh ≡ false) }
     ensures seat { (inner.new.table_id ≡ inner.old.table_id) × (inner.new.id ≡ inner.old.id) }
     ensures step { inner.new.me ≡ (told_writer_of inner.old.me.0, rest inner.old.me.1) }
 {
@@ -276,7 +276,7 @@ pub fn give_left_readers<S: Content>(
 ) -> u64
     requires table { (inner.old.table_id ≡ shared.now.table_id) × (shared.now.table_id.words ≡ 2) × (shared.now.table_id.slots ≡ 1) }
     requires lists { CanLeaveReaders S.readers S.writer inner.old.me new }
-    requires stands { inner.old.me.0.in_writer ≡ false }
+    requires stands { (inner.old.me.0.in_readers ≡ true) × (inner.old.me.0.in_writer ≡ false) }
     ensures seat { (inner.new.table_id ≡ inner.old.table_id) × (inner.new.id ≡ inner.old.id) }
     ensures step { inner.new.me ≡ (gone_reader_of inner.old.me.0, rest inner.old.me.1) }
 {
@@ -292,7 +292,7 @@ pub fn give_left_writer<S: Content>(
 ) -> u64
     requires table { (inner.old.table_id ≡ shared.now.table_id) × (shared.now.table_id.words ≡ 2) × (shared.now.table_id.slots ≡ 1) }
     requires lists { CanLeaveWriter S.readers S.writer inner.old.me new }
-    requires stands { inner.old.me.0.in_readers ≡ false }
+    requires stands { (inner.old.me.0.in_writer ≡ true) × (inner.old.me.0.in_readers ≡ false) }
     ensures seat { (inner.new.table_id ≡ inner.old.table_id) × (inner.new.id ≡ inner.old.id) }
     ensures step { inner.new.me ≡ (gone_writer_of inner.old.me.0, rest inner.old.me.1) }
 {
