@@ -7,6 +7,7 @@ use Rattle.words_cell.specs.Rule.{SaysEmpty}
 use Rattle.words_cell.specs.Steps.{KeepsEntries, KeepsTold, AllTold, HasJoined, HasLeft}
 use Rattle.lock_queue.specs.Entries.{numbers_in, waiting_in}
 use Rattle.lock_queue.specs.Queues.{entries_of}
+use Rattle.lock_queue.specs.Sizes.{IsOneLess}
 use Rattle.lock_queue.specs.declared.queue.Queue.{Queue}
 use Rattle.cell_core.specs.declared.lists.Lists.{Lists}
 
@@ -42,20 +43,23 @@ pub record HasJoinedPassive (old new : Lists) (n : ℕ) : Type 0 where
   pub joined : HasJoined n (passive_of old) (passive_of new)
   pub notified : (active_of old).notified ≤ (active_of new).notified
 
--- No entry of this number stands any more among those that would make.
+-- No entry of this number stands any more among those that would make, and one entry has left them at most.
 pub record HasHeardActive (old new : Lists) (n : ℕ) : Type 0 where
   pub left : HasLeft n (active_of old) (active_of new)
+  pub size : IsOneLess (entries_of old.active) (entries_of new.active)
   pub passive : KeepsEntries (passive_of old) (passive_of new)
 
 -- The same, of either list; and if one that would make was notified, one is, or none of them waits.
 pub record HasLeftActive (old new : Lists) (n : ℕ) : Type 0 where
   pub left : HasLeft n (active_of old) (active_of new)
+  pub size : IsOneLess (entries_of old.active) (entries_of new.active)
   pub passive : KeepsEntries (passive_of old) (passive_of new)
   pub told : KeepsTold (active_of old) (active_of new)
 
 pub record HasLeftPassive (old new : Lists) (n : ℕ) : Type 0 where
   pub active : KeepsEntries (active_of old) (active_of new)
   pub left : HasLeft n (passive_of old) (passive_of new)
+  pub size : IsOneLess (entries_of old.passive) (entries_of new.passive)
   pub told : KeepsTold (active_of old) (active_of new)
 
 -- One that would make is notified, all that would make are, and all that wait are.

@@ -9,7 +9,7 @@ use Rattle.words_base.specs.Sums.{weight}
 use Rattle.words_base.proofs.Sums.{number-none, number-snoc, total-snoc}
 use Rattle.words_base.specs.Waiting.{last_of}
 use Rattle.words_cell.specs.Lists.{Listed}
-use Rattle.words_cell.specs.Rule.{first_view, makes_of, has_lists_out, filled_of, taken_of, Ruled}
+use Rattle.words_cell.specs.Rule.{first_view, makes_of, is_in_active, is_in_passive, has_lists_out, filled_of, taken_of, Ruled}
 use Rattle.words_cell.specs.Seats.{saw_of, saw_full_of, claimed_of, missed_of, late_of, filled_by, emptied_by, taken_by, having_found, eased_of, listing_of, back, joined_active_of, joined_passive_of, told_of, gone_of, paid_of, paid_active_of, paid_passive_of}
 use Rattle.words_cell.specs.Steps.{Kept, Looked, Claimed, Took, Peeked, Grabbed, CanJoinActive, CanJoinPassive, CanHear, CanLeave, CanPay, CanPayActive, CanPayPassive, CanStay}
 use Rattle.words_cell.specs.declared.view.View.{View}
@@ -113,8 +113,8 @@ module _ (S : Type 0) (active_of passive_of : S → Listed) (start : Bool) where
         (c.0, c.1.1, ap (λ j. (joined_passive_of j me.0, rest me.1)) (sym (ap last_of (c.3).0 ∙ last-pushed k me.0.passive.entries))),
       )
 
-      pub given_told : CanHear active_of passive_of me new → Allows R slots id me 1 (λ _. new) (λ _ m'. m' ≡ (told_of me.0, rest me.1))
-      given_told c s r len at _ = (told_of me.0, gives, tt, hears S active_of passive_of start s id me r at c.0 new c.1.0 c.1.1 (subst (λ (z : ℕ). 0 < z) (sym len) wide) c.1.2 c.1.3 c.2 c.3, refl)
+      pub given_told : CanHear active_of passive_of me new → me.0.in_active ≡ true → Allows R slots id me 1 (λ _. new) (λ _ m'. m' ≡ (told_of me.0, rest me.1))
+      given_told c was s r len at _ = (told_of me.0, gives, tt, hears S active_of passive_of start s id me r at c.0 new c.1.0 c.1.1 (subst (λ (z : ℕ). 0 < z) (sym len) wide) c.1.2 c.1.3 c.2 c.3 c.4 was, refl)
 
       pub given_gone : CanLeave active_of passive_of me new → Allows R slots id me 1 (λ _. new) (λ _ m'. m' ≡ (gone_of me.0, rest me.1))
       given_gone c s r len at _ = (gone_of me.0, gives, tt, leaves S active_of passive_of start s id me r at c.0 new c.1.0 c.1.1 (subst (λ (z : ℕ). 0 < z) (sym len) wide) c.1.2 c.1.3 c.2 c.3 c.4, refl)
@@ -145,6 +145,8 @@ module _ (S : Type 0) (active_of passive_of : S → Listed) (start : Bool) where
           active = r.active;
           passive = r.passive;
           standing = ((λ n h. some-longer _ s.views w (r.standing.0 n h)), λ n h. some-longer _ s.views w (r.standing.1 n h));
+          placed_active = (let d = number-none is_in_active s.views w refl in let p = r.placed_active in omega arith);
+          placed_passive = (let d = number-none is_in_passive s.views w refl in let p = r.placed_passive in omega arith);
           empty = λ e. ⊎_elim (λ m. inl m) (λ b. inr (⊎_elim (λ c. inl (some-longer _ s.views w c)) (λ all. inr (λ n h. some-longer _ s.views w (all n h))) b)) (r.empty e);
           filled = λ e. let f = r.filled e in (
             ⊎_elim (λ c. inl (some-longer _ s.views w c)) (λ all. inr (λ n h. some-longer _ s.views w (all n h))) f.0,

@@ -1,5 +1,5 @@
 -- Each step on the table keeps its rule: of one state.
-use Rattle.std.proofs.Common.{◌≡◌, ◌≢◌, ℕ, zero, suc, ◌+◌, ◌*◌, ◌-◌, ◌%◌, ◌^◌, ◌<◌, ◌≤◌, Bool, true, false, List, [], ◌∷◌, length, get_or, set, sym, refl, ap, ◌∙◌, subst, arith, ◌⊎◌, ⊎_elim, inl, inr, length-set, get_or-set_same, get_or-set_other}
+use Rattle.std.proofs.Common.{◌≡◌, ◌≢◌, ℕ, zero, suc, ◌+◌, ◌*◌, ◌-◌, ◌%◌, ◌^◌, ◌<◌, ◌≤◌, Bool, true, false, List, [], ◌∷◌, ◌++◌, length, get_or, set, sym, refl, ap, ◌∙◌, subst, arith, ◌⊎◌, ⊎_elim, inl, inr, length-set, get_or-set_same, get_or-set_other}
 use mathlib.Core.Option.{some, some-injective, some-ne-none}
 use lib.ListN.{get_elem?}
 use Rattle.atomic_table.specs.Table.{State, Me, keeps, takes, gives, stepped, put_back, rest, opening}
@@ -8,18 +8,29 @@ use Rattle.words_base.specs.Sums.{weight, number, total}
 use Rattle.words_base.proofs.Sums.{number-set, number-at, total-set}
 use Rattle.words_base.specs.Waiting.{Has, NoneWaits, Fewer, SomeSeat, AreOf}
 use Rattle.words_cell.specs.Lists.{Listed, nobody}
-use Rattle.words_cell.specs.Rule.{first_view, makes_of, has_lists_out, filled_of, taken_of, Owes, OwesActive, OwesPassive, IsActiveEntryOf, IsPassiveEntryOf, IsFreshActive, IsFreshPassive, AllStand, LosesNoneEmpty, LosesNoneFull, IsCell, SaysEmpty, Ruled}
+use Rattle.words_cell.specs.Rule.{first_view, makes_of, is_in_active, is_in_passive, has_lists_out, filled_of, taken_of, Owes, OwesActive, OwesPassive, IsActiveEntryOf, IsPassiveEntryOf, IsFreshActive, IsFreshPassive, AllStand, LosesNoneEmpty, LosesNoneFull, IsCell, SaysEmpty, Ruled}
 use Rattle.words_cell.specs.Seats.{saw_of, saw_full_of, claimed_of, missed_of, late_of, filled_by, emptied_by, taken_by, having_found, eased_of, listing_of, back, joined_active_of, joined_passive_of, told_of, gone_of, paid_of, paid_active_of, paid_passive_of}
-use Rattle.words_cell.specs.Steps.{KeepsEntries, AllTold, HasJoined, HasLeft, LeftIf, KeepsTold}
+use Rattle.words_cell.specs.Steps.{KeepsEntries, AllTold, HasJoined, HasLeft, LosesOne, LeftIf, KeepsTold}
 use Rattle.words_cell.specs.declared.view.View.{View}
 use Rattle.words_cell.proofs.Flags.{never}
-use Rattle.words_base.proofs.Waiting.{joined_by}
+use Rattle.words_base.proofs.Waiting.{joined_by, length-pushed}
 use Rattle.words_base.proofs.Views.{own, apart, stays, all_stay as fresh_stays}
 
 -- no entry is new, and none is the seat's where it stands
 left_if : (b : Bool) (k : ℕ) (old new : Listed) → LeftIf b k old new → ((n : ℕ) → Has n new.entries → Has n old.entries × (b ≡ true → n ≢ k)) × ((n : ℕ) → Has n new.waiting → Has n old.waiting × (b ≡ true → n ≢ k))
-left_if true k old new left = ((λ n h. let l = left.0 n h in (l.0, λ _. l.1)), λ n h. let l = left.1 n h in (l.0, λ _. l.1))
+left_if true k old new left = ((λ n h. let l = left.0.0 n h in (l.0, λ _. l.1)), λ n h. let l = left.0.1 n h in (l.0, λ _. l.1))
 left_if false k old new kept = ((λ n h. (subst (Has n) kept.0 h, λ b. never b)), λ n h. (kept.1 n h, λ b. never b))
+
+-- as many entries, one more, and one less where the seat leaves
+same_size : (n : ℕ) (old new : List ℕ) → new ≡ old → length old + n ≤ length new + n
+same_size n old new same = let e : length new ≡ length old = ap length same in omega arith
+
+joined_size : (n k : ℕ) (old new : List ℕ) → new ≡ old ++ k ∷ [] → length old + 1 ≤ length new + n
+joined_size n k old new joined = let e : length new ≡ length old + 1 = ap length joined ∙ length-pushed k old in omega arith
+
+left_size : (b : Bool) (k : ℕ) (old new : Listed) → LeftIf b k old new → length old.entries + 0 ≤ length new.entries + weight b
+left_size true k old new left = let l = left.1 in let one : weight true ≡ 1 = refl in omega arith
+left_size false k old new kept = let e : length new.entries ≡ length old.entries = ap length kept.0 in omega arith
 
 module _ (S : Type 0) (active_of passive_of : S → Listed) where
   module _ (lists : S) (a : active_of lists ≡ nobody) (p : passive_of lists ≡ nobody) where
@@ -36,6 +47,8 @@ module _ (S : Type 0) (active_of passive_of : S → Listed) where
       active = nobody;
       passive = nobody;
       standing = ((λ n h. absurd h), λ n h. absurd h);
+      placed_active = omega arith;
+      placed_passive = omega arith;
       empty = λ _. inr (inr (λ n h. absurd h));
       filled = λ e. absurd (omega (arith, e));
       unlisted = λ _. (refl, refl);
@@ -51,6 +64,8 @@ module _ (S : Type 0) (active_of passive_of : S → Listed) where
       active = nobody;
       passive = nobody;
       standing = ((λ n h. absurd h), λ n h. absurd h);
+      placed_active = omega arith;
+      placed_passive = omega arith;
       empty = λ e. absurd (omega (arith, e));
       filled = λ _. (inr (λ n h. absurd h), inr (λ n h. absurd h));
       unlisted = λ _. (refl, refl);
@@ -104,6 +119,13 @@ module _ (S : Type 0) (active_of passive_of : S → Listed) where
         all_stay IsPassiveEntryOf r.passive.entries w (λ n q. (passive ∙ q.0, entry ∙ q.1)) r.standing.1,
       )
 
+      -- no more seats stand in a list than it has entries, as both change
+      places : (flag : View → Bool) (old new : List ℕ) (w : View) → length old + weight (flag w) ≤ length new + weight (flag me.0) → number flag s.views ≤ length old → number flag (after w) ≤ length new
+      places flag old new w enough placed = let c = number-set flag s.views id me.0 w at in omega (arith, enough, placed)
+
+      placed_as : (flag : View → Bool) (entries : List ℕ) (w : View) → flag w ≡ flag me.0 → number flag s.views ≤ length entries → number flag (after w) ≤ length entries
+      placed_as flag entries w same = let e : weight (flag w) ≡ weight (flag me.0) = ap weight same in places flag entries entries w (omega arith)
+
       same_out : (w : View) → w.has_lists ≡ me.0.has_lists → number has_lists_out (after w) ≡ number has_lists_out s.views
       same_out w e = let c = number-set has_lists_out s.views id me.0 w at in let e' : weight (has_lists_out w) ≡ weight (has_lists_out me.0) = ap weight e in omega arith
 
@@ -119,6 +141,8 @@ module _ (S : Type 0) (active_of passive_of : S → Listed) where
             active = r.active;
             passive = r.passive;
             standing = all_stand w left.3 left.4 left.5;
+            placed_active = placed_as is_in_active r.active.entries w left.3 r.placed_active;
+            placed_passive = placed_as is_in_passive r.passive.entries w left.4 r.placed_passive;
             empty = λ e. empty (sym here ∙ e);
             filled = λ e. filled (sym here ∙ e);
             unlisted = λ low. r.unlisted (subst SaysEmpty there low);
@@ -235,6 +259,8 @@ module _ (S : Type 0) (active_of passive_of : S → Listed) where
             active = r.active;
             passive = r.passive;
             standing = all_stand w left.3 left.4 left.5;
+            placed_active = placed_as is_in_active r.active.entries w left.3 r.placed_active;
+            placed_passive = placed_as is_in_passive r.passive.entries w left.4 r.placed_passive;
             empty = λ e. empty (sym there ∙ e);
             filled = λ e. filled (sym there ∙ e);
             unlisted = λ low. r.unlisted (below (subst SaysEmpty here low));
@@ -270,6 +296,8 @@ module _ (S : Type 0) (active_of passive_of : S → Listed) where
               active = r.active;
               passive = r.passive;
               standing = all_stand w refl refl refl;
+              placed_active = placed_as is_in_active r.active.entries w refl r.placed_active;
+              placed_passive = placed_as is_in_passive r.passive.entries w refl r.placed_passive;
               empty = λ e. empty_as w ((λ o. o), (λ o. o), (λ o. o), (λ n f. f), λ n f. f) (sym there ∙ e);
               filled = λ e. full_as w ((λ o. o), (λ o. o), (λ o. o), (λ n f. f), λ n f. f) (sym there ∙ e);
               unlisted = λ low. r.unlisted (below (subst SaysEmpty here low));
@@ -302,6 +330,9 @@ module _ (S : Type 0) (active_of passive_of : S → Listed) where
         abbrev Stood : View → Type 0
         Stood w = Stands IsActiveEntryOf w me.0.active.entries new_active.entries × Stands IsPassiveEntryOf w me.0.passive.entries new_passive.entries
 
+        abbrev Enough : View → Type 0
+        Enough w = (length me.0.active.entries + weight w.in_active ≤ length new_active.entries + weight me.0.in_active) × (length me.0.passive.entries + weight w.in_passive ≤ length new_passive.entries + weight me.0.in_passive)
+
         stands_now : (w : View) → Stood w → AllStand new_active new_passive (after w)
         stands_now w stood = let k = known in (
           stand IsActiveEntryOf w me.0.active.entries new_active.entries stood.0 (subst (λ (l : Listed). AreOf IsActiveEntryOf l.entries s.views) (sym k.0) r.standing.0),
@@ -309,14 +340,20 @@ module _ (S : Type 0) (active_of passive_of : S → Listed) where
         )
 
         -- the same entries, and the seat stands where it stood
-        keeps_place : (w : View) → w.in_active ≡ me.0.in_active → w.in_passive ≡ me.0.in_passive → w.entry ≡ me.0.entry → new_active.entries ≡ me.0.active.entries → new_passive.entries ≡ me.0.passive.entries → Stood w
+        keeps_place : (w : View) → w.in_active ≡ me.0.in_active → w.in_passive ≡ me.0.in_passive → w.entry ≡ me.0.entry → new_active.entries ≡ me.0.active.entries → new_passive.entries ≡ me.0.passive.entries → Stood w × Enough w
         keeps_place w in_active in_passive entry active passive = (
-          fewer IsActiveEntryOf w me.0.active.entries new_active.entries (λ j. subst (Has j) active) (λ j q. (in_active ∙ q.0, entry ∙ q.1)),
-          fewer IsPassiveEntryOf w me.0.passive.entries new_passive.entries (λ j. subst (Has j) passive) (λ j q. (in_passive ∙ q.0, entry ∙ q.1)),
+          (
+            fewer IsActiveEntryOf w me.0.active.entries new_active.entries (λ j. subst (Has j) active) (λ j q. (in_active ∙ q.0, entry ∙ q.1)),
+            fewer IsPassiveEntryOf w me.0.passive.entries new_passive.entries (λ j. subst (Has j) passive) (λ j q. (in_passive ∙ q.0, entry ∙ q.1)),
+          ),
+          (
+            subst (λ b. length me.0.active.entries + weight b ≤ length new_active.entries + weight me.0.in_active) (sym in_active) (same_size (weight me.0.in_active) me.0.active.entries new_active.entries active),
+            subst (λ b. length me.0.passive.entries + weight b ≤ length new_passive.entries + weight me.0.in_passive) (sym in_passive) (same_size (weight me.0.in_passive) me.0.passive.entries new_passive.entries passive),
+          ),
         )
 
-        returned : (w : View) → w.has_lists ≡ false → Does w → Stood w → (x ≡ 0 → LosesNoneEmpty new_active (after w)) → (x ≡ 2 → LosesNoneFull new_active new_passive (after w)) → R (stepped s 1 n id me.1 w gives)
-        returned w off does stood empty filled =
+        returned : (w : View) → w.has_lists ≡ false → Does w → Stood w × Enough w → (x ≡ 0 → LosesNoneEmpty new_active (after w)) → (x ≡ 2 → LosesNoneFull new_active new_passive (after w)) → R (stepped s 1 n id me.1 w gives)
+        returned w off does place empty filled =
             let c = number-set has_lists_out s.views id me.0 w at in let c' : weight (has_lists_out w) ≡ 0 = ap weight off in let l : weight (has_lists_out me.0) ≡ 1 = ap weight is_out in
             let one = r.list_word.0 in
             let none_out : number has_lists_out (after w) ≡ 0 = omega arith in
@@ -326,7 +363,9 @@ module _ (S : Type 0) (active_of passive_of : S → Listed) where
               list_word = (omega arith, ap (λ k. k % 2) here ∙ (omega arith));
               active = new_active;
               passive = new_passive;
-              standing = stands_now w stood;
+              standing = stands_now w place.0;
+              placed_active = places is_in_active me.0.active.entries new_active.entries w place.1.0 (subst (λ (l : Listed). number is_in_active s.views ≤ length l.entries) (sym known.0) r.placed_active);
+              placed_passive = places is_in_passive me.0.passive.entries new_passive.entries w place.1.1 (subst (λ (l : Listed). number is_in_passive s.views ≤ length l.entries) (sym known.1) r.placed_passive);
               empty = λ e. empty (sym there ∙ e);
               filled = λ e. filled (sym there ∙ e);
               unlisted = λ below. low (subst SaysEmpty here below);
@@ -380,7 +419,8 @@ module _ (S : Type 0) (active_of passive_of : S → Listed) where
               (λ j h. ⊎_elim (λ old. inl (old, λ q. never (sym away ∙ q.0))) (λ e. inr (refl, sym e)) (joined_by k me.0.active.entries j (subst (Has j) joined.0 h))),
               λ j h. inl (subst (Has j) passive.0 h, λ q. never (sym off ∙ q.0)),
             ) in
-            returned w refl (refl, refl, refl) stood (emptying w (λ m. inl (omega arith)) (λ o. inr (inl o)) act) (filling w (λ o. inl o) (λ o. inl o) act pas)
+            let enough : Enough w = (joined_size (weight me.0.in_active) k me.0.active.entries new_active.entries joined.0, same_size (weight me.0.in_passive) me.0.passive.entries new_passive.entries passive.0) in
+            returned w refl (refl, refl, refl) (stood, enough) (emptying w (λ m. inl (omega arith)) (λ o. inr (inl o)) act) (filling w (λ o. inl o) (λ o. inl o) act pas)
 
         pub joins_passive : (k : ℕ) → KeepsEntries me.0.active new_active → HasJoined k me.0.passive new_passive → me.0.active.notified ≤ new_active.notified → me.0.in_active ≡ false → me.0.in_passive ≡ false → R (stepped s 1 n id me.1 (joined_passive_of k me.0) gives)
         joins_passive k active joined more away off = let w : View = joined_passive_of k me.0 in
@@ -390,14 +430,16 @@ module _ (S : Type 0) (active_of passive_of : S → Listed) where
               (λ j h. inl (subst (Has j) active.0 h, λ q. never (sym away ∙ q.0))),
               λ j h. ⊎_elim (λ old. inl (old, λ q. never (sym off ∙ q.0))) (λ e. inr (refl, sym e)) (joined_by k me.0.passive.entries j (subst (Has j) joined.0 h)),
             ) in
-            returned w refl (refl, refl, refl) stood (emptying w (λ m. inl (omega arith)) (λ o. inr (inl o)) act) (filling w (λ o. inl o) (λ o. inl o) act pas)
+            let enough : Enough w = (same_size (weight me.0.in_active) me.0.active.entries new_active.entries active.0, joined_size (weight me.0.in_passive) k me.0.passive.entries new_passive.entries joined.0) in
+            returned w refl (refl, refl, refl) (stood, enough) (emptying w (λ m. inl (omega arith)) (λ o. inr (inl o)) act) (filling w (λ o. inl o) (λ o. inl o) act pas)
 
         -- its entry was notified, and has left: it owes
-        pub hears : HasLeft me.0.entry me.0.active new_active → KeepsEntries me.0.passive new_passive → R (stepped s 1 n id me.1 (told_of me.0) gives)
-        hears left passive = let w : View = told_of me.0 in
+        pub hears : HasLeft me.0.entry me.0.active new_active → LosesOne me.0.active new_active → KeepsEntries me.0.passive new_passive → me.0.in_active ≡ true → R (stepped s 1 n id me.1 (told_of me.0) gives)
+        hears left shorter passive was = let w : View = told_of me.0 in
             let act : Active w = λ j h. let l = left.1 j h in inl (l.0, λ f. absurd (l.1 (sym f.1.1))) in let pas = passive_fewer w passive (λ j f. f) in
             let stood : Stood w = ((λ j h. let l = left.0 j h in inl (l.0, λ q. absurd (l.1 (sym q.1)))), λ j h. inl (subst (Has j) passive.0 h, λ q. q)) in
-            returned w refl (refl, refl, refl) stood (emptying w (λ _. inr (inl (inl refl))) (λ _. inr (inl (inl refl))) act) (filling w (λ o. inl o) (λ o. inl o) act pas)
+            let enough : Enough w = (left_size me.0.in_active me.0.entry me.0.active new_active (subst (λ b. LeftIf b me.0.entry me.0.active new_active) (sym was) (left, shorter)), same_size (weight me.0.in_passive) me.0.passive.entries new_passive.entries passive.0) in
+            returned w refl (refl, refl, refl) (stood, enough) (emptying w (λ _. inr (inl (inl refl))) (λ _. inr (inl (inl refl))) act) (filling w (λ o. inl o) (λ o. inl o) act pas)
 
         -- its entry has left, and what it was told has gone on
         pub leaves : LeftIf me.0.in_active me.0.entry me.0.active new_active → LeftIf me.0.in_passive me.0.entry me.0.passive new_passive → KeepsTold me.0.active new_active → R (stepped s 1 n id me.1 (gone_of me.0) gives)
@@ -405,7 +447,8 @@ module _ (S : Type 0) (active_of passive_of : S → Listed) where
             let a = left_if me.0.in_active me.0.entry me.0.active new_active active in let p = left_if me.0.in_passive me.0.entry me.0.passive new_passive passive in
             let act : Active w = λ j h. let l = a.1 j h in inl (l.0, λ f. absurd (l.1 f.1.0 (sym f.1.1))) in let pas : Passive w = λ j h. let l = p.1 j h in inl (l.0, λ f. absurd (l.1 f.1.0 (sym f.1.1))) in
             let stood : Stood w = ((λ j h. let l = a.0 j h in inl (l.0, λ q. absurd (l.1 q.0 (sym q.1)))), λ j h. let l = p.0 j h in inl (l.0, λ q. absurd (l.1 q.0 (sym q.1)))) in
-            returned w refl (refl, refl, refl) stood (emptying w (told_still w kept) (λ o. inr (inl o)) act) (filling w (λ o. inl o) (λ o. inl o) act pas)
+            let enough : Enough w = (left_size me.0.in_active me.0.entry me.0.active new_active active, left_size me.0.in_passive me.0.entry me.0.passive new_passive passive) in
+            returned w refl (refl, refl, refl) (stood, enough) (emptying w (told_still w kept) (λ o. inr (inl o)) act) (filling w (λ o. inl o) (λ o. inl o) act pas)
 
         -- it has notified one that would make
         pub pays : KeepsEntries me.0.active new_active → KeepsEntries me.0.passive new_passive → (0 < new_active.notified) ⊎ NoneWaits new_active.waiting → R (stepped s 1 n id me.1 (paid_of me.0) gives)

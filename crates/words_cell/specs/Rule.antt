@@ -15,6 +15,12 @@ first_view = record { makes = false; owes = false; owes_active = false; owes_pas
 abbrev pub makes_of : View → Bool
 makes_of v = v.makes
 
+abbrev pub is_in_active : View → Bool
+is_in_active v = v.in_active
+
+abbrev pub is_in_passive : View → Bool
+is_in_passive v = v.in_passive
+
 abbrev pub has_lists_out : View → Bool
 has_lists_out v = v.has_lists
 
@@ -80,7 +86,8 @@ abbrev pub SaysEmpty : ℕ → Type 0
 SaysEmpty word = word % 8 < 4
 
 -- So many seats have the right to make as the cell's word says. The lists are known: both lie in the slot 0, or a seat has them out, which knows
--- them as they were when it took them out.
+-- them as they were when it took them out. Each of their entries is of a seat that stands in its list, and no more seats stand in a list than it has
+-- entries.
 pub record Ruled {S : Type 0} (active_of passive_of : S → Listed) (start : Bool) (s : State S View) : Type 0 where
   pub two_words : 1 < length s.words
   pub cell : IsCell start s.words s.views
@@ -88,6 +95,8 @@ pub record Ruled {S : Type 0} (active_of passive_of : S → Listed) (start : Boo
   pub active : Listed
   pub passive : Listed
   pub standing : AllStand active passive s.views
+  pub placed_active : number is_in_active s.views ≤ length active.entries
+  pub placed_passive : number is_in_passive s.views ≤ length passive.entries
   pub empty : slice_index s.words 0 ≡ 0 → LosesNoneEmpty active s.views
   pub filled : slice_index s.words 0 ≡ 2 → LosesNoneFull active passive s.views
   pub unlisted : SaysEmpty (slice_index s.words 1) → (active.waiting ≡ []) × (passive.waiting ≡ [])

@@ -1,5 +1,5 @@
 -- What steps tell, and what a seat has that has the lists out.
-use Rattle.std.specs.Prelude.{◌≡◌, ◌≢◌, ℕ, ◌%◌, ◌<◌, ◌≤◌, ◌⊎◌, Bool, true, false, [], ◌∷◌, ◌++◌}
+use Rattle.std.specs.Prelude.{◌≡◌, ◌≢◌, ℕ, ◌+◌, ◌%◌, ◌<◌, ◌≤◌, ◌⊎◌, Bool, true, false, [], ◌∷◌, ◌++◌, length}
 use Rattle.atomic_table.specs.Table.{Me, rest}
 use Rattle.words_base.specs.Waiting.{NoneWaits, Fewer, JoinedBy, LeftBy, StaysTold}
 use Rattle.words_cell.specs.Lists.{Listed}
@@ -57,9 +57,13 @@ HasJoined k old new = (new.entries ≡ old.entries ++ k ∷ []) × JoinedBy k ol
 abbrev pub HasLeft : ℕ → Listed → Listed → Type 0
 HasLeft k old new = LeftBy k old.entries new.entries × LeftBy k old.waiting new.waiting
 
--- The same of a list in which a seat stands; one in which it doesn't keeps its entries.
+-- It loses one entry at most.
+abbrev pub LosesOne : Listed → Listed → Type 0
+LosesOne old new = length old.entries ≤ length new.entries + 1
+
+-- Both hold of a list in which a seat stands; one in which it doesn't keeps its entries.
 abbrev pub LeftIf : Bool → ℕ → Listed → Listed → Type 0
-LeftIf true k old new = HasLeft k old new
+LeftIf true k old new = HasLeft k old new × LosesOne old new
 LeftIf false k old new = KeepsEntries old new
 
 -- If one was notified, one is, or nobody waits.
@@ -82,7 +86,7 @@ module _ {S : Type 0} (active_of passive_of : S → Listed) (m : Me S View) (n :
 
   -- The seat's entry was notified, and has left those that would make.
   abbrev pub CanHear : Type 0
-  CanHear = (lists : S) × Out lists × HasLeft m.0.entry m.0.active (active_of lists) × KeepsEntries m.0.passive (passive_of lists)
+  CanHear = (lists : S) × Out lists × HasLeft m.0.entry m.0.active (active_of lists) × LosesOne m.0.active (active_of lists) × KeepsEntries m.0.passive (passive_of lists)
 
   -- The seat's entry has left the list in which it stood: what it was notified of has gone on.
   abbrev pub CanLeave : Type 0

@@ -173,6 +173,7 @@ pub fn give_joined_passive<S: Content, N: Numbered>(
 pub fn give_told<S: Content>(shared: &Ruled<S>, inner: &mut TableSeat<S, View>, new: u64) -> u64
     requires table { (inner.old.table_id ≡ shared.now.table_id) × (shared.now.table_id.words ≡ 2) × (shared.now.table_id.slots ≡ 1) }
     requires lists { CanHear S.active S.passive inner.old.me new }
+    requires stands { inner.old.me.0.in_active ≡ true }
     ensures table { inner.new.table_id ≡ inner.old.table_id }
     ensures step { inner.new.me ≡ (told_of inner.old.me.0, rest inner.old.me.1) }
 {
