@@ -7,6 +7,6 @@ mod counter;
 mod polls;
 mod steered;
 
-pub use counter::{Counted, Counts, drops};
-pub use polls::{Twice, ended, is_unlisted, pends};
+pub use counter::{Counts, drops};
+pub use polls::{ended, is_unlisted, pends};
 pub use steered::{Steered, Step, Sure};

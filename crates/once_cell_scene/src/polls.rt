@@ -3,9 +3,9 @@
 ghost use Rattle.std.specs.Prelude.{◌≡◌, true};
 
 use async_once_cell::lock_futures::Set;
-use async_once_cell::{OnceCell, Polled, Settled, Turn};
+use async_once_cell::{OnceCell, Settled};
 use futures::Future;
-use futures::task::{Context, Poll};
+use futures::task::Poll;
 use futures::test::MockTask;
 use std::sync::Wait;
 
@@ -28,21 +28,5 @@ pub fn pends<F: Future<Output: Drop>>(task: &MockTask, future: &mut F) -> bool
     match task.poll(future) {
         Poll::Pending => true,
         Poll::Ready(_) => false,
-    }
-}
-
-/// A future that is ready at once, with what two polls of this one answer.
-#[derive(Drop)]
-pub struct Twice<F>(pub F);
-
-impl<F: Polled> Future for Twice<F> {
-    type Output = (Turn<F::Got>, Turn<F::Got>);
-
-    ghost can_poll = { λ t. F.can_poll t.0 };
-
-    fn poll(&mut self, cx: &mut Context<'_>) -> Poll<(Turn<F::Got>, Turn<F::Got>)> {
-        let first = self.0.poll_turn(cx);
-        let second = self.0.poll_turn(cx);
-        Poll::Ready((first, second))
     }
 }
