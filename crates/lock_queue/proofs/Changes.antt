@@ -1,5 +1,5 @@
 -- What the calls on a list do to those that wait in it.
-use Rattle.words_base.specs.Waiting.{Has, NoneWaits, Fewer, JoinedBy, LeftBy, StaysTold, last_of}
+use Rattle.words_base.specs.Waiting.{Has, NoneWaits, Fewer, JoinedBy, LeftBy, StaysTold, unless, all_but, last_of}
 use Rattle.std.proofs.Common.{◌≡◌, ◌≢◌, ℕ, ◌+◌, ◌-◌, ◌<◌, ◌≤◌, ◌==◌, ◌||◌, if◌then◌else◌, Bool, true, false, not, List, [], ◌∷◌, ◌++◌, length, refl, sym, ap, ◌∙◌, subst, arith, ◌⊎◌, inl, inr, ⊎_elim, Option, Some, None, Result, Ok, Err, IfOk, eq-eqb, ne_eqb, true≢false}
 use mathlib.Core.Logic.{dite}
 use native.Mathlib.Decide.{ℕ_discrete}
@@ -14,11 +14,11 @@ use Rattle.lock_event.specs.Lists.{is_marked, marked_count, entry, joined, mark_
 use Rattle.lock_event.specs.Slots.{without_waker, has_id, slot_of, is_due, emptied, HasAsked}
 use Rattle.lock_event.proofs.Counts.{marked_count-notified}
 use Rattle.lock_event.proofs.Marks.{length-mark_waiting, marked_count-joined, marked_count-with_key}
-use Rattle.lock_queue.specs.Entries.{unless_marked, waiting_in, numbers_in, HasFewer, IsKept, HasJoined, IsTold, AreTold, IsGone, HasLeft}
-use Rattle.lock_queue.specs.Sizes.{IsOneGone}
+use Rattle.lock_queue.specs.Entries.{waiting_in, numbers_in, IsKept, HasJoined, IsTold, AreTold, IsGone, HasLeft}
+use Rattle.lock_queue.specs.Sizes.{StaysNotified}
 use Rattle.words_base.proofs.Waiting.{joined_by, last-pushed}
-use Rattle.lock_queue.proofs.Numbers.{numbers-mark, numbers-without_waker, numbers-with_key, numbers-joined, less-left, less_asked, gone_by}
-use Rattle.lock_queue.proofs.Sizing.{notified_size, left_size, keyed_size, joined_size, waker_size, notified_without_waker, gone_without_waker, asked_size}
+use Rattle.lock_queue.proofs.Numbers.{numbers-mark, numbers-without_waker, numbers-with_key, numbers-joined, is_new, left_by_id, asked_by_id}
+use Rattle.lock_queue.proofs.Sizing.{notified_size, stays_notified, keyed_size, joined_size, waker_size, notified_without_waker, gone_without_waker}
 
 -- ---- numbers
 pub fewer_same : (l : List ℕ) → Fewer l l
@@ -27,18 +27,18 @@ fewer_same l n h = h
 pub fewer_of : (old new : List ℕ) → new ≡ old → Fewer old new
 fewer_of old new e n h = subst (Has n) e h
 
-skip : (b : Bool) (k : ℕ) (l : List ℕ) → Fewer (unless_marked b k l) l
+skip : (b : Bool) (k : ℕ) (l : List ℕ) → Fewer (unless b k l) l
 skip true k l n h = h
 skip false k l n h = inr h
 
-both : (b : Bool) (k : ℕ) (old new : List ℕ) → Fewer old new → Fewer (unless_marked b k old) (unless_marked b k new)
+both : (b : Bool) (k : ℕ) (old new : List ℕ) → Fewer old new → Fewer (unless b k old) (unless b k new)
 both true k old new all n h = all n h
 both false k old new all n h = ⊎_elim (λ e. inl e) (λ r. inr (all n r)) h
 
-marks : (b : Bool) (k : ℕ) (old new : List ℕ) → Fewer old new → Fewer (unless_marked b k old) new
+marks : (b : Bool) (k : ℕ) (old new : List ℕ) → Fewer old new → Fewer (unless b k old) new
 marks b k old new all n h = skip b k old n (all n h)
 
-pushed : (b : Bool) (k x : ℕ) (l : List ℕ) → unless_marked b k (l ++ x ∷ []) ≡ unless_marked b k l ++ x ∷ []
+pushed : (b : Bool) (k x : ℕ) (l : List ℕ) → unless b k (l ++ x ∷ []) ≡ unless b k l ++ x ∷ []
 pushed true k x l = refl
 pushed false k x l = refl
 
@@ -51,10 +51,10 @@ module _ {W : Type 0} where
 
   -- ---- marking
   mark_head : (m : Mark) (e : Entry (Slot W)) (es fs gs : List (Entry (Slot W))) (b z : Bool) → is_marked m ≡ true → is_marked e.mark ≡ b → Less es fs → Less es gs
-      → Fewer (unless_marked b (number e) (waiting_in es)) (waiting_in (if b || z then e ∷ fs else entry e.key m ∷ gs))
-  mark_head m e es fs gs true z told is a b = subst (λ c. Fewer (waiting_in es) (unless_marked c (number e) (waiting_in fs))) (sym is) a
-  mark_head m e es fs gs false true told is a b = subst (λ c. Fewer (number e ∷ waiting_in es) (unless_marked c (number e) (waiting_in fs))) (sym is) (both false (number e) (waiting_in es) (waiting_in fs) a)
-  mark_head m e es fs gs false false told is a b = subst (λ c. Fewer (number e ∷ waiting_in es) (unless_marked c (number e) (waiting_in gs))) (sym told) (λ n h. inr (b n h))
+      → Fewer (unless b (number e) (waiting_in es)) (waiting_in (if b || z then e ∷ fs else entry e.key m ∷ gs))
+  mark_head m e es fs gs true z told is a b = subst (λ c. Fewer (waiting_in es) (unless c (number e) (waiting_in fs))) (sym is) a
+  mark_head m e es fs gs false true told is a b = subst (λ c. Fewer (number e ∷ waiting_in es) (unless c (number e) (waiting_in fs))) (sym is) (both false (number e) (waiting_in es) (waiting_in fs) a)
+  mark_head m e es fs gs false false told is a b = subst (λ c. Fewer (number e ∷ waiting_in es) (unless c (number e) (waiting_in gs))) (sym told) (λ n h. inr (b n h))
 
   fewer-mark : (m : Mark) (n : ℕ) (es : List (Entry (Slot W))) → is_marked m ≡ true → Less es (mark_waiting m n es)
   fewer-mark m n [] told = λ k h. h
@@ -62,9 +62,9 @@ module _ {W : Type 0} where
 
   none_head : (m : Mark) (e : Entry (Slot W)) (fs gs : List (Entry (Slot W))) (b z : Bool) → is_marked m ≡ true → is_marked e.mark ≡ b → z ≡ false → NoneWaits (waiting_in fs) → NoneWaits (waiting_in gs)
       → NoneWaits (waiting_in (if b || z then e ∷ fs else entry e.key m ∷ gs))
-  none_head m e fs gs true z told is not a b = subst (λ c. NoneWaits (unless_marked c (number e) (waiting_in fs))) (sym is) a
+  none_head m e fs gs true z told is not a b = subst (λ c. NoneWaits (unless c (number e) (waiting_in fs))) (sym is) a
   none_head m e fs gs false true told is not a b = absurd (true≢false not)
-  none_head m e fs gs false false told is not a b = subst (λ c. NoneWaits (unless_marked c (number e) (waiting_in gs))) (sym told) b
+  none_head m e fs gs false false told is not a b = subst (λ c. NoneWaits (unless c (number e) (waiting_in gs))) (sym told) b
 
   all-mark : (m : Mark) (n : ℕ) (es : List (Entry (Slot W))) → is_marked m ≡ true → length es ≤ n → NoneWaits (waiting_in (mark_waiting m n es))
   all-mark m n [] told many = λ k h. h
@@ -81,9 +81,9 @@ module _ {W : Type 0} where
   rest_head : (m : Mark) (e : Entry (Slot W)) (n : ℕ) (es fs gs : List (Entry (Slot W))) (b z : Bool) → is_marked m ≡ true → is_marked e.mark ≡ b → (n == 0) ≡ z → marked_count es ≤ length es
       → length (e ∷ es) ≤ (if b then 1 + marked_count es else marked_count es) + n → (length es ≤ marked_count es + n → NoneWaits (waiting_in fs)) → (length es ≤ marked_count es + (n - 1) → NoneWaits (waiting_in gs))
       → NoneWaits (waiting_in (if b || z then e ∷ fs else entry e.key m ∷ gs))
-  rest_head m e n es fs gs true z told is at few many a b = subst (λ c. NoneWaits (unless_marked c (number e) (waiting_in fs))) (sym is) (a (omega arith))
+  rest_head m e n es fs gs true z told is at few many a b = subst (λ c. NoneWaits (unless c (number e) (waiting_in fs))) (sym is) (a (omega arith))
   rest_head m e n es fs gs false true told is at few many a b = let none : n ≡ 0 = grind arith in absurd (omega arith)
-  rest_head m e n es fs gs false false told is at few many a b = subst (λ c. NoneWaits (unless_marked c (number e) (waiting_in gs))) (sym told) (b (omega arith))
+  rest_head m e n es fs gs false false told is at few many a b = subst (λ c. NoneWaits (unless c (number e) (waiting_in gs))) (sym told) (b (omega arith))
 
   rest-mark : (m : Mark) (n : ℕ) (es : List (Entry (Slot W))) → is_marked m ≡ true → length es ≤ marked_count es + n → NoneWaits (waiting_in (mark_waiting m n es))
   rest-mark m n [] told many = λ k h. h
@@ -104,9 +104,9 @@ module _ {W : Type 0} where
   one_told es = record { fewer = fewer-mark Notified (1 - marked_count es) es refl; told = told-from es (notified es 1) (length-mark_waiting Notified (1 - marked_count es) es) (marked_count-notified es); stand = numbers-mark Notified (1 - marked_count es) es; size = notified_size es }
 
   -- ---- taking a waker
-  waker_head : (b : Bool) (e : Entry (Slot W)) (es fs : List (Entry (Slot W))) → waiting_in fs ≡ waiting_in es → waiting_in (if b then emptied e ∷ es else e ∷ fs) ≡ unless_marked (is_marked e.mark) (number e) (waiting_in es)
+  waker_head : (b : Bool) (e : Entry (Slot W)) (es fs : List (Entry (Slot W))) → waiting_in fs ≡ waiting_in es → waiting_in (if b then emptied e ∷ es else e ∷ fs) ≡ unless (is_marked e.mark) (number e) (waiting_in es)
   waker_head true e es fs same = refl
-  waker_head false e es fs same = ap (unless_marked (is_marked e.mark) (number e)) same
+  waker_head false e es fs same = ap (unless (is_marked e.mark) (number e)) same
 
   waits-without_waker : (es : List (Entry (Slot W))) → waiting_in (without_waker es) ≡ waiting_in es
   waits-without_waker [] = refl
@@ -135,15 +135,14 @@ module _ {W : Type 0} where
 
   pub left_without_waker : (old es : List (Entry (Slot W))) (k : ℕ) → HasLeft old es k → HasLeft old (without_waker es) k
   left_without_waker old es k t = let w = waits-without_waker es in let m = (waker_size es).1 in record {
-    fewer = λ n h. t.fewer n (subst (Has n) w h);
     told = λ some. ⊎_elim (λ more. inl (omega arith)) (λ none. inr (λ n h. none n (subst (Has n) w h))) (t.told some);
     left = λ n h. t.left n (subst (Has n) w h);
-    stand = subst (LeftBy k (numbers_in old)) (sym (numbers-without_waker es)) t.stand;
-    size = gone_without_waker old es t.size;
+    stand = numbers-without_waker es ∙ t.stand;
+    notified = gone_without_waker old es t.notified;
   }
 
   -- ---- leaving
-  out_head : (b : Bool) (e : Entry (Slot W)) (es fs : List (Entry (Slot W))) → Less es fs → Fewer (unless_marked (is_marked e.mark) (number e) (waiting_in es)) (waiting_in (if b then es else e ∷ fs))
+  out_head : (b : Bool) (e : Entry (Slot W)) (es fs : List (Entry (Slot W))) → Less es fs → Fewer (unless (is_marked e.mark) (number e) (waiting_in es)) (waiting_in (if b then es else e ∷ fs))
   out_head true e es fs all = skip (is_marked e.mark) (number e) (waiting_in es)
   out_head false e es fs all = both (is_marked e.mark) (number e) (waiting_in es) (waiting_in fs) all
 
@@ -161,10 +160,10 @@ module _ {W : Type 0} where
   fewer-left test es n h = fewer-without test es n (fewer-passed_on (mark_at test es) (without test es) n h)
 
   told-left : (test : Slot W → Bool) (es : List (Entry (Slot W))) → StaysTold (marked_count es) (waiting_in (left test es)) (marked_count (left test es))
-  told-left test es some = dite (ℕ_discrete (length (left test es)) 0) (λ z. inr (empty_waits (left test es) z)) (λ ne. inl ((left_size test es).2 (omega arith) some))
+  told-left test es some = dite (ℕ_discrete (length (left test es)) 0) (λ z. inr (empty_waits (left test es) z)) (λ ne. inl (stays_notified test es (omega arith) some))
 
   gone_head : (id : EntryId) (e : Entry (Slot W)) (es : List (Entry (Slot W))) (b c : Bool) → has_id id e.key ≡ b → (b || is_listed (has_id id) es) ≡ false → (is_listed (has_id id) es ≡ false → (n : ℕ) → Has n (waiting_in es) → n ≢ id.number)
-      → (n : ℕ) → Has n (unless_marked c (number e) (waiting_in es)) → n ≢ id.number
+      → (n : ℕ) → Has n (unless c (number e) (waiting_in es)) → n ≢ id.number
   gone_head id e es true c is away rest = absurd (true≢false away)
   gone_head id e es false true is away rest = λ n h. rest away n h
   gone_head id e es false false is away rest = λ n h. ⊎_elim (λ same. λ mine. true≢false (sym (eq-eqb (number e) id.number (same ∙ mine)) ∙ is)) (λ r. rest away n r) h
@@ -177,16 +176,12 @@ module _ {W : Type 0} where
   pub left_once : (id : EntryId) (es new : List (Entry (Slot W))) → new ≡ left (has_id id) es → is_listed (has_id id) new ≡ false → HasLeft es new id.number
   left_once id es new is away =
       let fewer : Less es new = subst (Less es) (sym is) (fewer-left (has_id id) es) in
-      record { fewer = fewer; told = subst (λ l. StaysTold (marked_count es) (waiting_in l) (marked_count l)) (sym is) (told-left (has_id id) es); left = λ n h. (fewer n h, not_there id new away n h); stand = gone_by id es new (subst (λ l. Fewer (numbers_in es) (numbers_in l)) (sym is) (less-left (has_id id) es)) away; size = subst (IsOneGone es) (sym is) (left_size (has_id id) es) }
-
-  -- whoever has asked and didn't wait has left, and no entry has the number
-  pub gone_once : (id : EntryId) (w : Option W) (old new : List (Entry (Slot W))) (a : Asked W) → HasAsked id w old a new → HasFewer old new → is_listed (has_id id) new ≡ false → IsGone old new id.number
-  gone_once id w old new a asked kept away = record { left = λ n h. (kept.fewer n h, not_there id new away n h); stand = gone_by id old new (less_asked id w old new a asked) away }
+      record { told = subst (λ l. StaysTold (marked_count es) (waiting_in l) (marked_count l)) (sym is) (told-left (has_id id) es); left = λ n h. (fewer n h, not_there id new away n h); stand = left_by_id id es new is away; notified = subst (StaysNotified es) (sym is) (stays_notified (has_id id) es) }
 
   -- ---- asking
   key_head : (id : EntryId) (w : Option W) (b : Bool) (e : Entry (Slot W)) (es fs : List (Entry (Slot W))) → has_id id e.key ≡ b → Less es fs
-      → Fewer (unless_marked (is_marked e.mark) (number e) (waiting_in es)) (waiting_in (if b then entry (slot_of id w) e.mark ∷ es else e ∷ fs))
-  key_head id w true e es fs is all = let same : number e ≡ id.number = grind arith in subst (λ k. Fewer (unless_marked (is_marked e.mark) (number e) (waiting_in es)) (unless_marked (is_marked e.mark) k (waiting_in es))) same (fewer_same (unless_marked (is_marked e.mark) (number e) (waiting_in es)))
+      → Fewer (unless (is_marked e.mark) (number e) (waiting_in es)) (waiting_in (if b then entry (slot_of id w) e.mark ∷ es else e ∷ fs))
+  key_head id w true e es fs is all = let same : number e ≡ id.number = grind arith in subst (λ k. Fewer (unless (is_marked e.mark) (number e) (waiting_in es)) (unless (is_marked e.mark) k (waiting_in es))) same (fewer_same (unless (is_marked e.mark) (number e) (waiting_in es)))
   key_head id w false e es fs is all = both (is_marked e.mark) (number e) (waiting_in es) (waiting_in fs) all
 
   fewer-with_key : (id : EntryId) (w : Option W) (es : List (Entry (Slot W))) → Less es (with_key (has_id id) (slot_of id w) es)
@@ -196,29 +191,33 @@ module _ {W : Type 0} where
   pub kept_keyed : (id : EntryId) (w : Option W) (es : List (Entry (Slot W))) → IsKept es (with_key (has_id id) (slot_of id w) es)
   kept_keyed id w es = let m = marked_count-with_key (has_id id) (slot_of id w) es in record { fewer = fewer-with_key id w es; told = stays_told es (with_key (has_id id) (slot_of id w) es) (omega arith); stand = numbers-with_key id w es; size = keyed_size (has_id id) (slot_of id w) es }
 
-  pub fewer_asked : (id : EntryId) (w : Option W) (old new : List (Entry (Slot W))) (a : Asked W) → HasAsked id w old a new → HasFewer old new
-  fewer_asked id w old new (asked.Notified kept unused) h = record { fewer = subst (λ (l : List (Entry (Slot W))). Less old l) (sym h.1) (fewer-without (has_id id) old); size = asked_size id w old new (asked.Notified kept unused) h }
-  fewer_asked id w old new (asked.Waiting kept) h = record { fewer = subst (λ (l : List (Entry (Slot W))). Less old l) (sym h.2) (fewer-with_key id w old); size = asked_size id w old new (asked.Waiting kept) h }
-  fewer_asked id w old new (asked.Unlisted unused) h = record { fewer = subst (λ (l : List (Entry (Slot W))). Less old l) (sym h.1) (fewer_same (waiting_in old)); size = asked_size id w old new (asked.Unlisted unused) h }
+  fewer_asked : (id : EntryId) (w : Option W) (old new : List (Entry (Slot W))) (a : Asked W) → HasAsked id w old a new → Less old new
+  fewer_asked id w old new (asked.Notified kept unused) h = subst (λ (l : List (Entry (Slot W))). Less old l) (sym h.1) (fewer-without (has_id id) old)
+  fewer_asked id w old new (asked.Waiting kept) h = subst (λ (l : List (Entry (Slot W))). Less old l) (sym h.2) (fewer-with_key id w old)
+  fewer_asked id w old new (asked.Unlisted unused) h = subst (λ (l : List (Entry (Slot W))). Less old l) (sym h.1) (fewer_same (waiting_in old))
+
+  -- whoever has asked and didn't wait has left, and no entry has the number
+  pub gone_once : (id : EntryId) (w : Option W) (old new : List (Entry (Slot W))) (a : Asked W) → HasAsked id w old a new → is_listed (has_id id) new ≡ false → IsGone old new id.number
+  gone_once id w old new a asked away = record { left = λ n h. (fewer_asked id w old new a asked n h, not_there id new away n h); stand = asked_by_id id w old new a asked away }
 
   -- ---- joining
   waits-joined : (k : Slot W) (es : List (Entry (Slot W))) → waiting_in (joined es k) ≡ waiting_in es ++ k.id.number ∷ []
   waits-joined k [] = refl
-  waits-joined k (e ∷ es) = ap (unless_marked (is_marked e.mark) (number e)) (waits-joined k es) ∙ pushed (is_marked e.mark) (number e) k.id.number (waiting_in es)
+  waits-joined k (e ∷ es) = ap (unless (is_marked e.mark) (number e)) (waits-joined k es) ∙ pushed (is_marked e.mark) (number e) k.id.number (waiting_in es)
 
-  has-joined : (k : Slot W) (es : List (Entry (Slot W))) → HasJoined es (joined es k) k.id.number
-  has-joined k es = let w = waits-joined k es in let m = marked_count-joined es k in
-      record { joined = λ n h. joined_by k.id.number (waiting_in es) n (subst (Has n) w h); last = ap last_of w ∙ last-pushed k.id.number (waiting_in es); marked = omega arith; stand = numbers-joined k es; size = joined_size k es }
+  has-joined : (k : Slot W) (es : List (Entry (Slot W))) → is_listed (has_id k.id) es ≡ false → HasJoined es (joined es k) k.id.number
+  has-joined k es none = let w = waits-joined k es in let m = marked_count-joined es k in
+      record { joined = λ n h. joined_by k.id.number (waiting_in es) n (subst (Has n) w h); last = ap last_of w ∙ last-pushed k.id.number (waiting_in es); marked = omega arith; fresh = is_new k.id es none; stand = numbers-joined k es; size = joined_size k es }
 
-  pub joined_ok : {B : Type 0} (old new : List (Entry (Slot W))) (r : Result EntryId B) → IfOk r (λ id. new ≡ joined old (slot_of id None)) → IfOk r (λ id. HasJoined old new id.number)
-  joined_ok old new (Ok id) is = subst (λ (l : List (Entry (Slot W))). HasJoined old l id.number) (sym is) (has-joined (slot_of id None) old)
-  joined_ok old new (Err e) is = tt
+  pub joined_ok : {B : Type 0} (old new : List (Entry (Slot W))) (r : Result EntryId B) → IfOk r (λ id. new ≡ joined old (slot_of id None)) → IfOk r (λ id. is_listed (has_id id) old ≡ false) → IfOk r (λ id. HasJoined old new id.number)
+  joined_ok old new (Ok id) is none = subst (λ (l : List (Entry (Slot W))). HasJoined old l id.number) (sym is) (has-joined (slot_of id None) old none)
+  joined_ok old new (Err e) is none = tt
 
   -- ---- joining with a waker
   rekeyed_head : (id : EntryId) (w : Option W) (b : Bool) (e : Entry (Slot W)) (es fs : List (Entry (Slot W))) → has_id id e.key ≡ b → waiting_in fs ≡ waiting_in es
-      → waiting_in (if b then entry (slot_of id w) e.mark ∷ es else e ∷ fs) ≡ unless_marked (is_marked e.mark) (number e) (waiting_in es)
-  rekeyed_head id w true e es fs is same = let mine : id.number ≡ number e = grind arith in ap (λ k. unless_marked (is_marked e.mark) k (waiting_in es)) mine
-  rekeyed_head id w false e es fs is same = ap (unless_marked (is_marked e.mark) (number e)) same
+      → waiting_in (if b then entry (slot_of id w) e.mark ∷ es else e ∷ fs) ≡ unless (is_marked e.mark) (number e) (waiting_in es)
+  rekeyed_head id w true e es fs is same = let mine : id.number ≡ number e = grind arith in ap (λ k. unless (is_marked e.mark) k (waiting_in es)) mine
+  rekeyed_head id w false e es fs is same = ap (unless (is_marked e.mark) (number e)) same
 
   waits-with_key : (id : EntryId) (w : Option W) (es : List (Entry (Slot W))) → waiting_in (with_key (has_id id) (slot_of id w) es) ≡ waiting_in es
   waits-with_key id w [] = refl
@@ -226,7 +225,7 @@ module _ {W : Type 0} where
 
   rekeyed : (id : EntryId) (w : Option W) (old mid : List (Entry (Slot W))) (k : ℕ) → HasJoined old mid k → HasJoined old (with_key (has_id id) (slot_of id w) mid) k
   rekeyed id w old mid k j = let same = waits-with_key id w mid in let m = marked_count-with_key (has_id id) (slot_of id w) mid in
-      record { joined = λ n h. j.joined n (subst (Has n) same h); last = ap last_of same ∙ j.last; marked = omega (arith, j.marked, m); stand = numbers-with_key id w mid ∙ j.stand; size = let k = keyed_size (has_id id) (slot_of id w) mid in (k.0 ∙ j.size.0, k.1 ∙ j.size.1) }
+      record { joined = λ n h. j.joined n (subst (Has n) same h); last = ap last_of same ∙ j.last; marked = omega (arith, j.marked, m); fresh = j.fresh; stand = numbers-with_key id w mid ∙ j.stand; size = let k = keyed_size (has_id id) (slot_of id w) mid in (k.0 ∙ j.size.0, k.1 ∙ j.size.1) }
 
-  pub joined_keyed : (id : EntryId) (w : Option W) (old mid : List (Entry (Slot W))) → mid ≡ joined old (slot_of id None) → HasJoined old (with_key (has_id id) (slot_of id w) mid) id.number
-  joined_keyed id w old mid is = rekeyed id w old mid id.number (subst (λ (l : List (Entry (Slot W))). HasJoined old l id.number) (sym is) (has-joined (slot_of id None) old))
+  pub joined_keyed : (id : EntryId) (w : Option W) (old mid : List (Entry (Slot W))) → mid ≡ joined old (slot_of id None) → is_listed (has_id id) old ≡ false → HasJoined old (with_key (has_id id) (slot_of id w) mid) id.number
+  joined_keyed id w old mid is none = rekeyed id w old mid id.number (subst (λ (l : List (Entry (Slot W))). HasJoined old l id.number) (sym is) (has-joined (slot_of id None) old none))

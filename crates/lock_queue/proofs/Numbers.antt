@@ -1,5 +1,6 @@
 -- What the calls on a list do to the numbers of its entries.
-use Rattle.words_base.specs.Waiting.{Has, Fewer, LeftBy}
+use Rattle.words_base.specs.Waiting.{Has, unless, all_but}
+use Rattle.words_base.proofs.Waiting.{all_stay}
 use Rattle.std.proofs.Common.{◌≡◌, ◌≢◌, ℕ, ◌-◌, ◌==◌, ◌||◌, if◌then◌else◌, Bool, true, false, List, [], ◌∷◌, ◌++◌, length, suc, refl, sym, ap, ◌∙◌, subst, inl, inr, ⊎_elim, Option, Some, None, eq-eqb, true≢false}
 use Rattle.std.proofs.lemmas.Bool.{eqb-true}
 use Rattle.lock_event.specs.declared.event.Entry.{Entry}
@@ -13,12 +14,13 @@ use Rattle.lock_event.specs.Lists.{is_marked, marked_count, entry, joined, mark_
 use Rattle.lock_event.specs.Slots.{without_waker, has_id, slot_of, is_due, emptied, HasAsked}
 use Rattle.lock_queue.specs.Entries.{numbers_in}
 
+-- no entry has this number
+abbrev NoneIs : ℕ → List ℕ → Type 0
+NoneIs k l = (n : ℕ) → Has n l → n ≢ k
+
 module _ {W : Type 0} where
   abbrev number : Entry (Slot W) → ℕ
   number e = e.key.id.number
-
-  abbrev Less : List (Entry (Slot W)) → List (Entry (Slot W)) → Type 0
-  Less old new = Fewer (numbers_in old) (numbers_in new)
 
   pub length-numbers : (es : List (Entry (Slot W))) → length (numbers_in es) ≡ length es
   length-numbers [] = refl
@@ -60,22 +62,6 @@ module _ {W : Type 0} where
   numbers-passed_on (Some Additional) es = numbers-mark Additional 1 es
 
   -- ---- leaving
-  out_head : (b : Bool) (e : Entry (Slot W)) (es fs : List (Entry (Slot W))) → Less es fs → Fewer (number e ∷ numbers_in es) (numbers_in (if b then es else e ∷ fs))
-  out_head true e es fs all n h = inr h
-  out_head false e es fs all n h = ⊎_elim (λ here. inl here) (λ later. inr (all n later)) h
-
-  less-without : (test : Slot W → Bool) (es : List (Entry (Slot W))) → Less es (without test es)
-  less-without test [] = λ n h. h
-  less-without test (e ∷ es) = out_head (test e.key) e es (without test es) (less-without test es)
-
-  pub less-left : (test : Slot W → Bool) (es : List (Entry (Slot W))) → Less es (left test es)
-  less-left test es n h = less-without test es n (subst (Has n) (numbers-passed_on (mark_at test es) (without test es)) h)
-
-  pub less_asked : (id : EntryId) (w : Option W) (old new : List (Entry (Slot W))) (a : Asked W) → HasAsked id w old a new → Less old new
-  less_asked id w old new (asked.Notified kept unused) h = subst (Less old) (sym h.1) (less-without (has_id id) old)
-  less_asked id w old new (asked.Waiting kept) h = λ n is. subst (Has n) (ap numbers_in h.2 ∙ numbers-with_key id w old) is
-  less_asked id w old new (asked.Unlisted unused) h = λ n is. subst (Has n) (ap numbers_in h.1) is
-
   away_head : (id : EntryId) (e : Entry (Slot W)) (es : List (Entry (Slot W))) (b : Bool) → has_id id e.key ≡ b → (b || is_listed (has_id id) es) ≡ false → (is_listed (has_id id) es ≡ false → (n : ℕ) → Has n (numbers_in es) → n ≢ id.number)
       → (n : ℕ) → Has n (number e ∷ numbers_in es) → n ≢ id.number
   away_head id e es true is away rest = absurd (true≢false away)
@@ -85,6 +71,30 @@ module _ {W : Type 0} where
   away id [] none = λ n h. absurd h
   away id (e ∷ es) none = away_head id e es (has_id id e.key) refl none (away id es)
 
-  -- none came, and no entry has the id
-  pub gone_by : (id : EntryId) (old new : List (Entry (Slot W))) → Less old new → is_listed (has_id id) new ≡ false → LeftBy id.number (numbers_in old) (numbers_in new)
-  gone_by id old new less none n h = (less n h, away id new none n h)
+  pub is_new : (id : EntryId) (es : List (Entry (Slot W))) → is_listed (has_id id) es ≡ false → Has id.number (numbers_in es) → ⊥
+  is_new id es none h = away id es none id.number h refl
+
+  without_head : (id : EntryId) (e : Entry (Slot W)) (es fs : List (Entry (Slot W))) (b : Bool) → NoneIs id.number (numbers_in (if b then es else e ∷ fs)) → (NoneIs id.number (numbers_in fs) → numbers_in fs ≡ all_but id.number (numbers_in es))
+      → numbers_in (if b then es else e ∷ fs) ≡ unless b (number e) (all_but id.number (numbers_in es))
+  without_head id e es fs true none rest = sym (all_stay id.number (numbers_in es) (λ h. none id.number h refl))
+  without_head id e es fs false none rest = ap (λ l. number e ∷ l) (rest (λ n h. none n (inr h)))
+
+  numbers-without : (id : EntryId) (es : List (Entry (Slot W))) → NoneIs id.number (numbers_in (without (has_id id) es)) → numbers_in (without (has_id id) es) ≡ all_but id.number (numbers_in es)
+  numbers-without id [] none = refl
+  numbers-without id (e ∷ es) none = without_head id e es (without (has_id id) es) (has_id id e.key) none (numbers-without id es)
+
+  without_by : (id : EntryId) (old new : List (Entry (Slot W))) → numbers_in new ≡ numbers_in (without (has_id id) old) → is_listed (has_id id) new ≡ false → numbers_in new ≡ all_but id.number (numbers_in old)
+  without_by id old new is none = is ∙ numbers-without id old (λ n h. away id new none n (subst (Has n) (sym is) h))
+
+  same_by : (id : EntryId) (old new : List (Entry (Slot W))) → numbers_in new ≡ numbers_in old → is_listed (has_id id) new ≡ false → numbers_in new ≡ all_but id.number (numbers_in old)
+  same_by id old new is none = is ∙ sym (all_stay id.number (numbers_in old) (λ h. away id new none id.number (subst (Has id.number) (sym is) h) refl))
+
+  -- it has left, and no entry has the id
+  pub left_by_id : (id : EntryId) (old new : List (Entry (Slot W))) → new ≡ left (has_id id) old → is_listed (has_id id) new ≡ false → numbers_in new ≡ all_but id.number (numbers_in old)
+  left_by_id id old new is none = without_by id old new (ap numbers_in is ∙ numbers-passed_on (mark_at (has_id id) old) (without (has_id id) old)) none
+
+  -- whoever has asked and isn't there has left, or was not there
+  pub asked_by_id : (id : EntryId) (w : Option W) (old new : List (Entry (Slot W))) (a : Asked W) → HasAsked id w old a new → is_listed (has_id id) new ≡ false → numbers_in new ≡ all_but id.number (numbers_in old)
+  asked_by_id id w old new (asked.Notified kept unused) h none = without_by id old new (ap numbers_in h.1) none
+  asked_by_id id w old new (asked.Waiting kept) h none = same_by id old new (ap numbers_in h.2 ∙ numbers-with_key id w old) none
+  asked_by_id id w old new (asked.Unlisted unused) h none = same_by id old new (ap numbers_in h.1) none

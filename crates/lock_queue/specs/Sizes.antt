@@ -1,5 +1,5 @@
 -- What the calls on a list do to its sizes: how many entries there are, and how many of them are notified.
-use Rattle.std.specs.Prelude.{◌≡◌, ◌+◌, ◌<◌, ◌≤◌, List, length}
+use Rattle.std.specs.Prelude.{◌≡◌, ◌+◌, ◌<◌, List, length}
 use Rattle.lock_event.specs.declared.event.Entry.{Entry}
 use Rattle.lock_event.specs.Lists.{marked_count}
 
@@ -12,13 +12,9 @@ module _ {K : Type 0} (old new : List (Entry K)) where
   abbrev pub IsOneNotified : Type 0
   IsOneNotified = (length new ≡ length old) × (0 < length new → 0 < marked_count new)
 
-  -- There is one less at most.
-  abbrev pub IsOneLess : Type 0
-  IsOneLess = length old ≤ length new + 1
-
-  -- The same, there are no more, and if one was notified, one of those that are left is.
-  abbrev pub IsOneGone : Type 0
-  IsOneGone = IsOneLess × (length new ≤ length old) × (0 < length new → 0 < marked_count old → 0 < marked_count new)
+  -- If one was notified, one of those that are left is.
+  abbrev pub StaysNotified : Type 0
+  StaysNotified = 0 < length new → 0 < marked_count old → 0 < marked_count new
 
   -- There are as many, and as many are notified.
   abbrev pub IsSameSize : Type 0

@@ -1,11 +1,11 @@
 //! What is done to a list's entries while the list is out.
 
-ghost use Rattle.std.specs.Prelude.{◌≡◌, ⊤, true, false, OnErr, IfOk};
+ghost use Rattle.std.specs.Prelude.{◌≡◌, true, false, OnErr, IfOk};
 ghost use Rattle.futures.specs.Task.{Keeps};
 ghost use Rattle.lock_event.specs.Lists.{is_waiting_at, is_listed};
 ghost use Rattle.lock_event.specs.Slots.{has_id};
 ghost use Rattle.lock_queue.specs.Asking.{ByHeard};
-ghost use Rattle.lock_queue.specs.Entries.{HasFewer, IsKept, HasJoined, IsTold, AreTold, IsGone, HasLeft};
+ghost use Rattle.lock_queue.specs.Entries.{IsKept, HasJoined, IsTold, AreTold, IsGone, HasLeft};
 ghost use Rattle.lock_queue.specs.Receipts.{KeepsAt, IsReceipt};
 
 use crate::due::{AllDue, Due};
@@ -113,8 +113,7 @@ pub(crate) fn ask(
     cx: &mut Context<'_>,
 ) -> Heard<Whose>
     ensures answer { ByHeard result (is_waiting_at (has_id id) event.old.entries ≡ false) (λ _. is_waiting_at (has_id id) event.old.entries ≡ true) }
-    ensures asked { ByHeard result (HasFewer event.old.entries event.new.entries) (λ _. IsKept event.old.entries event.new.entries) }
-    ensures gone { ByHeard result (IsGone event.old.entries event.new.entries id.number) (λ _. ⊤) }
+    ensures asked { ByHeard result (IsGone event.old.entries event.new.entries id.number) (λ _. IsKept event.old.entries event.new.entries) }
     ensures waits { ByHeard result (cx.new ≡ cx.old) (λ whose. KeepsAt id whose event.new.entries × IsReceipt source.now.id cx.new whose) }
     ensures kept { Keeps cx.old cx.new }
 {
@@ -128,8 +127,7 @@ pub(crate) fn ask(
 // The same, of an entry that keeps the waker that it has.
 pub(crate) fn ask_again(event: &mut Event<Waker>, id: EntryId) -> Heard<()>
     ensures answer { ByHeard result (is_waiting_at (has_id id) event.old.entries ≡ false) (λ _. is_waiting_at (has_id id) event.old.entries ≡ true) }
-    ensures asked { ByHeard result (HasFewer event.old.entries event.new.entries) (λ _. IsKept event.old.entries event.new.entries) }
-    ensures gone { ByHeard result (IsGone event.old.entries event.new.entries id.number) (λ _. ⊤) }
+    ensures asked { ByHeard result (IsGone event.old.entries event.new.entries id.number) (λ _. IsKept event.old.entries event.new.entries) }
 {
     if event.is_waiting(id) {
         return Heard::Waits(());
@@ -141,8 +139,7 @@ pub(crate) fn ask_again(event: &mut Event<Waker>, id: EntryId) -> Heard<()>
 #[inline(never)]
 fn told(event: &mut Event<Waker>, id: EntryId) -> Option<Waker>
     requires { is_waiting_at (has_id id) event.old.entries ≡ false }
-    ensures fewer { HasFewer event.old.entries event.new.entries }
-    ensures gone { IsGone event.old.entries event.new.entries id.number }
+    ensures { IsGone event.old.entries event.new.entries id.number }
 {
     match event.ask(id, None) {
         Asked::Notified { kept, .. } => kept,

@@ -1,10 +1,10 @@
 //! A list that is made when somebody first joins.
 
-ghost use Rattle.std.specs.Prelude.{◌≡◌, ⊤, [], IfOk, IsSome, OnOk, OnErr, true};
+ghost use Rattle.std.specs.Prelude.{◌≡◌, [], IfOk, IsSome, OnOk, OnErr, true};
 ghost use Rattle.futures.specs.Task.{Keeps};
 ghost use Rattle.lock_queue.specs.Asking.{ByHeard};
 ghost use Rattle.lock_queue.specs.Queues.{entries_of};
-ghost use Rattle.lock_queue.specs.Entries.{HasFewer, IsKept, HasJoined, IsTold, AreTold, IsGone, HasLeft};
+ghost use Rattle.lock_queue.specs.Entries.{IsKept, HasJoined, IsTold, AreTold, IsGone, HasLeft};
 ghost use Rattle.lock_queue.specs.Receipts.{IsReceipt};
 
 use crate::due::{AllDue, Due};
@@ -161,8 +161,7 @@ impl Queue {
 
     /// An entry asks for its notification. One that waits keeps a waker of the task of `cx`, which registers with `source`.
     pub fn ask(&mut self, id: EntryId, source: &Source, cx: &mut Context<'_>) -> Heard<Whose>
-        ensures asked { ByHeard result (HasFewer (entries_of self.old) (entries_of self.new)) (λ _. IsKept (entries_of self.old) (entries_of self.new)) }
-        ensures gone { ByHeard result (IsGone (entries_of self.old) (entries_of self.new) id.number) (λ _. ⊤) }
+        ensures asked { ByHeard result (IsGone (entries_of self.old) (entries_of self.new) id.number) (λ _. IsKept (entries_of self.old) (entries_of self.new)) }
         ensures waits { ByHeard result (cx.new ≡ cx.old) (IsReceipt source.now.id cx.new) }
         ensures kept { Keeps cx.old cx.new }
     {
@@ -174,8 +173,7 @@ impl Queue {
 
     /// The same, of an entry that keeps the waker that it has.
     pub fn ask_again(&mut self, id: EntryId) -> Heard<()>
-        ensures asked { ByHeard result (HasFewer (entries_of self.old) (entries_of self.new)) (λ _. IsKept (entries_of self.old) (entries_of self.new)) }
-        ensures gone { ByHeard result (IsGone (entries_of self.old) (entries_of self.new) id.number) (λ _. ⊤) }
+        ensures asked { ByHeard result (IsGone (entries_of self.old) (entries_of self.new) id.number) (λ _. IsKept (entries_of self.old) (entries_of self.new)) }
     {
         match &mut self.entries {
             Some(event) => list::ask_again(event, id),

@@ -3,3 +3,5 @@ pub mod Exchanges
 pub mod MutexWord
 pub mod Views
 pub mod Waiting
+pub mod Matched
+pub mod Holding

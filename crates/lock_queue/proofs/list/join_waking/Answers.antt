@@ -13,7 +13,7 @@ pub unreachable-requires : goal.unreachable-requires
 unreachable-requires c = true≢false (sym (waits_joined c.in_ok-id.id None _ c.in_ok-id.ensures.fresh) ∙ ap (is_waiting_at (has_id c.in_ok-id.id)) (sym c.in_ok-id.ensures.joined) ∙ sym c.in_default.ensures.waits)
 
 pub returns-clause-joined : goal.returns-clause-joined
-returns-clause-joined c = joined_keyed c.in_ok-id.id c.register.new.slot _ _ c.in_ok-id.ensures.joined
+returns-clause-joined c = joined_keyed c.in_ok-id.id c.register.new.slot _ _ c.in_ok-id.ensures.joined c.in_ok-id.ensures.fresh
 
 pub returns-clause-keeps : goal.returns-clause-keeps
 returns-clause-keeps c = (
