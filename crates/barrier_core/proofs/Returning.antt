@@ -1,15 +1,13 @@
 -- What is known of a list that is about to be given back.
 use Rattle.std.proofs.Common.{◌≡◌, ℕ, ◌+◌, ◌≤◌, List, [], ◌∷◌, ◌++◌, length, arith, refl, sym, ap, ◌∙◌, subst, Result, Ok, Err, IfOk, OnErr, MatchResult}
-use Rattle.std.specs.Prelude.{⊤}
 use Rattle.atomic_table.specs.Table.{Me, rest}
 use Rattle.lock_queue.specs.Asking.{ByHeard}
-use Rattle.lock_queue.specs.Entries.{waiting_in, numbers_in, HasFewer, IsKept, HasJoined, AreTold, IsGone, HasLeft}
+use Rattle.lock_queue.specs.Entries.{waiting_in, numbers_in, IsKept, HasJoined, AreTold, IsGone, HasLeft}
 use Rattle.lock_queue.specs.Queues.{entries_of}
 use Rattle.lock_queue.specs.declared.heard.Heard.{Heard}
 use Rattle.lock_queue.specs.declared.heard.Heard.TheVariants.{Told, Waits}
-use Rattle.words_base.specs.Waiting.{Has, Fewer, JoinedBy, LeftBy}
-use Rattle.lock_queue.specs.Sizes.{IsOneLess}
-use Rattle.lock_queue.proofs.Numbers.{length-numbers}
+use Rattle.words_base.specs.Waiting.{Has, Fewer, JoinedBy, LeftBy, all_but}
+use Rattle.words_base.proofs.Holding.{same_out}
 use Rattle.words_barrier.specs.Steps.{IsHeld, Out, CanJoin, CanLeave, CanPay, CanStay}
 use Rattle.words_barrier.specs.declared.view.View.{View}
 use Rattle.barrier_core.specs.Lists.{waiting_of, numbers_of, Says}
@@ -23,24 +21,13 @@ module _ (m : Me Entries View) (held : IsHeld waiting_of numbers_of m) where
   module _ (now left : Entries) (n : ℕ) (e : m.1 ≡ (0, now) ∷ rest m.1) (says : Says left n) where
     -- the same list
     same : held.0 ≡ now
-    same = ap (λ (l : List (ℕ × Entries)). first held.0 l) (sym held.4 ∙ e)
-      where
-        first : Entries → List (ℕ × Entries) → Entries
-        first y [] = y
-        first y (x ∷ xs) = x.1
+    same = sym (same_out now held.0 m.1 (rest m.1) e held.4)
 
     waiting-now : waiting_of now ≡ m.0.waiting
     waiting-now = ap waiting_of (sym same) ∙ sym held.2
 
     numbers-now : numbers_of now ≡ m.0.entries
     numbers-now = ap numbers_of (sym same) ∙ sym held.3
-
-    -- one entry has left at most
-    shorter : IsOneLess (entries_of now.queue) (entries_of left.queue) → length m.0.entries ≤ length (numbers_of left) + 1
-    shorter f =
-        let a : length (numbers_of now) ≡ length (entries_of now.queue) = length-numbers (entries_of now.queue) in
-        let b : length (numbers_of left) ≡ length (entries_of left.queue) = length-numbers (entries_of left.queue) in
-        let c : length (numbers_of now) ≡ length m.0.entries = ap length numbers-now in omega (arith, f)
 
     abbrev After : Me Entries View
     After = (m.0, (0, left) ∷ rest m.1)
@@ -59,26 +46,24 @@ module _ (m : Me Entries View) (held : IsHeld waiting_of numbers_of m) where
 
     pub joined : {A B : Type 0} (number : A → ℕ) (r : Result A B) → IfOk r (λ a. HasJoined (entries_of now.queue) (entries_of left.queue) (number a)) → OnErr r (entries_of left.queue ≡ entries_of now.queue)
         → MatchResult r (λ a. CanJoin waiting_of numbers_of After n (number a)) (λ _. CanStay waiting_of numbers_of After n)
-    joined number (Ok a) f g = (left, out, subst (λ l. JoinedBy (number a) l (waiting_of left)) waiting-now f.joined, f.last, f.stand ∙ ap (λ l. l ++ number a ∷ []) numbers-now)
+    joined number (Ok a) f g = (left, out, subst (λ l. JoinedBy (number a) l (waiting_of left)) waiting-now f.joined, f.stand ∙ ap (λ l. l ++ number a ∷ []) numbers-now, λ h. f.fresh (subst (Has (number a)) (sym numbers-now) h))
     joined number (Err b) f g = unchanged g
 
-    goes : (k : ℕ) → LeftBy k (waiting_of now) (waiting_of left) → LeftBy k (numbers_of now) (numbers_of left) → IsOneLess (entries_of now.queue) (entries_of left.queue) → m.0.entry ≡ k → CanLeave waiting_of numbers_of After n
-    goes k f g less is = (
+    goes : (k : ℕ) → LeftBy k (waiting_of now) (waiting_of left) → numbers_of left ≡ all_but k (numbers_of now) → m.0.entry ≡ k → CanLeave waiting_of numbers_of After n
+    goes k f g is = (
       left,
       out,
       subst (λ j. LeftBy j m.0.waiting (waiting_of left)) (sym is) (subst (λ l. LeftBy k l (waiting_of left)) waiting-now f),
-      subst (λ j. LeftBy j m.0.entries (numbers_of left)) (sym is) (subst (λ l. LeftBy k l (numbers_of left)) numbers-now g),
-      shorter less,
+      g ∙ ap (λ j. all_but j (numbers_of now)) (sym is) ∙ ap (all_but m.0.entry) numbers-now,
     )
 
     pub leaves : (k : ℕ) → HasLeft (entries_of now.queue) (entries_of left.queue) k → m.0.entry ≡ k → CanLeave waiting_of numbers_of After n
-    leaves k f is = goes k f.left f.stand f.size.0 is
+    leaves k f is = goes k f.left f.stand is
 
-    pub asks : {K : Type 0} (k : ℕ) (h : Heard K) → ByHeard h (HasFewer (entries_of now.queue) (entries_of left.queue)) (λ _. IsKept (entries_of now.queue) (entries_of left.queue))
-        → ByHeard h (IsGone (entries_of now.queue) (entries_of left.queue) k) (λ _. ⊤) → m.0.entry ≡ k
+    pub asks : {K : Type 0} (k : ℕ) (h : Heard K) → ByHeard h (IsGone (entries_of now.queue) (entries_of left.queue) k) (λ _. IsKept (entries_of now.queue) (entries_of left.queue)) → m.0.entry ≡ k
         → ByHeard h (CanLeave waiting_of numbers_of After n) (λ _. CanStay waiting_of numbers_of After n)
-    asks k (Told kept) f g is = goes k g.left g.stand f.size is
-    asks k (Waits w) f g is = stays f
+    asks k (Told kept) f is = goes k f.left f.stand is
+    asks k (Waits w) f is = stays f
 
     pub pays : AreTold (entries_of now.queue) (entries_of left.queue) → CanPay waiting_of numbers_of After n
     pays f = (left, out, f.none_waits, f.stand ∙ numbers-now)

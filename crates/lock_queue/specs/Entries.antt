@@ -1,5 +1,5 @@
 -- Which entries of a list wait, and what the calls on it do to them.
-use Rattle.words_base.specs.Waiting.{Has, NoneWaits, Fewer, JoinedBy, LeftBy, StaysTold, unless, all_but, last_of}
+use Rattle.words_base.specs.Waiting.{IsNew, NoneWaits, Fewer, JoinedBy, LeftBy, StaysTold, unless, all_but, last_of}
 use Rattle.std.specs.Prelude.{◌≡◌, ℕ, ◌<◌, ◌≤◌, ◌⊎◌, List, [], ◌∷◌, ◌++◌}
 use Rattle.lock_event.specs.declared.event.Entry.{Entry}
 use Rattle.lock_event.specs.declared.event.Slot.{Slot}
@@ -28,7 +28,7 @@ module _ {W : Type 0} where
   pub record HasJoined (old new : List (Entry (Slot W))) (n : ℕ) : Type 0 where
     pub joined : JoinedBy n (waiting_in old) (waiting_in new)
     pub last : last_of (waiting_in new) ≡ n
-    pub fresh : Has n (numbers_in old) → ⊥
+    pub fresh : IsNew n (numbers_in old)
     pub stand : numbers_in new ≡ numbers_in old ++ n ∷ []
     pub marked : marked_count old ≤ marked_count new
     pub size : IsOneMore old new

@@ -6,12 +6,14 @@ use Rattle.atomic_table.specs.Table.{State, Me, keeps, takes, gives, rest, Enter
 use Rattle.atomic_table.proofs.Lists.{at_snoc}
 use Rattle.words_base.specs.Waiting.{last_of}
 use Rattle.words_base.proofs.Sums.{number-none}
-use Rattle.words_barrier.specs.Rule.{first_view, is_listed, has_list_out, Owes, WaitsFor, IsEntryOf, Ruled}
+use Rattle.words_barrier.specs.Rule.{first_view, has_list_out, Owes, WaitsFor, IsEntryOf, Ruled}
 use Rattle.words_barrier.specs.Seats.{saw_of, counted_of, finished_by, eased_of, listing_of, back, joined_of, gone_of, paid_of}
 use Rattle.words_barrier.specs.Steps.{Looked, Counted, Finished, Peeked, Grabbed, CanJoin, CanLeave, CanPay, CanStay}
 use Rattle.words_barrier.specs.declared.view.View.{View}
 use Rattle.words_barrier.proofs.Flags.{never, SetsLow}
+use Rattle.words_base.proofs.Matched.{longer}
 use Rattle.words_base.proofs.Views.{some-longer}
+use Rattle.words_base.proofs.Waiting.{last-pushed}
 use Rattle.words_barrier.proofs.Keeps.{sees, counts, finishes, busy, eases, grabbed, joins, leaves, pays, remains}
 
 module _ (S : Type 0) (waiting_of entries_of : S → List ℕ) where
@@ -46,17 +48,17 @@ module _ (S : Type 0) (waiting_of entries_of : S → List ℕ) where
 
     module _ (new : ℕ) (wide : 0 < slots) where
       pub given_joined : (k : ℕ) → CanJoin waiting_of entries_of me new k → me.0.listed ≡ false
-          → Allows R slots id me 1 (λ _. new) (λ _ m'. (list : S) × (me.1 ≡ (0, list) ∷ rest me.1) × (m' ≡ (joined_of (last_of (waiting_of list)) me.0, rest me.1)))
+          → Allows R slots id me 1 (λ _. new) (λ _ m'. (list : S) × (me.1 ≡ (0, list) ∷ rest me.1) × (m' ≡ (joined_of (last_of (entries_of list)) me.0, rest me.1)))
       given_joined k c away s r len at _ = (
         joined_of k me.0,
         gives,
         tt,
-        joins S waiting_of entries_of s id me r at c.0 new c.1.0 c.1.1 (subst (λ (z : ℕ). 0 < z) (sym len) wide) c.1.2 c.1.3 k c.2 c.4 away,
-        (c.0, c.1.1, ap (λ j. (joined_of j me.0, rest me.1)) (sym c.3)),
+        joins S waiting_of entries_of s id me r at c.0 new c.1.0 c.1.1 (subst (λ (z : ℕ). 0 < z) (sym len) wide) c.1.2 c.1.3 k c.2 c.3 c.4 away,
+        (c.0, c.1.1, ap (λ j. (joined_of j me.0, rest me.1)) (sym (ap last_of c.3 ∙ last-pushed k me.0.entries))),
       )
 
       pub given_gone : CanLeave waiting_of entries_of me new → me.0.listed ≡ true → Allows R slots id me 1 (λ _. new) (λ _ m'. m' ≡ (gone_of me.0, rest me.1))
-      given_gone c was s r len at _ = (gone_of me.0, gives, tt, leaves S waiting_of entries_of s id me r at c.0 new c.1.0 c.1.1 (subst (λ (z : ℕ). 0 < z) (sym len) wide) c.1.2 c.1.3 c.2 c.3 c.4 was, refl)
+      given_gone c was s r len at _ = (gone_of me.0, gives, tt, leaves S waiting_of entries_of s id me r at c.0 new c.1.0 c.1.1 (subst (λ (z : ℕ). 0 < z) (sym len) wide) c.1.2 c.1.3 c.2 c.3 was, refl)
 
       pub given_paid : CanPay waiting_of entries_of me new → Allows R slots id me 1 (λ _. new) (λ _ m'. m' ≡ (paid_of me.0, rest me.1))
       given_paid c s r len at _ = (paid_of me.0, gives, tt, pays S waiting_of entries_of s id me r at c.0 new c.1.0 c.1.1 (subst (λ (z : ℕ). 0 < z) (sym len) wide) c.1.2 c.1.3 c.2 c.3, refl)
@@ -75,8 +77,7 @@ module _ (S : Type 0) (waiting_of entries_of : S → List ℕ) where
           list_word = (omega arith, omega arith);
           waiting = r.waiting;
           entries = r.entries;
-          standing = λ k h. some-longer (IsEntryOf k) s.views w (r.standing k h);
-          placed = (let d = number-none is_listed s.views w refl in let p = r.placed in omega arith);
+          matched = longer IsEntryOf r.entries s.views w (λ k q. never q.0) r.matched;
           wakes = ⊎_elim (λ c. inl (some-longer Owes s.views w c)) (λ all. inr (λ k h. some-longer (WaitsFor n k) s.views w (all k h))) r.wakes;
           unlisted = r.unlisted;
           home = λ absent. r.home (sym o ∙ absent);

@@ -6,13 +6,13 @@ use Rattle.atomic_table.specs.Table.{State, Me, keeps, takes, gives, stepped, pu
 use Rattle.atomic_table.proofs.Lists.{set_here, at_set}
 use Rattle.words_base.specs.Sums.{weight, number}
 use Rattle.words_base.proofs.Sums.{number-set, number-at}
-use Rattle.words_barrier.specs.Rule.{first_view, is_listed, has_list_out, Owes, WaitsFor, IsEntryOf, LosesNone, SaysEmpty, Ruled}
+use Rattle.words_barrier.specs.Rule.{first_view, has_list_out, Owes, WaitsFor, IsEntryOf, LosesNone, SaysEmpty, Ruled}
 use Rattle.words_barrier.specs.Seats.{saw_of, counted_of, finished_by, eased_of, listing_of, back, joined_of, gone_of, paid_of}
-use Rattle.words_base.specs.Waiting.{Has, NoneWaits, Fewer, JoinedBy, LeftBy, SomeSeat, AreOf}
+use Rattle.words_base.specs.Waiting.{Has, NoneWaits, Fewer, JoinedBy, LeftBy, IsNew, Matched, all_but, SomeSeat, AreOf}
 use Rattle.words_barrier.specs.declared.view.View.{View}
 use Rattle.words_barrier.proofs.Flags.{never}
-use Rattle.words_base.proofs.Waiting.{joined_by, length-pushed}
-use Rattle.words_base.proofs.Views.{own, own_else, stays, all_stay}
+use Rattle.words_base.proofs.Matched.{nobody_stands, kept, joined, left}
+use Rattle.words_base.proofs.Views.{own, stays, all_stay}
 
 module _ (S : Type 0) (waiting_of entries_of : S → List ℕ) where
   abbrev R : State S View → Type 0
@@ -30,8 +30,7 @@ module _ (S : Type 0) (waiting_of entries_of : S → List ℕ) where
       list_word = (omega arith, refl);
       waiting = [];
       entries = [];
-      standing = λ n h. absurd h;
-      placed = omega arith;
+      matched = nobody_stands IsEntryOf first_view [] refl (λ n q. never q.0);
       wakes = inr (λ n h. absurd h);
       unlisted = λ _. refl;
       home = λ _. (list, refl, none_there, no_entries);
@@ -62,14 +61,11 @@ module _ (S : Type 0) (waiting_of entries_of : S → List ℕ) where
     Leaves w = (w.has_list ≡ me.0.has_list) × (w.waiting ≡ me.0.waiting) × (w.entries ≡ me.0.entries) × (w.listed ≡ me.0.listed) × (w.entry ≡ me.0.entry)
 
     -- the seats keep their entries
-    standing_as : (w : View) → w.listed ≡ me.0.listed → w.entry ≡ me.0.entry → AreOf IsEntryOf r.entries (after w)
-    standing_as w l e = all_stay s.views id me.0 at IsEntryOf r.entries w (λ n is. (l ∙ is.0, e ∙ is.1)) r.standing
+    matched_as : (w : View) → w.listed ≡ me.0.listed → w.entry ≡ me.0.entry → Matched IsEntryOf r.entries (after w)
+    matched_as w l e = kept IsEntryOf r.entries s.views id me.0 at r.matched w (λ n is. (l ∙ is.0, e ∙ is.1)) (λ n is. (sym l ∙ is.0, sym e ∙ is.1))
 
     out_left : (w : View) → Leaves w → (i : ℕ) (v : View) → get_elem? (after w) i ≡ some v → v.has_list ≡ true → (v.waiting ≡ r.waiting) × (v.entries ≡ r.entries)
     out_left w left = out_set w (λ is. let o = r.out id me.0 at (sym left.0 ∙ is) in (left.1 ∙ o.0, left.2 ∙ o.1))
-
-    placed_as : (w : View) → w.listed ≡ me.0.listed → number is_listed (after w) ≤ length r.entries
-    placed_as w l = let c = number-set is_listed s.views id me.0 w at in let l' : weight (is_listed w) ≡ weight (is_listed me.0) = ap weight l in let p = r.placed in omega arith
 
     same_out : (w : View) → w.has_list ≡ me.0.has_list → number has_list_out (after w) ≡ number has_list_out s.views
     same_out w e = let c = number-set has_list_out s.views id me.0 w at in let e' : weight (has_list_out w) ≡ weight (has_list_out me.0) = ap weight e in omega arith
@@ -84,8 +80,7 @@ module _ (S : Type 0) (waiting_of entries_of : S → List ℕ) where
           list_word = (omega arith, ap (λ k. k % 2) there ∙ is ∙ sym same);
           waiting = r.waiting;
           entries = r.entries;
-          standing = standing_as w left.3 left.4;
-          placed = placed_as w left.3;
+          matched = matched_as w left.3 left.4;
           wakes = subst (λ k. LosesNone k r.waiting (after w)) (sym here) wakes;
           unlisted = λ low. r.unlisted (subst SaysEmpty there low);
           home = λ absent. r.home (sym same ∙ absent);
@@ -123,8 +118,7 @@ module _ (S : Type 0) (waiting_of entries_of : S → List ℕ) where
           list_word = (omega arith, ap (λ k. k % 2) here ∙ parity ∙ is ∙ sym same);
           waiting = r.waiting;
           entries = r.entries;
-          standing = standing_as w left.3 left.4;
-          placed = placed_as w left.3;
+          matched = matched_as w left.3 left.4;
           wakes = subst (λ k. LosesNone k r.waiting (after w)) (sym there) wakes;
           unlisted = λ low. r.unlisted (below (subst SaysEmpty here low));
           home = λ absent. r.home (sym same ∙ absent);
@@ -156,8 +150,7 @@ module _ (S : Type 0) (waiting_of entries_of : S → List ℕ) where
             list_word = (omega arith, ap (λ k. k % 2) here ∙ odd ∙ sym one);
             waiting = r.waiting;
             entries = r.entries;
-            standing = standing_as w refl refl;
-            placed = placed_as w refl;
+            matched = matched_as w refl refl;
             wakes = subst (λ k. LosesNone k r.waiting (after w)) (sym there) (wakes_as w ((λ o. o), λ k f. f));
             unlisted = λ low. r.unlisted (below (subst SaysEmpty here low));
             home = λ absent. absurd (omega arith);
@@ -170,8 +163,8 @@ module _ (S : Type 0) (waiting_of entries_of : S → List ℕ) where
       abbrev new : List ℕ
       new = waiting_of list
 
-      returned : (w : View) → w.has_list ≡ false → AreOf IsEntryOf (entries_of list) (after w) → number is_listed (after w) ≤ length (entries_of list) → LosesNone x new (after w) → R (stepped s 1 n id me.1 w gives)
-      returned w off standing placed wakes =
+      returned : (w : View) → w.has_list ≡ false → Matched IsEntryOf (entries_of list) (after w) → LosesNone x new (after w) → R (stepped s 1 n id me.1 w gives)
+      returned w off matched wakes =
           let c = number-set has_list_out s.views id me.0 w at in let c' : weight (has_list_out w) ≡ 0 = ap weight off in let l : weight (has_list_out me.0) ≡ 1 = ap weight is_out in
           let one = r.list_word.0 in
           let none_out : number has_list_out (after w) ≡ 0 = omega arith in
@@ -180,8 +173,7 @@ module _ (S : Type 0) (waiting_of entries_of : S → List ℕ) where
             list_word = (omega arith, ap (λ k. k % 2) here ∙ (omega arith));
             waiting = new;
             entries = entries_of list;
-            standing = standing;
-            placed = placed;
+            matched = matched;
             wakes = subst (λ k. LosesNone k new (after w)) (sym there) wakes;
             unlisted = λ below. low (subst SaysEmpty here below);
             home = λ _. (list, subst (λ (t : List (ℕ × S)). get_elem? (put_back s.homes t) 0 ≡ some (some list)) (sym has) (set_here s.homes 0 (some list) wide), refl, refl);
@@ -200,38 +192,31 @@ module _ (S : Type 0) (waiting_of entries_of : S → List ℕ) where
           (λ old. inr (λ k h. ⊎_elim (λ t. stays s.views id me.0 at (WaitsFor x k) w t.1 (old k (subst (Has k) known.0 t.0))) (λ p. mine (WaitsFor x k) w p) (all k h))) r.wakes
 
       -- no others, without its own, and with its own
-      same_stand : (w : View) → w.listed ≡ me.0.listed → w.entry ≡ me.0.entry → entries_of list ≡ me.0.entries → AreOf IsEntryOf (entries_of list) (after w)
-      same_stand w l e same n h = standing_as w l e n (subst (Has n) (same ∙ known.1) h)
+      same_stand : (w : View) → w.listed ≡ me.0.listed → w.entry ≡ me.0.entry → entries_of list ≡ me.0.entries → Matched IsEntryOf (entries_of list) (after w)
+      same_stand w l e same = subst (λ es. Matched IsEntryOf es (after w)) (sym (same ∙ known.1)) (matched_as w l e)
 
-      same_placed : (w : View) → w.listed ≡ me.0.listed → entries_of list ≡ me.0.entries → number is_listed (after w) ≤ length (entries_of list)
-      same_placed w l same = subst (λ es. number is_listed (after w) ≤ length es) (sym (same ∙ known.1)) (placed_as w l)
+      left_stand : (w : View) → w.listed ≡ false → me.0.listed ≡ true → entries_of list ≡ all_but me.0.entry me.0.entries → Matched IsEntryOf (entries_of list) (after w)
+      left_stand w off was gone = subst (λ es. Matched IsEntryOf es (after w)) (sym (gone ∙ ap (all_but me.0.entry) known.1))
+          (left IsEntryOf r.entries s.views id me.0 at r.matched me.0.entry w (was, refl) (λ n is. sym is.1) (λ n is. never (sym off ∙ is.0)))
 
-      left_stand : (w : View) → LeftBy me.0.entry me.0.entries (entries_of list) → AreOf IsEntryOf (entries_of list) (after w)
-      left_stand w left n h = let o = left n h in own_else s.views id me.0 at (IsEntryOf n) w (λ is. o.1 (sym is.1)) (r.standing n (subst (Has n) known.1 o.0))
-
-      joined_stand : (k : ℕ) (w : View) → w.listed ≡ true → w.entry ≡ k → me.0.listed ≡ false → entries_of list ≡ me.0.entries ++ k ∷ [] → AreOf IsEntryOf (entries_of list) (after w)
-      joined_stand k w l e away joined n h = ⊎_elim
-          (λ old. own_else s.views id me.0 at (IsEntryOf n) w (λ is. never (sym away ∙ is.0)) (r.standing n (subst (Has n) known.1 old)))
-          (λ same. mine (IsEntryOf n) w (l, e ∙ sym same)) (joined_by k me.0.entries n (subst (Has n) joined h))
+      joined_stand : (k : ℕ) (w : View) → w.listed ≡ true → w.entry ≡ k → me.0.listed ≡ false → entries_of list ≡ me.0.entries ++ k ∷ [] → IsNew k me.0.entries → Matched IsEntryOf (entries_of list) (after w)
+      joined_stand k w l e away longer fresh = subst (λ es. Matched IsEntryOf es (after w)) (sym (longer ∙ ap (λ (es : List ℕ). es ++ k ∷ []) known.1))
+          (joined IsEntryOf r.entries s.views id me.0 at r.matched k w (λ n is. never (sym away ∙ is.0)) (l, e) (λ n is. sym is.1 ∙ e) (λ h. fresh (subst (Has k) (sym known.1) h)))
 
       -- its entry has joined
-      pub joins : (k : ℕ) → JoinedBy k me.0.waiting new → entries_of list ≡ me.0.entries ++ k ∷ [] → me.0.listed ≡ false → R (stepped s 1 n id me.1 (joined_of k me.0) gives)
-      joins k joined entered away = let w : View = joined_of k me.0 in
-          let c = number-set is_listed s.views id me.0 w at in let new' : weight (is_listed w) ≡ 1 = refl in let old : weight (is_listed me.0) ≡ 0 = ap weight away in
-          let p = r.placed in let k' : length me.0.entries ≡ length r.entries = ap length known.1 in let more : length (entries_of list) ≡ length me.0.entries + 1 = ap length entered ∙ length-pushed k me.0.entries in
-          returned w refl (joined_stand k w refl refl away entered) (omega arith) (stand w (λ o. o) (λ j h. ⊎_elim (λ old. inl (old, λ f. never (sym away ∙ f.0))) (λ e. inr (refl, sym e, inl refl)) (joined j h)))
+      pub joins : (k : ℕ) → JoinedBy k me.0.waiting new → entries_of list ≡ me.0.entries ++ k ∷ [] → IsNew k me.0.entries → me.0.listed ≡ false → R (stepped s 1 n id me.1 (joined_of k me.0) gives)
+      joins k by entered fresh away = let w : View = joined_of k me.0 in
+          returned w refl (joined_stand k w refl refl away entered fresh) (stand w (λ o. o) (λ j h. ⊎_elim (λ old. inl (old, λ f. never (sym away ∙ f.0))) (λ e. inr (refl, sym e, inl refl)) (by j h)))
 
       -- its entry has left
-      pub leaves : LeftBy me.0.entry me.0.waiting new → LeftBy me.0.entry me.0.entries (entries_of list) → length me.0.entries ≤ length (entries_of list) + 1 → me.0.listed ≡ true → R (stepped s 1 n id me.1 (gone_of me.0) gives)
-      leaves left gone shorter was = let w : View = gone_of me.0 in
-          let c = number-set is_listed s.views id me.0 w at in let new' : weight (is_listed w) ≡ 0 = refl in let old : weight (is_listed me.0) ≡ 1 = ap weight was in
-          let p = r.placed in let k' : length me.0.entries ≡ length r.entries = ap length known.1 in
-          returned w refl (left_stand w gone) (omega arith) (stand w (λ o. o) (λ j h. inl ((left j h).0, λ f. absurd ((left j h).1 (sym f.1)))))
+      pub leaves : LeftBy me.0.entry me.0.waiting new → entries_of list ≡ all_but me.0.entry me.0.entries → me.0.listed ≡ true → R (stepped s 1 n id me.1 (gone_of me.0) gives)
+      leaves by gone was = let w : View = gone_of me.0 in
+          returned w refl (left_stand w refl was gone) (stand w (λ o. o) (λ j h. inl ((by j h).0, λ f. absurd ((by j h).1 (sym f.1)))))
 
       -- all are notified
       pub pays : NoneWaits new → entries_of list ≡ me.0.entries → R (stepped s 1 n id me.1 (paid_of me.0) gives)
-      pays none_waits fewer = let w : View = paid_of me.0 in returned w refl (same_stand w refl refl fewer) (same_placed w refl fewer) (inr (λ k h. absurd (none_waits k h)))
+      pays none_waits same = let w : View = paid_of me.0 in returned w refl (same_stand w refl refl same) (inr (λ k h. absurd (none_waits k h)))
 
       -- nothing has changed
       pub remains : Fewer me.0.waiting new → entries_of list ≡ me.0.entries → R (stepped s 1 n id me.1 (back me.0) gives)
-      remains fewer same = let w : View = back me.0 in returned w refl (same_stand w refl refl same) (same_placed w refl same) (stand w (λ o. o) (λ j h. inl (fewer j h, λ f. f)))
+      remains fewer same = let w : View = back me.0 in returned w refl (same_stand w refl refl same) (stand w (λ o. o) (λ j h. inl (fewer j h, λ f. f)))

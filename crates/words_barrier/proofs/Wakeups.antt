@@ -2,8 +2,8 @@
 use Rattle.std.proofs.Common.{◌≡◌, ℕ, ◌≤◌, List, length, sym, ◌∙◌, subst, ⊎_elim}
 use Rattle.atomic_table.specs.Table.{State}
 use Rattle.words_base.specs.Sums.{number}
-use Rattle.words_base.specs.Waiting.{AreOf}
-use Rattle.words_barrier.specs.Rule.{is_listed, has_list_out, Ruled, IsEntryOf, LosesNone}
+use Rattle.words_base.specs.Waiting.{AreOf, Matched}
+use Rattle.words_barrier.specs.Rule.{has_list_out, Ruled, IsEntryOf, LosesNone}
 use Rattle.words_barrier.specs.Laws.{finished, IsListHome, Lies, IsOfThis, IsAtRest}
 use Rattle.words_barrier.specs.declared.view.View.{View}
 use Rattle.words_barrier.proofs.Flags.{never, number-no}
@@ -23,5 +23,5 @@ module _ {S : Type 0} (waiting_of entries_of : S → List ℕ) (s : State S View
         (λ all. λ n t. let c = all n t in (c.0, c.1, c.2, (c.3.0, c.3.1, ⊎_elim (λ f. never (sym ((rest c.0 c.1 c.2).1) ∙ f)) (λ e. e) c.3.2))) h.2,
   )
 
-  pub standing : IsListHome s → (list : S) × Lies s list × AreOf IsEntryOf (entries_of list) s.views × (number is_listed s.views ≤ length (entries_of list))
-  standing even = let h = r.home (sym r.list_word.1 ∙ even) in (h.0, h.1, subst (λ l. AreOf IsEntryOf l s.views) (sym h.3) r.standing, subst (λ l. number is_listed s.views ≤ length l) (sym h.3) r.placed)
+  pub standing : IsListHome s → (list : S) × Lies s list × Matched IsEntryOf (entries_of list) s.views
+  standing even = let h = r.home (sym r.list_word.1 ∙ even) in (h.0, h.1, subst (λ l. Matched IsEntryOf l s.views) (sym h.3) r.matched)

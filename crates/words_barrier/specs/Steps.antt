@@ -1,7 +1,7 @@
 -- What steps tell, and what a seat has that has the list out.
-use Rattle.std.specs.Prelude.{◌≡◌, ℕ, ◌+◌, ◌%◌, ◌<◌, ◌≤◌, true, List, [], ◌∷◌, ◌++◌, length}
+use Rattle.std.specs.Prelude.{◌≡◌, ℕ, ◌+◌, ◌%◌, ◌<◌, ◌≤◌, true, List, [], ◌∷◌, ◌++◌}
 use Rattle.atomic_table.specs.Table.{Me, rest}
-use Rattle.words_base.specs.Waiting.{NoneWaits, Fewer, JoinedBy, LeftBy, last_of}
+use Rattle.words_base.specs.Waiting.{NoneWaits, Fewer, JoinedBy, LeftBy, IsNew, all_but}
 use Rattle.words_barrier.specs.Rule.{SaysEmpty}
 use Rattle.words_barrier.specs.Seats.{saw_of, counted_of, finished_by, eased_of, listing_of}
 use Rattle.words_barrier.specs.declared.view.View.{View}
@@ -44,11 +44,11 @@ module _ {S : Type 0} (waiting_of entries_of : S → List ℕ) (m : Me S View) (
 
   -- One has joined.
   abbrev pub CanJoin : ℕ → Type 0
-  CanJoin k = (list : S) × Out list × JoinedBy k m.0.waiting (waiting_of list) × (last_of (waiting_of list) ≡ k) × (entries_of list ≡ m.0.entries ++ k ∷ [])
+  CanJoin k = (list : S) × Out list × JoinedBy k m.0.waiting (waiting_of list) × (entries_of list ≡ m.0.entries ++ k ∷ []) × IsNew k m.0.entries
 
   -- The seat's entry has left.
   abbrev pub CanLeave : Type 0
-  CanLeave = (list : S) × Out list × LeftBy m.0.entry m.0.waiting (waiting_of list) × LeftBy m.0.entry m.0.entries (entries_of list) × (length m.0.entries ≤ length (entries_of list) + 1)
+  CanLeave = (list : S) × Out list × LeftBy m.0.entry m.0.waiting (waiting_of list) × (entries_of list ≡ all_but m.0.entry m.0.entries)
 
   -- All are notified.
   abbrev pub CanPay : Type 0

@@ -1,10 +1,9 @@
 //! What the rule says of who waits for a generation.
 
-ghost use Rattle.std.specs.Prelude.{ℕ, ◌≤◌, ◌⊎◌, length};
-ghost use Rattle.words_base.specs.Sums.{number};
+ghost use Rattle.std.specs.Prelude.{ℕ, ◌⊎◌};
 ghost use Rattle.atomic_table.specs.Table.{State};
-ghost use Rattle.words_base.specs.Waiting.{AreOf};
-ghost use Rattle.words_barrier.specs.Rule.{Ruled, LosesNone, IsEntryOf, is_listed};
+ghost use Rattle.words_base.specs.Waiting.{AreOf, Matched};
+ghost use Rattle.words_barrier.specs.Rule.{Ruled, LosesNone, IsEntryOf};
 ghost use Rattle.words_barrier.specs.Laws.{finished, IsListHome, Lies, IsOfThis, IsAtRest};
 ghost use Rattle.words_barrier.specs.declared.view.View.{View};
 
@@ -15,10 +14,10 @@ use crate::rule::Content;
 /// While nobody has the list out, some seat that has finished a generation owes the whole list a notification, or each entry that isn't
 /// notified is of a seat that has found, since it joined, as many generations finished as there are, or has not looked yet since it
 /// joined. At rest, when no seat is inside a call, each entry that isn't notified is, by its number, of a seat that has found so, and so of
-/// the generation that is under way. Each entry, notified or not, is of a seat that stands in the list, and no more seats stand in it
-/// than it has entries. The call does nothing: its clauses are the law.
+/// the generation that is under way. Each entry, notified or not, is of a seat that stands in the list, each seat that stands there has
+/// its entry in it, and no two have one. The call does nothing: its clauses are the law.
 pub fn no_lost_wakeup<S: Content>()
     ensures running { (s : State S View) → Ruled S.waiting S.entries s → IsListHome s → (list : S) × Lies s list × LosesNone (finished s) (S.waiting list) s.views }
     ensures at_rest { (s : State S View) → Ruled S.waiting S.entries s → IsAtRest s → (list : S) × Lies s list × AreOf (IsOfThis s) (S.waiting list) s.views }
-    ensures standing { (s : State S View) → Ruled S.waiting S.entries s → IsListHome s → (list : S) × Lies s list × AreOf IsEntryOf (S.entries list) s.views × (number is_listed s.views ≤ length (S.entries list)) }
+    ensures standing { (s : State S View) → Ruled S.waiting S.entries s → IsListHome s → (list : S) × Lies s list × Matched IsEntryOf (S.entries list) s.views }
 {}

@@ -1,7 +1,7 @@
 -- What the rule of a table sees of a waiting list, and what becomes of a list while it is out.
 use Rattle.std.specs.Prelude.{◌≡◌, ℕ, ◌<◌, ◌⊎◌, List, [], ◌∷◌, ◌++◌, refl}
 use Rattle.std.specs.Coded.{Coded, code_by, coded×, coded_list, coded_ℕ}
-use Rattle.words_base.specs.Waiting.{Has, NoneWaits, Fewer, JoinedBy, LeftBy, StaysTold, all_but}
+use Rattle.words_base.specs.Waiting.{IsNew, NoneWaits, Fewer, JoinedBy, LeftBy, StaysTold, all_but}
 
 -- The numbers of its entries; of those that are not notified; and how many are.
 pub record Listed : Type 0 where
@@ -39,7 +39,7 @@ pub record PaysAll (old new : Listed) : Type 0 where
 -- The entry of this number, which no other has, has joined at the back; and if one was notified, one is.
 pub record Joins (k : ℕ) (old new : Listed) : Type 0 where
   pub entries : new.entries ≡ old.entries ++ k ∷ []
-  pub fresh : Has k old.entries → ⊥
+  pub fresh : IsNew k old.entries
   pub joined : JoinedBy k old.waiting new.waiting
   pub told : 0 < old.notified → 0 < new.notified
 

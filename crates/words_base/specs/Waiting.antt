@@ -8,6 +8,10 @@ abbrev pub Has : ℕ → List ℕ → Type 0
 Has n [] = ⊥
 Has n (k ∷ ks) = (k ≡ n) ⊎ Has n ks
 
+-- No entry has the number.
+abbrev pub IsNew : ℕ → List ℕ → Type 0
+IsNew n l = Has n l → ⊥
+
 -- Nobody waits: each entry of the list is notified.
 abbrev pub NoneWaits : List ℕ → Type 0
 NoneWaits waiting = (n : ℕ) → Has n waiting → ⊥

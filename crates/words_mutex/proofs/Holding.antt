@@ -2,6 +2,7 @@
 use Rattle.std.proofs.Common.{◌≡◌, ℕ, List, ◌∷◌, [], sym, ap, ◌∙◌}
 use Rattle.atomic_table.specs.Table.{Me, rest}
 use Rattle.words_base.specs.Waiting.{last_of}
+use Rattle.words_base.proofs.Holding.{same_out}
 use Rattle.words_base.proofs.Waiting.{last-pushed}
 use Rattle.words_mutex.specs.Seats.{listing_of, joined_of}
 use Rattle.words_mutex.specs.Steps.{IsHeld, IsSame, CanJoin}
@@ -25,14 +26,6 @@ held_of {S} entries_of marked_of m m' list e = (
   ap (λ (n : Me S View). rest n.1) e,
 )
 
--- the same list
-same_out : {S : Type 0} (x y : S) (l : List (ℕ × S)) → l ≡ (0, x) ∷ rest l → l ≡ (0, y) ∷ rest l → x ≡ y
-same_out {S} x y l e f = ap (λ (k : List (ℕ × S)). first x k) (sym e ∙ f)
-  where
-    first : S → List (ℕ × S) → S
-    first z [] = z
-    first z (k ∷ ks) = k.1
-
 -- whoever stands last has this number
 pub joined_same : {S : Type 0} (entries_of : S → List ℕ) (marked_of : S → ℕ) (m : Me S View) (n k : ℕ) → CanJoin entries_of marked_of m n k → (m' : Me S View) → (list : S) × (m.1 ≡ (0, list) ∷ rest m.1) × (m' ≡ (joined_of (last_of (entries_of list)) m.0, rest m.1)) → m' ≡ (joined_of k m.0, rest m.1)
-joined_same entries_of marked_of m n k c m' t = t.2 ∙ ap (λ j. (joined_of j m.0, rest m.1)) (ap (λ l. last_of (entries_of l)) (same_out t.0 c.0 m.1 t.1 c.1.1) ∙ ap last_of c.3 ∙ last-pushed k m.0.entries)
+joined_same entries_of marked_of m n k c m' t = t.2 ∙ ap (λ j. (joined_of j m.0, rest m.1)) (ap (λ l. last_of (entries_of l)) (same_out t.0 c.0 m.1 (rest m.1) t.1 c.1.1) ∙ ap last_of c.3 ∙ last-pushed k m.0.entries)

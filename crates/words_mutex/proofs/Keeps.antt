@@ -10,9 +10,9 @@ use Rattle.atomic_table.proofs.Lists.{set_here, set_else, at_set, at_snoc}
 use Rattle.lock_place.specs.Held.{RoomId}
 use Rattle.words_base.specs.Sums.{weight, number}
 use Rattle.words_base.specs.MutexWord.{IsWord}
-use Rattle.words_base.specs.Waiting.{Has, AreOf, LeftBy, last_of}
-use Rattle.words_base.proofs.Waiting.{joined_by, last-pushed, length-pushed}
-use Rattle.words_base.proofs.Views.{own, own_else, all_stay, some-longer}
+use Rattle.words_base.specs.Waiting.{Has, IsNew, Matched, all_but, last_of}
+use Rattle.words_base.proofs.Waiting.{last-pushed, length-pushed, no-longer}
+use Rattle.words_base.proofs.Matched.{nobody_stands, longer, kept, joined, left, at_most}
 use Rattle.words_base.proofs.MutexWord as word
 use Rattle.words_base.proofs.MutexWord.{or_one}
 use Rattle.words_base.proofs.Sums.{number-set, number-at, number-none}
@@ -78,8 +78,7 @@ module _ (S : Type 0) (entries_of : S → List ℕ) (marked_of : S → ℕ) (is_
     marked = marked_of list;
     stands = at_first Stands nothing;
     keyed = at_first (IsKeyed room deed) (refl, refl);
-    placed = omega arith;
-    standing = λ n h. absurd (subst (Has n) is h);
+    matched = nobody_stands IsEntryOf first (entries_of list) is (λ n q. never q.0);
     wakes = inr (omega arith);
     unlisted = λ _. is;
     home = λ _. (list, refl, refl, refl);
@@ -104,8 +103,8 @@ module _ (S : Type 0) (entries_of : S → List ℕ) (marked_of : S → ℕ) (is_
     mine = r.stands id me.0 at
 
     -- the seats keep their entries
-    standing_as : (w : View) → w.listed ≡ me.0.listed → w.entry ≡ me.0.entry → AreOf IsEntryOf r.entries (after w)
-    standing_as w l e = all_stay s.views id me.0 at IsEntryOf r.entries w (λ n is. (l ∙ is.0, e ∙ is.1)) r.standing
+    matched_as : (w : View) → w.listed ≡ me.0.listed → w.entry ≡ me.0.entry → Matched IsEntryOf r.entries (after w)
+    matched_as w l e = kept IsEntryOf r.entries s.views id me.0 at r.matched w (λ n is. (l ∙ is.0, e ∙ is.1)) (λ n is. (sym l ∙ is.0, sym e ∙ is.1))
 
     stands_set : (w : View) → Stands w → (i : ℕ) (v : View) → get_elem? (after w) i ≡ some v → Stands v
     stands_set w good i v e = ⊎_elim (λ here. subst Stands here.1 good) (λ else. r.stands i v else.1) (at_set s.views id i w v e)
@@ -159,8 +158,7 @@ module _ (S : Type 0) (entries_of : S → List ℕ) (marked_of : S → ℕ) (is_
         → (number is_holder (after w) ≡ 0 → Lies (homes_after s.homes me.1 a)) → Stands w → LosesNone len r.marked (after w) → R (stepped s 0 n id me.1 w a)
     moved n w a good left home right stands wakes =
         let c = number-set has_list_out s.views id me.0 w at in let l' : weight (has_list_out w) ≡ weight (has_list_out me.0) = ap weight left.0 in
-        let d = number-set is_listed s.views id me.0 w at in let e' : weight (is_listed w) ≡ weight (is_listed me.0) = ap weight left.3 in
-        let lw = r.list_word in let p = r.placed in
+        let lw = r.list_word in
         let there : get_or (set s.words 0 n) 1 0 ≡ y = get_or-set_other s.words 0 1 n 0 (λ q. omega arith) in record {
           word = good;
           list_word = (subst (λ (z : ℕ). 1 < z) (sym (length-set s.words 0 n)) lw.0, (let a = lw.1 in omega arith), (let a = lw.2 in omega arith));
@@ -168,8 +166,7 @@ module _ (S : Type 0) (entries_of : S → List ℕ) (marked_of : S → ℕ) (is_
           marked = r.marked;
           stands = stands_set w stands;
           keyed = keyed_set w (left_keyed w left.4);
-          placed = omega arith;
-          standing = standing_as w left.3 left.5;
+          matched = matched_as w left.3 left.5;
           wakes = wakes;
           unlisted = λ below. r.unlisted (subst SaysEmpty there below);
           home = λ absent. let h = r.home (omega arith) in (h.0, home ∙ h.1, h.2, h.3);
@@ -210,7 +207,7 @@ module _ (S : Type 0) (entries_of : S → List ℕ) (marked_of : S → ℕ) (is_
         unmoved x w (word.stays is_holder is_starved most 0 s.words s.views id me.0 w r.word at refl refl) (refl, refl, refl, refl, (refl, refl), refl) refl
         ((λ f. never f), (λ st ow ho. ((mine.1 st ow ho).0, refl)))
         (⊎_elim (λ a. inl (omega arith))
-        (λ b. dite (ℕ_discrete (number is_owing s.views) 0) (λ idle. let k = starving even ne idle in let p = r.placed in absurd (omega arith)) (λ q. inl (omega arith))) r.wakes)
+        (λ b. dite (ℕ_discrete (number is_owing s.views) 0) (λ idle. let k = starving even ne idle in let p = at_most is_listed (λ (v : View). v.entry) r.entries s.views r.matched in absurd (omega arith)) (λ q. inl (omega arith))) r.wakes)
 
     -- nothing changes
     pub still : R (stepped s 0 x id me.1 me.0 keeps)
@@ -303,8 +300,7 @@ module _ (S : Type 0) (entries_of : S → List ℕ) (marked_of : S → ℕ) (is_
         → Stands w → LosesNone len r.marked (after w) → R (stepped s 1 n id me.1 w keeps)
     at_list n w parity below left h t stands wakes =
         let c = number-set has_list_out s.views id me.0 w at in let c' : weight (has_list_out w) ≡ weight (has_list_out me.0) = ap weight left.0 in
-        let d = number-set is_listed s.views id me.0 w at in let d' : weight (is_listed w) ≡ weight (is_listed me.0) = ap weight left.3 in
-        let one = r.list_word.1 in let is = r.list_word.2 in let p = r.placed in
+        let one = r.list_word.1 in let is = r.list_word.2 in
         let same = get_or-set_same s.words 1 n 0 r.list_word.0 in record {
           word = beside n w h t;
           list_word = list_placed n w (omega arith) (omega arith);
@@ -312,8 +308,7 @@ module _ (S : Type 0) (entries_of : S → List ℕ) (marked_of : S → ℕ) (is_
           marked = r.marked;
           stands = stands_set w stands;
           keyed = keyed_set w (left_keyed w left.4);
-          placed = omega arith;
-          standing = standing_as w left.3 left.5;
+          matched = matched_as w left.3 left.5;
           wakes = wakes;
           unlisted = λ low. r.unlisted (below (subst SaysEmpty same low));
           home = λ absent. r.home (omega arith);
@@ -341,8 +336,7 @@ module _ (S : Type 0) (entries_of : S → List ℕ) (marked_of : S → ℕ) (is_
     pub grabbed : y % 2 ≡ 0 → (n : ℕ) → n % 2 ≡ 1 → (SaysEmpty n → SaysEmpty y) → (list : S) × (get_elem? s.homes 0 ≡ some (some list)) × R (stepped s 1 n id me.1 (listing list) (takes 0 list))
     grabbed even n odd below = let h = lies even in let w : View = listing h.0 in
         let c = number-set has_list_out s.views id me.0 w at in let c' : weight (has_list_out w) ≡ 1 = refl in
-        let d = number-set is_listed s.views id me.0 w at in let d' : weight (is_listed w) ≡ weight (is_listed me.0) = refl in
-        let m = number-at has_list_out s.views id me.0 at in let is = r.list_word.2 in let p = r.placed in
+        let m = number-at has_list_out s.views id me.0 at in let is = r.list_word.2 in
         let one : number has_list_out (after w) ≡ 1 = omega arith in
         let same = get_or-set_same s.words 1 n 0 r.list_word.0 in (
           h.0,
@@ -354,8 +348,7 @@ module _ (S : Type 0) (entries_of : S → List ℕ) (marked_of : S → ℕ) (is_
             marked = r.marked;
             stands = stands_set w mine;
             keyed = keyed_set w mine_keyed;
-            placed = omega arith;
-            standing = standing_as w refl refl;
+            matched = matched_as w refl refl;
             wakes = wakes-same w refl refl refl;
             unlisted = λ low. r.unlisted (below (subst SaysEmpty same low));
             home = λ absent. absurd (omega arith);
@@ -366,8 +359,8 @@ module _ (S : Type 0) (entries_of : S → List ℕ) (marked_of : S → ℕ) (is_
 
     -- the seat gives the list back, and has this view then
     module _ (list : S) (n : ℕ) (lists : me.0.has_list ≡ true) (has : me.1 ≡ (0, list) ∷ rest me.1) (wide : 0 < length s.homes) (four : n % 4 ≡ 0) (low : SaysEmpty n → entries_of list ≡ []) where
-      returned : (w : View) → w.has_list ≡ false → IsKeyed me.0.room me.0.deed w → w.holds ≡ me.0.holds → w.starved ≡ me.0.starved → Stands w → number is_listed (after w) ≤ len_of list → AreOf IsEntryOf (entries_of list) (after w) → LosesNone (len_of list) (marked_of list) (after w) → R (stepped s 1 n id me.1 w gives)
-      returned w off key h t stands placed standing wakes =
+      returned : (w : View) → w.has_list ≡ false → IsKeyed me.0.room me.0.deed w → w.holds ≡ me.0.holds → w.starved ≡ me.0.starved → Stands w → Matched IsEntryOf (entries_of list) (after w) → LosesNone (len_of list) (marked_of list) (after w) → R (stepped s 1 n id me.1 w gives)
+      returned w off key h t stands matched wakes =
           let c = number-set has_list_out s.views id me.0 w at in let c' : weight (has_list_out w) ≡ 0 = ap weight off in let l : weight (has_list_out me.0) ≡ 1 = ap weight lists in
           let one = r.list_word.1 in
           let nobody : number has_list_out (after w) ≡ 0 = omega arith in
@@ -378,8 +371,7 @@ module _ (S : Type 0) (entries_of : S → List ℕ) (marked_of : S → ℕ) (is_
             marked = marked_of list;
             stands = stands_set w stands;
             keyed = keyed_set w (left_keyed w key);
-            placed = placed;
-            standing = standing;
+            matched = matched;
             wakes = wakes;
             unlisted = λ below. low (subst SaysEmpty same below);
             home = λ _. (list, subst (λ (t : List (ℕ × S)). get_elem? (put_back s.homes t) 0 ≡ some (some list)) (sym has) (set_here s.homes 0 (some list) wide), refl, refl);
@@ -395,65 +387,53 @@ module _ (S : Type 0) (entries_of : S → List ℕ) (marked_of : S → ℕ) (is_
       known_len = ap length known.0
 
       -- the same entries
-      stand_same : (w : View) → w.listed ≡ me.0.listed → w.entry ≡ me.0.entry → entries_of list ≡ me.0.entries → AreOf IsEntryOf (entries_of list) (after w)
-      stand_same w l e same = subst (λ es. AreOf IsEntryOf es (after w)) (sym (same ∙ known.0)) (standing_as w l e)
+      stand_same : (w : View) → w.listed ≡ me.0.listed → w.entry ≡ me.0.entry → entries_of list ≡ me.0.entries → Matched IsEntryOf (entries_of list) (after w)
+      stand_same w l e same = subst (λ es. Matched IsEntryOf es (after w)) (sym (same ∙ known.0)) (matched_as w l e)
 
       -- without its own
-      stand_left : (w : View) → LeftBy me.0.entry me.0.entries (entries_of list) → AreOf IsEntryOf (entries_of list) (after w)
-      stand_left w left n h = let o = left n h in own_else s.views id me.0 at (IsEntryOf n) w (λ is. o.1 (sym is.1)) (r.standing n (subst (Has n) known.0 o.0))
+      stand_left : (w : View) → w.listed ≡ false → me.0.listed ≡ true → entries_of list ≡ all_but me.0.entry me.0.entries → Matched IsEntryOf (entries_of list) (after w)
+      stand_left w off was gone = subst (λ es. Matched IsEntryOf es (after w)) (sym (gone ∙ ap (all_but me.0.entry) known.0))
+          (left IsEntryOf r.entries s.views id me.0 at r.matched me.0.entry w (was, refl) (λ n is. sym is.1) (λ n is. never (sym off ∙ is.0)))
 
       -- with its own
-      stand_joined : (k : ℕ) (w : View) → w.listed ≡ true → w.entry ≡ k → me.0.listed ≡ false → entries_of list ≡ me.0.entries ++ k ∷ [] → AreOf IsEntryOf (entries_of list) (after w)
-      stand_joined k w l e away longer n h = ⊎_elim
-          (λ old. own_else s.views id me.0 at (IsEntryOf n) w (λ is. never (sym away ∙ is.0)) (r.standing n (subst (Has n) known.0 old)))
-          (λ new. own s.views id me.0 at (IsEntryOf n) w (l, e ∙ sym new))
-          (joined_by k me.0.entries n (subst (Has n) longer h))
+      stand_joined : (k : ℕ) (w : View) → w.listed ≡ true → w.entry ≡ k → me.0.listed ≡ false → entries_of list ≡ me.0.entries ++ k ∷ [] → IsNew k me.0.entries → Matched IsEntryOf (entries_of list) (after w)
+      stand_joined k w l e away longer fresh = subst (λ es. Matched IsEntryOf es (after w)) (sym (longer ∙ ap (λ (es : List ℕ). es ++ k ∷ []) known.0))
+          (joined IsEntryOf r.entries s.views id me.0 at r.matched k w (λ n is. never (sym away ∙ is.0)) (l, e) (λ n is. sym is.1 ∙ e) (λ h. fresh (subst (Has k) (sym known.0) h)))
 
       -- its entry has joined: it has not looked yet
-      abbrev pub joined : ℕ → View
-      joined k = joined_of k me.0
-
-      pub joins : (k : ℕ) → entries_of list ≡ me.0.entries ++ k ∷ [] → marked_of list ≡ me.0.marked → me.0.listed ≡ false → (me.0.starved ≡ true → me.0.owes ≡ true) → R (stepped s 1 n id me.1 (joined k) gives)
-      joins k longer same away starts = let w : View = joined k in
+      pub joins : (k : ℕ) → entries_of list ≡ me.0.entries ++ k ∷ [] → marked_of list ≡ me.0.marked → IsNew k me.0.entries → me.0.listed ≡ false → (me.0.starved ≡ true → me.0.owes ≡ true) → R (stepped s 1 n id me.1 (joined_of k me.0) gives)
+      joins k longer same new away starts = let w : View = joined_of k me.0 in
           let more : len_of list ≡ length me.0.entries + 1 = ap length longer ∙ length-pushed k me.0.entries in
-          let h = number-set is_holder s.views id me.0 w at in let o = number-set is_owing s.views id me.0 w at in let f = number-set is_fresh s.views id me.0 w at in let d = number-set is_listed s.views id me.0 w at in
-          let h' : weight (is_holder w) ≡ weight (is_holder me.0) = refl in let o' : weight (is_owing w) ≡ weight (is_owing me.0) = refl in let f' : weight (is_fresh w) ≡ 1 = refl in let d' : weight (is_listed w) ≡ 1 = refl in
-          let was : weight (is_listed me.0) ≡ 0 = ap weight away in
+          let h = number-set is_holder s.views id me.0 w at in let o = number-set is_owing s.views id me.0 w at in let f = number-set is_fresh s.views id me.0 w at in
+          let h' : weight (is_holder w) ≡ weight (is_holder me.0) = refl in let o' : weight (is_owing w) ≡ weight (is_owing me.0) = refl in let f' : weight (is_fresh w) ≡ 1 = refl in
           let not : weight (is_fresh me.0) ≡ 0 = ⊎_elim (λ yes. never (sym away ∙ mine.0 yes)) (λ no. ap weight no) (by_flag me.0.fresh) in
-          let kl = known_len in let q = known.1 in let p = r.placed in
-          returned w refl (refl, refl) refl refl ((λ _. refl), (λ st ow _. never (sym ow ∙ starts st))) (omega arith) (stand_joined k w refl refl away longer) (⊎_elim (λ a. inl (omega arith)) (λ b. inr (omega arith)) r.wakes)
+          let kl = known_len in let q = known.1 in
+          returned w refl (refl, refl) refl refl ((λ _. refl), (λ st ow _. never (sym ow ∙ starts st))) (stand_joined k w refl refl away longer new) (⊎_elim (λ a. inl (omega arith)) (λ b. inr (omega arith)) r.wakes)
 
       -- its entry was notified, and has left: it owes
       abbrev pub told : View
       told = told_of me.0
 
-      pub hears : length me.0.entries ≤ len_of list + 1 → LeftBy me.0.entry me.0.entries (entries_of list) → me.0.listed ≡ true → me.0.fresh ≡ false → R (stepped s 1 n id me.1 told gives)
-      hears shorter left was looked = let w : View = told in
-          let d = number-set is_listed s.views id me.0 w at in let d' : weight (is_listed w) ≡ 0 = refl in let e : weight (is_listed me.0) ≡ 1 = ap weight was in
-          let kl = known_len in let p = r.placed in
-          returned w refl (refl, refl) refl refl ((λ f. never (sym looked ∙ f)), (λ _ o _. never (sym o))) (omega arith) (stand_left w left) (wakes-owing (len_of list) (marked_of list) w refl)
+      pub hears : entries_of list ≡ all_but me.0.entry me.0.entries → me.0.listed ≡ true → me.0.fresh ≡ false → R (stepped s 1 n id me.1 told gives)
+      hears gone was looked = let w : View = told in
+          returned w refl (refl, refl) refl refl ((λ f. never (sym looked ∙ f)), (λ _ o _. never (sym o))) (stand_left w refl was gone) (wakes-owing (len_of list) (marked_of list) w refl)
 
       -- it has notified
       abbrev pub paid : View
       paid = paid_of me.0
 
       pub pays : entries_of list ≡ me.0.entries → (0 < len_of list → 0 < marked_of list) → (me.0.starved ≡ true → (me.0.listed ≡ true) × (me.0.fresh ≡ false)) → R (stepped s 1 n id me.1 paid gives)
-      pays same marks waits = let w : View = paid in let as_long : len_of list ≡ length me.0.entries = ap length same in
-          let d = number-set is_listed s.views id me.0 w at in let d' : weight (is_listed w) ≡ weight (is_listed me.0) = refl in
-          let kl = known_len in let p = r.placed in
-          returned w refl (refl, refl) refl refl (mine.0, (λ st _ _. waits st)) (omega arith) (stand_same w refl refl same) (dite (ℕ_discrete (len_of list) 0) (λ z. inr (omega arith)) (λ ne. let m = marks (omega arith) in inl (omega arith)))
+      pays same marks waits = let w : View = paid in
+          returned w refl (refl, refl) refl refl (mine.0, (λ st _ _. waits st)) (stand_same w refl refl same) (dite (ℕ_discrete (len_of list) 0) (λ z. inr (omega arith)) (λ ne. let m = marks (omega arith) in inl (omega arith)))
 
       -- its entry has left, and what it was told has gone on
-      abbrev pub gone : View
-      gone = gone_of me.0
-
-      pub leaves : length me.0.entries ≤ len_of list + 1 → len_of list ≤ length me.0.entries → (0 < len_of list → 0 < me.0.marked → 0 < marked_of list) → LeftBy me.0.entry me.0.entries (entries_of list) → me.0.listed ≡ true → me.0.fresh ≡ false → me.0.starved ≡ false → R (stepped s 1 n id me.1 gone gives)
-      leaves shorter no_longer marks left was looked calm = let w : View = gone in
-          let h = number-set is_holder s.views id me.0 w at in let o = number-set is_owing s.views id me.0 w at in let f = number-set is_fresh s.views id me.0 w at in let d = number-set is_listed s.views id me.0 w at in
+      pub leaves : entries_of list ≡ all_but me.0.entry me.0.entries → (0 < len_of list → 0 < me.0.marked → 0 < marked_of list) → me.0.listed ≡ true → me.0.fresh ≡ false → me.0.starved ≡ false → R (stepped s 1 n id me.1 (gone_of me.0) gives)
+      leaves gone marks was looked calm = let w : View = gone_of me.0 in
+          let few : len_of list ≤ length me.0.entries = subst (λ (es : List ℕ). length es ≤ length me.0.entries) (sym gone) (no-longer me.0.entry me.0.entries) in
+          let h = number-set is_holder s.views id me.0 w at in let o = number-set is_owing s.views id me.0 w at in let f = number-set is_fresh s.views id me.0 w at in
           let h' : weight (is_holder w) ≡ weight (is_holder me.0) = refl in let o' : weight (is_owing w) ≡ weight (is_owing me.0) = refl in let f' : weight (is_fresh w) ≡ weight (is_fresh me.0) = refl in
-          let d' : weight (is_listed w) ≡ 0 = refl in let e : weight (is_listed me.0) ≡ 1 = ap weight was in
-          let kl = known_len in let q = known.1 in let p = r.placed in
-          returned w refl (refl, refl) refl refl ((λ g. never (sym looked ∙ g)), (λ st _ _. never (sym calm ∙ st))) (omega arith) (stand_left w left)
+          let kl = known_len in let q = known.1 in
+          returned w refl (refl, refl) refl refl ((λ g. never (sym looked ∙ g)), (λ st _ _. never (sym calm ∙ st))) (stand_left w refl was gone)
           (⊎_elim (λ a. dite (ℕ_discrete (len_of list) 0) (λ z. inr (omega arith))
           (λ ne. dite (ℕ_discrete me.0.marked 0) (λ z. inl (omega arith)) (λ more. let m = marks (omega arith) (omega arith) in inl (omega arith))))
           (λ b. inr (omega arith)) r.wakes)
@@ -461,9 +441,8 @@ module _ (S : Type 0) (entries_of : S → List ℕ) (marked_of : S → ℕ) (is_
       -- nothing has changed
       pub stays : entries_of list ≡ me.0.entries → marked_of list ≡ me.0.marked → R (stepped s 1 n id me.1 (back me.0) gives)
       stays same marks = let w : View = back me.0 in let as_long : len_of list ≡ length me.0.entries = ap length same in
-          let d = number-set is_listed s.views id me.0 w at in let d' : weight (is_listed w) ≡ weight (is_listed me.0) = refl in
-          let kl = known_len in let q = known.1 in let p = r.placed in
-          returned w refl (refl, refl) refl refl mine (omega arith) (stand_same w refl refl same) (⊎_elim (λ a. inl (omega arith)) (λ b. inr (omega arith)) (wakes-same w refl refl refl))
+          let kl = known_len in let q = known.1 in
+          returned w refl (refl, refl) refl refl mine (stand_same w refl refl same) (⊎_elim (λ a. inl (omega arith)) (λ b. inr (omega arith)) (wakes-same w refl refl refl))
 
   module _ (slots id : ℕ) (me : M) where
     -- the only one who is starved gets the lock; else it has looked, and found its own count
@@ -566,24 +545,24 @@ module _ (S : Type 0) (entries_of : S → List ℕ) (marked_of : S → ℕ) (is_
         (λ ne. (me.0, keeps, tt, busy s id me r at (bit_or n k) (let o = b.0 in let z : ℕ = bit_or n k in omega (arith, ne)) b.1, ((λ even. absurd (ne even)), λ _. refl)))
 
     module _ (list : S) (new : ℕ) (lists : me.0.has_list ≡ true) (has : me.1 ≡ (0, list) ∷ rest me.1) (wide : 0 < slots) (four : new % 4 ≡ 0) (low : SaysEmpty new → entries_of list ≡ []) where
-      pub gives-joined : (k : ℕ) → entries_of list ≡ me.0.entries ++ k ∷ [] → marked_of list ≡ me.0.marked → me.0.listed ≡ false → (me.0.starved ≡ true → me.0.owes ≡ true)
+      pub gives-joined : (k : ℕ) → entries_of list ≡ me.0.entries ++ k ∷ [] → marked_of list ≡ me.0.marked → IsNew k me.0.entries → me.0.listed ≡ false → (me.0.starved ≡ true → me.0.owes ≡ true)
           → Allows R slots id me 1 (λ _. new) (λ _ m'. (list : S) × (me.1 ≡ (0, list) ∷ rest me.1) × (m' ≡ (joined_of (last_of (entries_of list)) me.0, rest me.1)))
-      gives-joined k longer same away starts s r len at _ = (
+      gives-joined k longer same new_one away starts s r len at _ = (
         joined_of k me.0,
         gives,
         tt,
-        joins s id me r at list new lists has (subst (λ (z : ℕ). 0 < z) (sym len) wide) four low k longer same away starts,
+        joins s id me r at list new lists has (subst (λ (z : ℕ). 0 < z) (sym len) wide) four low k longer same new_one away starts,
         (list, has, ap (λ j. (joined_of j me.0, rest me.1)) (sym (ap last_of longer ∙ last-pushed k me.0.entries))),
       )
 
-      pub gives-told : length me.0.entries ≤ len_of list + 1 → LeftBy me.0.entry me.0.entries (entries_of list) → me.0.listed ≡ true → me.0.fresh ≡ false → Allows R slots id me 1 (λ _. new) (λ _ m'. m' ≡ (told_of me.0, rest me.1))
-      gives-told shorter left was looks s r len at _ = (told_of me.0, gives, tt, hears s id me r at list new lists has (subst (λ (z : ℕ). 0 < z) (sym len) wide) four low shorter left was looks, refl)
+      pub gives-told : entries_of list ≡ all_but me.0.entry me.0.entries → me.0.listed ≡ true → me.0.fresh ≡ false → Allows R slots id me 1 (λ _. new) (λ _ m'. m' ≡ (told_of me.0, rest me.1))
+      gives-told gone was looks s r len at _ = (told_of me.0, gives, tt, hears s id me r at list new lists has (subst (λ (z : ℕ). 0 < z) (sym len) wide) four low gone was looks, refl)
 
       pub gives-paid : entries_of list ≡ me.0.entries → (0 < len_of list → 0 < marked_of list) → (me.0.starved ≡ true → (me.0.listed ≡ true) × (me.0.fresh ≡ false)) → Allows R slots id me 1 (λ _. new) (λ _ m'. m' ≡ (paid_of me.0, rest me.1))
       gives-paid same marks waits s r len at _ = (paid_of me.0, gives, tt, pays s id me r at list new lists has (subst (λ (z : ℕ). 0 < z) (sym len) wide) four low same marks waits, refl)
 
-      pub gives-gone : length me.0.entries ≤ len_of list + 1 → len_of list ≤ length me.0.entries → (0 < len_of list → 0 < me.0.marked → 0 < marked_of list) → LeftBy me.0.entry me.0.entries (entries_of list) → me.0.listed ≡ true → me.0.fresh ≡ false → me.0.starved ≡ false → Allows R slots id me 1 (λ _. new) (λ _ m'. m' ≡ (gone_of me.0, rest me.1))
-      gives-gone shorter no_longer marks left was looks calm s r len at _ = (gone_of me.0, gives, tt, leaves s id me r at list new lists has (subst (λ (z : ℕ). 0 < z) (sym len) wide) four low shorter no_longer marks left was looks calm, refl)
+      pub gives-gone : entries_of list ≡ all_but me.0.entry me.0.entries → (0 < len_of list → 0 < me.0.marked → 0 < marked_of list) → me.0.listed ≡ true → me.0.fresh ≡ false → me.0.starved ≡ false → Allows R slots id me 1 (λ _. new) (λ _ m'. m' ≡ (gone_of me.0, rest me.1))
+      gives-gone gone marks was looks calm s r len at _ = (gone_of me.0, gives, tt, leaves s id me r at list new lists has (subst (λ (z : ℕ). 0 < z) (sym len) wide) four low gone marks was looks calm, refl)
 
       pub gives-same : entries_of list ≡ me.0.entries → marked_of list ≡ me.0.marked → Allows R slots id me 1 (λ _. new) (λ _ m'. m' ≡ (back me.0, rest me.1))
       gives-same same marks s r len at _ = (back me.0, gives, tt, stays s id me r at list new lists has (subst (λ (z : ℕ). 0 < z) (sym len) wide) four low same marks, refl)
@@ -591,8 +570,8 @@ module _ (S : Type 0) (entries_of : S → List ℕ) (marked_of : S → ℕ) (is_
   -- a new seat has nothing
   pub sits : (slots i : ℕ) → Enters R slots i (λ n w. Kept {S = S} (first, []) (w, []))
   sits slots i s r _ _ = let w : View = first in let h = number-none is_holder s.views w refl in let o = number-none is_owing s.views w refl in let l = number-none has_list_out s.views w refl in
-      let f = number-none is_fresh s.views w refl in let d = number-none is_listed s.views w refl in
-      let p = r.placed in let lw = r.list_word in let one = lw.1 in let is = lw.2 in (
+      let f = number-none is_fresh s.views w refl in
+      let lw = r.list_word in let one = lw.1 in let is = lw.2 in (
         w,
         record {
           word = word.comes is_holder is_starved most 0 s.words s.views w r.word refl refl;
@@ -601,8 +580,7 @@ module _ (S : Type 0) (entries_of : S → List ℕ) (marked_of : S → ℕ) (is_
           marked = r.marked;
           stands = λ j v e. ⊎_elim (λ old. r.stands j v old) (λ same. subst Stands same nothing) (at_snoc s.views w v j e);
           keyed = λ j v e. ⊎_elim (λ old. r.keyed j v old) (λ same. subst (IsKeyed room deed) same (refl, refl)) (at_snoc s.views w v j e);
-          placed = omega arith;
-          standing = λ n has. some-longer (IsEntryOf n) s.views w (r.standing n has);
+          matched = longer IsEntryOf r.entries s.views w (λ n q. never q.0) r.matched;
           wakes = ⊎_elim (λ a. inl (omega arith)) (λ b. inr (omega arith)) r.wakes;
           unlisted = r.unlisted;
           home = λ absent. r.home (omega arith);

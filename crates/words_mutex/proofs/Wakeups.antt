@@ -5,15 +5,15 @@ use native.Mathlib.Decide.{ℕ_discrete}
 use Rattle.atomic_table.specs.Table.{State}
 use Rattle.lock_place.specs.Held.{RoomId}
 use Rattle.words_base.specs.Sums.{number}
-use Rattle.words_base.specs.Waiting.{AreOf}
-use Rattle.words_mutex.specs.Rule.{is_holder, is_owing, is_fresh, has_list_out, IsEntryOf, Ruled, is_listed}
+use Rattle.words_base.specs.Waiting.{Matched}
+use Rattle.words_mutex.specs.Rule.{is_holder, is_owing, is_fresh, has_list_out, IsEntryOf, Ruled}
 use Rattle.words_mutex.specs.Laws.{IsFree, IsListHome, Lies, SomeOwes, ManyAreToLook, IsAtRest}
 use Rattle.words_mutex.specs.declared.view.View.{View}
 use Rattle.words_mutex.proofs.Flags.{number-some, number-no}
 
 module _ {S : Type 0} (entries_of : S → List ℕ) (marked_of : S → ℕ) (is_right : RoomId → ℕ → S → Type 0) (room : RoomId) (deed : ℕ) (s : State S View) (r : Ruled entries_of marked_of is_right room deed s) where
-  pub standing : IsListHome s → (list : S) × Lies s list × AreOf IsEntryOf (entries_of list) s.views × (number is_listed s.views ≤ length (entries_of list))
-  standing even = let h = r.home (sym r.list_word.2 ∙ even) in (h.0, h.1, subst (λ es. AreOf IsEntryOf es s.views) (sym h.2) r.standing, subst (λ (es : List ℕ). number is_listed s.views ≤ length es) (sym h.2) r.placed)
+  pub standing : IsListHome s → (list : S) × Lies s list × Matched IsEntryOf (entries_of list) s.views
+  standing even = let h = r.home (sym r.list_word.2 ∙ even) in (h.0, h.1, subst (λ es. Matched IsEntryOf es s.views) (sym h.2) r.matched)
 
 module _ {S : Type 0} (entries_of : S → List ℕ) (marked_of : S → ℕ) (is_right : RoomId → ℕ → S → Type 0) (room : RoomId) (deed : ℕ) (s : State S View) (r : Ruled entries_of marked_of is_right room deed s) (is_free : IsFree s) where
   abbrev len_of : S → ℕ

@@ -6,7 +6,7 @@ use Rattle.atomic_table.specs.Table.{State}
 use Rattle.lock_place.specs.Held.{RoomId}
 use Rattle.words_base.specs.Sums.{number}
 use Rattle.words_base.specs.MutexWord.{IsWord}
-use Rattle.words_base.specs.Waiting.{AreOf}
+use Rattle.words_base.specs.Waiting.{Matched}
 use Rattle.words_mutex.specs.declared.view.View.{View}
 
 abbrev pub first_view : RoomId → ℕ → View
@@ -58,8 +58,8 @@ abbrev pub IsKeyed : RoomId → ℕ → View → Type 0
 IsKeyed room deed v = (v.room ≡ room) × (v.deed ≡ deed)
 
 -- The word 0 says which seat holds the lock and how many are starved. The list has these entries, `marked` of them notified: it lies in the slot 0, or a
--- seat has it out, which knows both as they were when it took the list out. Each entry, notified or not, is of a seat that stands in the list.
--- While nobody holds the lock, the right to the value lies in the slot 1.
+-- seat has it out, which knows both as they were when it took the list out. Each entry, notified or not, is of a seat that stands in the list, each seat
+-- that stands there has its entry in it, and no two have one. While nobody holds the lock, the right to the value lies in the slot 1.
 pub record Ruled {S : Type 0} (entries_of : S → List ℕ) (marked_of : S → ℕ) (is_right : RoomId → ℕ → S → Type 0) (room : RoomId) (deed : ℕ) (s : State S View) : Type 0 where
   pub word : IsWord is_holder is_starved 1073741823 0 s.words s.views
   pub list_word : IsListWord s.words s.views
@@ -67,8 +67,7 @@ pub record Ruled {S : Type 0} (entries_of : S → List ℕ) (marked_of : S → �
   pub marked : ℕ
   pub stands : (i : ℕ) (v : View) → get_elem? s.views i ≡ some v → Stands v
   pub keyed : (i : ℕ) (v : View) → get_elem? s.views i ≡ some v → IsKeyed room deed v
-  pub placed : number is_listed s.views ≤ length entries
-  pub standing : AreOf IsEntryOf entries s.views
+  pub matched : Matched IsEntryOf entries s.views
   pub wakes : LosesNone (length entries) marked s.views
   pub unlisted : SaysEmpty (slice_index s.words 1) → entries ≡ []
   pub home : number has_list_out s.views ≡ 0 → (list : S) × (get_elem? s.homes 0 ≡ some (some list)) × (entries_of list ≡ entries) × (marked_of list ≡ marked)

@@ -1,8 +1,8 @@
 -- What steps tell, and what a seat has that has the list out.
-use Rattle.std.specs.Prelude.{◌≡◌, ◌≢◌, ℕ, ◌%◌, ◌+◌, ◌<◌, ◌≤◌, true, List, [], ◌∷◌, ◌++◌, length}
+use Rattle.std.specs.Prelude.{◌≡◌, ◌≢◌, ℕ, ◌%◌, ◌<◌, true, List, [], ◌∷◌, ◌++◌, length}
 use Rattle.atomic_table.specs.Table.{Me, rest}
 use Rattle.lock_place.specs.Held.{RoomId}
-use Rattle.words_base.specs.Waiting.{LeftBy}
+use Rattle.words_base.specs.Waiting.{IsNew, all_but}
 use Rattle.words_mutex.specs.Rule.{SaysEmpty}
 use Rattle.words_mutex.specs.Seats.{listing_of, got_of, saw_held_of, saw_starved_of}
 use Rattle.words_mutex.specs.declared.view.View.{View}
@@ -48,23 +48,16 @@ module _ {S : Type 0} (entries_of : S → List ℕ) (marked_of : S → ℕ) wher
 -- and what it was notified of has gone on, or nothing has changed.
 module _ {S : Type 0} (entries_of : S → List ℕ) (marked_of : S → ℕ) (m : Me S View) (n : ℕ) where
   abbrev pub CanJoin : ℕ → Type 0
-  CanJoin k = (list : S) × Has m list × Says entries_of list n × (entries_of list ≡ m.0.entries ++ k ∷ []) × (marked_of list ≡ m.0.marked)
+  CanJoin k = (list : S) × Has m list × Says entries_of list n × (entries_of list ≡ m.0.entries ++ k ∷ []) × (marked_of list ≡ m.0.marked) × IsNew k m.0.entries
 
   abbrev pub CanHear : Type 0
-  CanHear = (list : S) × Has m list × Says entries_of list n × (length m.0.entries ≤ length (entries_of list) + 1) × LeftBy m.0.entry m.0.entries (entries_of list)
+  CanHear = (list : S) × Has m list × Says entries_of list n × (entries_of list ≡ all_but m.0.entry m.0.entries)
 
   abbrev pub CanPay : Type 0
   CanPay = (list : S) × Has m list × Says entries_of list n × (entries_of list ≡ m.0.entries) × (0 < length (entries_of list) → 0 < marked_of list)
 
   abbrev pub CanLeave : Type 0
-  CanLeave =
-      (list : S)
-      × Has m list
-      × Says entries_of list n
-      × (length m.0.entries ≤ length (entries_of list) + 1)
-      × (length (entries_of list) ≤ length m.0.entries)
-      × (0 < length (entries_of list) → 0 < m.0.marked → 0 < marked_of list)
-      × LeftBy m.0.entry m.0.entries (entries_of list)
+  CanLeave = (list : S) × Has m list × Says entries_of list n × (entries_of list ≡ all_but m.0.entry m.0.entries) × (0 < length (entries_of list) → 0 < m.0.marked → 0 < marked_of list)
 
   abbrev pub CanStay : Type 0
   CanStay = (list : S) × Has m list × Says entries_of list n × (entries_of list ≡ m.0.entries) × (marked_of list ≡ m.0.marked)

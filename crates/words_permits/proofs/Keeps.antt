@@ -1,5 +1,5 @@
 -- Each step on the table keeps its rule.
-use Rattle.std.proofs.Common.{◌≡◌, ℕ, zero, suc, ◌+◌, ◌-◌, ◌%◌, ◌^◌, ◌<◌, ◌≤◌, leb, eqb, bit_or, lt_of_not-le, true, false, List, [], ◌∷◌, ◌++◌, length, get_or, set, sym, refl, ap, ◌∙◌, subst, arith, ⊎_elim, inl, inr, length-set, get_or-set_same, get_or-set_other}
+use Rattle.std.proofs.Common.{◌≡◌, ◌≢◌, ℕ, zero, suc, ◌+◌, ◌-◌, ◌%◌, ◌^◌, ◌<◌, ◌≤◌, leb, eqb, bit_or, lt_of_not-le, true, false, List, [], ◌∷◌, ◌++◌, length, get_or, set, sym, refl, ap, ◌∙◌, subst, arith, ⊎_elim, inl, inr, length-set, get_or-set_same, get_or-set_other}
 use Rattle.std.proofs.lemmas.Bool.{le-leb}
 use mathlib.Core.Option.{none, some, some-injective, some-ne-none}
 use mathlib.Core.Logic.{dite}
@@ -11,13 +11,15 @@ use Rattle.atomic_table.proofs.Lists.{set_here, set_else, at_set, at_snoc}
 use Rattle.words_base.specs.Sums.{weight, number, total}
 use Rattle.words_base.proofs.Sums.{number-set, number-at, number-none, total-set, total-at, total-snoc}
 use Rattle.words_base.proofs.Exchanges.{exchanged}
+use Rattle.words_base.specs.Waiting.{Matched}
+use Rattle.words_base.proofs.Matched.{nobody_stands, longer, kept, joined, left}
 use Rattle.words_mutex.proofs.Flags.{never, and_true, many-owes, SetsLow}
-use Rattle.words_permits.specs.Rule.{permits_of, under_way_of, added_of, forgotten_of, is_listed, has_list_out, SaysEmpty, OwesOf, IsEntryOf, IsFreshIn, AreOfSeats, LosesNone, Ruled}
+use Rattle.words_permits.specs.Rule.{permits_of, under_way_of, added_of, forgotten_of, has_list_out, SaysEmpty, OwesOf, IsEntryOf, IsNumberOf, IsFreshIn, AreOfSeats, LosesNone, Ruled}
 use Rattle.words_permits.specs.Seats.{first_view, looking, having_taken, having_given, having_given_new, having_lowered, having_raised, having_found_limit, peeking, listing_of, back, joined_of, told_of, gone_of, paid_of}
 use Rattle.words_permits.specs.Steps.{Takes, Gives, GivesNew, Raises, Says, Grabbed, newest, CanJoin, CanHear, CanLeave, CanPay, CanStay}
-use Rattle.words_permits.specs.Waiters.{Waiter, waiter, StandsIn, last_or, HasNo, LeftBy, IsSound}
+use Rattle.words_permits.specs.Waiters.{Waiter, waiter, StandsIn, last_or, HasNo, numbers, all_but, IsSound}
 use Rattle.words_permits.specs.declared.view.View.{View}
-use Rattle.words_permits.proofs.Owners.{some-set, some-mine, some-snoc, stands-snoc, nobody-stands, last-snoc, sound-snoc, length-snoc}
+use Rattle.words_permits.proofs.Owners.{some-set, some-mine, some-snoc, stands-snoc, nobody-stands, last-snoc, sound-snoc, numbers-snoc, numbers-but, new-number, left-by, sound-but}
 
 -- who has joined last
 pub newest-is : {S : Type 0} (waiters_of : S → List Waiter) (marked_of : S → ℕ) (me : Me S View) (new : ℕ) (w : Waiter) → CanJoin waiters_of marked_of me new w → newest waiters_of me.1 ≡ w
@@ -49,7 +51,7 @@ module _ (S : Type 0) (waiters_of : S → List Waiter) (marked_of : S → ℕ) (
     marked = marked_of list;
     sound = ((λ w s. nobody-stands [] w refl s), λ _. omega arith);
     standing = λ w s. nobody-stands [] w refl s;
-    placed = omega arith;
+    matched = nobody_stands IsNumberOf first_view [] refl (λ n q. never q.0);
     wakes = inr (inr (λ w s _. nobody-stands [] w refl s));
     unlisted = λ _. refl;
     home = λ _. (list, refl, empty, refl);
@@ -75,7 +77,7 @@ module _ (S : Type 0) (waiters_of : S → List Waiter) (marked_of : S → ℕ) (
 
     -- what a step leaves of a seat that isn't of the list
     abbrev pub Leaves : View → Type 0
-    Leaves w = (w.has_list ≡ me.0.has_list) × (w.waiters ≡ me.0.waiters) × (w.marked ≡ me.0.marked) × ((e : Waiter) → IsEntryOf e me.0 → IsEntryOf e w) × (w.listed ≡ me.0.listed)
+    Leaves w = (w.has_list ≡ me.0.has_list) × (w.waiters ≡ me.0.waiters) × (w.marked ≡ me.0.marked) × ((e : Waiter) → IsEntryOf e me.0 → IsEntryOf e w) × (w.listed ≡ me.0.listed) × (w.entry ≡ me.0.entry)
 
     -- what a step leaves of a seat that isn't of the list's word
     abbrev pub Counts : View → Type 0
@@ -93,8 +95,8 @@ module _ (S : Type 0) (waiters_of : S → List Waiter) (marked_of : S → ℕ) (
     stand-by : (l : List Waiter) (w : View) → ((e : Waiter) → StandsIn l e → StandsIn r.waiters e × (IsEntryOf e me.0 → IsEntryOf e w)) → AreOfSeats (after w) l
     stand-by l w good e stands = let g = good e stands in some-set (IsEntryOf e) (IsEntryOf e) s.views id me.0 w at g.1 (λ u f. f) (r.standing e g.0)
 
-    placed-as : (w : View) → w.listed ≡ me.0.listed → number is_listed (after w) ≤ length r.waiters
-    placed-as w l = let c = number-set is_listed s.views id me.0 w at in let l' : weight (is_listed w) ≡ weight (is_listed me.0) = ap weight l in let p = r.placed in omega arith
+    matched-as : (w : View) → w.listed ≡ me.0.listed → w.entry ≡ me.0.entry → Matched IsNumberOf (numbers r.waiters) (after w)
+    matched-as w l e = kept IsNumberOf (numbers r.waiters) s.views id me.0 at r.matched w (λ n is. (l ∙ is.0, e ∙ is.1)) (λ n is. (sym l ∙ is.0, sym e ∙ is.1))
 
     stand-still : (w : View) → Leaves w → AreOfSeats (after w) r.waiters
     stand-still w left = stand-by r.waiters w (λ e stands. (stands, left.3 e))
@@ -131,7 +133,7 @@ module _ (S : Type 0) (waiters_of : S → List Waiter) (marked_of : S → ℕ) (
           marked = r.marked;
           sound = r.sound;
           standing = stand-still w left;
-          placed = placed-as w left.4;
+          matched = matched-as w left.4 left.5;
           wakes = subst (λ (k : ℕ). LosesNone (after w) k r.waiters r.marked) (sym here) wakes;
           unlisted = λ low. r.unlisted (subst SaysEmpty beside low);
           home = λ absent. r.home (sym outs ∙ absent);
@@ -160,7 +162,7 @@ module _ (S : Type 0) (waiters_of : S → List Waiter) (marked_of : S → ℕ) (
           marked = r.marked;
           sound = r.sound;
           standing = stand-still w left;
-          placed = placed-as w left.4;
+          matched = matched-as w left.4 left.5;
           wakes = subst (λ (k : ℕ). LosesNone (after w) k r.waiters r.marked) (sym there) wakes;
           unlisted = λ low. r.unlisted (subst SaysEmpty beside low);
           home = λ absent. r.home (sym outs ∙ absent);
@@ -168,10 +170,10 @@ module _ (S : Type 0) (waiters_of : S → List Waiter) (marked_of : S → ℕ) (
         }
 
     -- the list's word becomes n, and this stands in the list now
-    list_word : (w : View) (n : ℕ) (a : Act S) (l : List Waiter) (m : ℕ) → Counts w → number has_list_out (after w) ≤ 1 → n % 2 ≡ number has_list_out (after w) → IsSound l → AreOfSeats (after w) l → number is_listed (after w) ≤ length l → LosesNone (after w) x l m → (SaysEmpty n → l ≡ [])
+    list_word : (w : View) (n : ℕ) (a : Act S) (l : List Waiter) (m : ℕ) → Counts w → number has_list_out (after w) ≤ 1 → n % 2 ≡ number has_list_out (after w) → IsSound l → AreOfSeats (after w) l → Matched IsNumberOf (numbers l) (after w) → LosesNone (after w) x l m → (SaysEmpty n → l ≡ [])
         → (number has_list_out (after w) ≡ 0 → (list : S) × (get_elem? (homes_after s.homes me.1 a) 0 ≡ some (some list)) × (waiters_of list ≡ l) × (marked_of list ≡ m))
         → ((i : ℕ) (v : View) → get_elem? (after w) i ≡ some v → v.has_list ≡ true → (v.waiters ≡ l) × (v.marked ≡ m)) → R (stepped s 1 n id me.1 w a)
-    list_word w n a l m counts one odd sound standing placed wakes low home out =
+    list_word w n a l m counts one odd sound standing matched wakes low home out =
         let ps = total-set permits_of s.views id me.0 w at in let us = total-set under_way_of s.views id me.0 w at in let is = r.permits in
         let ds = total-set added_of s.views id me.0 w at in let fs = total-set forgotten_of s.views id me.0 w at in let was = r.limit in let wide = r.words in
         let cp = counts.0 in let cu = counts.1 in let ca = counts.2 in let cf = counts.3 in
@@ -190,7 +192,7 @@ module _ (S : Type 0) (waiters_of : S → List Waiter) (marked_of : S → ℕ) (
           marked = m;
           sound = sound;
           standing = standing;
-          placed = placed;
+          matched = matched;
           wakes = subst (λ (k : ℕ). LosesNone (after w) k l m) (sym beside) wakes;
           unlisted = λ empty. low (subst SaysEmpty here empty);
           home = home;
@@ -203,22 +205,22 @@ module _ (S : Type 0) (waiters_of : S → List Waiter) (marked_of : S → ℕ) (
 
     -- nothing changes
     pub still : R (stepped s 0 x id me.1 me.0 keeps)
-    still = first_word me.0 x refl refl refl (refl, refl, refl, (λ _ f. f), refl) still-wakes
+    still = first_word me.0 x refl refl refl (refl, refl, refl, (λ _ f. f), refl, refl) still-wakes
 
     pub sees : R (stepped s 0 x id me.1 (looking x me.0) keeps)
-    sees = let w : View = looking x me.0 in first_word w x refl refl refl (refl, refl, refl, (λ _ f. f), refl) (wakes-by x w (omega arith) (λ o. (o.0, inr (omega arith)))
+    sees = let w : View = looking x me.0 in first_word w x refl refl refl (refl, refl, refl, (λ _ f. f), refl, refl) (wakes-by x w (omega arith) (λ o. (o.0, inr (omega arith)))
         (λ e few f. (f.0, and_true me.0.fresh (leb me.0.weight x) (le-leb me.0.weight x (let k = f.0.2 in omega arith)) ∙ f.1)))
 
     pub takes_some : (k n : ℕ) → n + k ≡ x → R (stepped s 0 n id me.1 (having_taken k n me.0) keeps)
-    takes_some k n less = let w : View = having_taken k n me.0 in first_word w n (omega arith) refl refl (refl, refl, refl, (λ _ f. f), refl) (dite (ℕ_discrete n 0)
+    takes_some k n less = let w : View = having_taken k n me.0 in first_word w n (omega arith) refl refl (refl, refl, refl, (λ _ f. f), refl, refl) (dite (ℕ_discrete n 0)
         (λ none. inr (inr (λ e stands few. let some = r.sound.0 e stands in absurd (omega arith))))
         (λ some. wakes-by n w (omega arith) (λ o. (and_true me.0.owes (leb 1 n) (le-leb 1 n (omega arith)) ∙ o.0, inr (omega arith))) (λ _ _ f. f)))
 
     pub gives_some : (k n : ℕ) → k ≤ me.0.permits → x + k ≡ n → R (stepped s 0 n id me.1 (having_given k n me.0) keeps)
-    gives_some k n has more = let w : View = having_given k n me.0 in first_word w n (omega arith) refl refl (refl, refl, refl, (λ _ f. f), refl) (wakes-owing n r.waiters r.marked w (refl, inr (omega arith)))
+    gives_some k n has more = let w : View = having_given k n me.0 in first_word w n (omega arith) refl refl (refl, refl, refl, (λ _ f. f), refl, refl) (wakes-owing n r.waiters r.marked w (refl, inr (omega arith)))
 
     pub gives_added : (k n : ℕ) → k ≤ me.0.under_way → x + k ≡ n → R (stepped s 0 n id me.1 (having_given_new k n me.0) keeps)
-    gives_added k n has more = let w : View = having_given_new k n me.0 in first_word w n (omega arith) refl refl (refl, refl, refl, (λ _ f. f), refl) (wakes-owing n r.waiters r.marked w (refl, inr (omega arith)))
+    gives_added k n has more = let w : View = having_given_new k n me.0 in first_word w n (omega arith) refl refl (refl, refl, refl, (λ _ f. f), refl, refl) (wakes-owing n r.waiters r.marked w (refl, inr (omega arith)))
 
     -- what the seat has, what is available and what is under way is no more than the limit
     pub within : (x + me.0.permits + me.0.under_way ≤ z) × (z < 18446744073709551616)
@@ -226,31 +228,31 @@ module _ (S : Type 0) (waiters_of : S → List Waiter) (marked_of : S → ℕ) (
 
     -- ---- on the limit
     pub limit_still : R (stepped s 2 z id me.1 me.0 keeps)
-    limit_still = third_word me.0 z r.fits refl refl (refl, refl, refl, (λ _ f. f), refl) still-wakes
+    limit_still = third_word me.0 z r.fits refl refl (refl, refl, refl, (λ _ f. f), refl, refl) still-wakes
 
     pub sees_limit : R (stepped s 2 z id me.1 (having_found_limit z me.0) keeps)
-    sees_limit = let w : View = having_found_limit z me.0 in third_word w z r.fits refl refl (refl, refl, refl, (λ _ f. f), refl) (wakes-by x w (omega arith) (λ o. o) (λ _ _ f. f))
+    sees_limit = let w : View = having_found_limit z me.0 in third_word w z r.fits refl refl (refl, refl, refl, (λ _ f. f), refl, refl) (wakes-by x w (omega arith) (λ o. o) (λ _ _ f. f))
 
     pub raises_by : (k n : ℕ) → n < 2 ^ 64 → z + k ≡ n → R (stepped s 2 n id me.1 (having_raised k me.0) keeps)
-    raises_by k n fits more = let w : View = having_raised k me.0 in third_word w n fits (omega arith) (omega arith) (refl, refl, refl, (λ _ f. f), refl) (wakes-by x w (omega arith) (λ o. o) (λ _ _ f. f))
+    raises_by k n fits more = let w : View = having_raised k me.0 in third_word w n fits (omega arith) (omega arith) (refl, refl, refl, (λ _ f. f), refl, refl) (wakes-by x w (omega arith) (λ o. o) (λ _ _ f. f))
 
     pub lowers_by : (k n : ℕ) → n < 2 ^ 64 → k ≤ me.0.permits → n + k ≡ z → R (stepped s 2 n id me.1 (having_lowered k me.0) keeps)
-    lowers_by k n fits has less = let w : View = having_lowered k me.0 in third_word w n fits (omega arith) (omega arith) (refl, refl, refl, (λ _ f. f), refl) (wakes-by x w (omega arith) (λ o. o) (λ _ _ f. f))
+    lowers_by k n fits has less = let w : View = having_lowered k me.0 in third_word w n fits (omega arith) (omega arith) (refl, refl, refl, (λ _ f. f), refl, refl) (wakes-by x w (omega arith) (λ o. o) (λ _ _ f. f))
 
     -- ---- on the list
     -- who has the list out stays
     at_list : (n : ℕ) (w : View) → n % 2 ≡ y % 2 → (SaysEmpty n → SaysEmpty y) → Leaves w → Counts w → LosesNone (after w) x r.waiters r.marked → R (stepped s 1 n id me.1 w keeps)
     at_list n w parity below left counts wakes = let outs = same_out w left.0 in let one = r.one_out in let odd = r.is_out in
-        list_word w n keeps r.waiters r.marked counts (omega arith) (omega arith) r.sound (stand-still w left) (placed-as w left.4) wakes (λ low. r.unlisted (below low)) (λ absent. r.home (sym outs ∙ absent)) (out_set w left)
+        list_word w n keeps r.waiters r.marked counts (omega arith) (omega arith) r.sound (stand-still w left) (matched-as w left.4 left.5) wakes (λ low. r.unlisted (below low)) (λ absent. r.home (sym outs ∙ absent)) (out_set w left)
 
     pub peeked : R (stepped s 1 y id me.1 (peeking y me.0) keeps)
-    peeked = let w : View = peeking y me.0 in at_list y w refl (λ low. low) (refl, refl, refl, (λ _ f. f), refl) (refl, refl, refl, refl)
+    peeked = let w : View = peeking y me.0 in at_list y w refl (λ low. low) (refl, refl, refl, (λ _ f. f), refl, refl) (refl, refl, refl, refl)
         (dite (dec_le 4 (y % 8)) (λ many. wakes-by x w (omega arith) (λ o. (many-owes (y % 8) me.0.owes many ∙ o.0, o.1)) (λ _ _ f. f))
         (λ few. inr (inr (λ e stands _. nobody-stands r.waiters e (r.unlisted (lt_of_not-le few)) stands))))
 
     -- the list's lock is taken by another
     pub busy : (n : ℕ) → n % 2 ≡ y % 2 → (SaysEmpty n → SaysEmpty y) → R (stepped s 1 n id me.1 me.0 keeps)
-    busy n parity below = at_list n me.0 parity below (refl, refl, refl, (λ _ f. f), refl) (refl, refl, refl, refl) still-wakes
+    busy n parity below = at_list n me.0 parity below (refl, refl, refl, (λ _ f. f), refl, refl) (refl, refl, refl, refl) still-wakes
 
     lies : y % 2 ≡ 0 → (list : S) × (get_elem? s.homes 0 ≡ some (some list)) × (waiters_of list ≡ r.waiters) × (marked_of list ≡ r.marked)
     lies even = r.home (sym r.is_out ∙ even)
@@ -266,7 +268,7 @@ module _ (S : Type 0) (waiters_of : S → List Waiter) (marked_of : S → ℕ) (
         let one : number has_list_out (after w) ≡ 1 = omega arith in (
           h.0,
           h.1,
-          list_word w n (takes 0 h.0) r.waiters r.marked (refl, refl, refl, refl) (omega arith) (omega arith) r.sound (stand-by r.waiters w (λ e stands. (stands, λ f. f))) (placed-as w refl) (wakes-by x w (omega arith) (λ o. o) (λ _ _ f. f)) (λ low. r.unlisted (below low)) (λ absent. absurd (omega arith))
+          list_word w n (takes 0 h.0) r.waiters r.marked (refl, refl, refl, refl) (omega arith) (omega arith) r.sound (stand-by r.waiters w (λ e stands. (stands, λ f. f))) (matched-as w refl refl) (wakes-by x w (omega arith) (λ o. o) (λ _ _ f. f)) (λ low. r.unlisted (below low)) (λ absent. absurd (omega arith))
               (λ i v e has. ⊎_elim (λ here. subst (λ (u : View). (u.waiters ≡ r.waiters) × (u.marked ≡ r.marked)) here.1 (h.2, h.3))
               (λ else. let n = number-at has_list_out s.views i v else.1 in let q : weight (has_list_out v) ≡ 1 = ap weight has in absurd (omega arith)) (at_set s.views id i w v e)),
           subst IsSound (sym h.2) r.sound,
@@ -274,12 +276,12 @@ module _ (S : Type 0) (waiters_of : S → List Waiter) (marked_of : S → ℕ) (
 
     -- the seat gives the list back, and has this view then
     module _ (list : S) (n : ℕ) (lists : me.0.has_list ≡ true) (has : me.1 ≡ (0, list) ∷ rest me.1) (wide : 0 < length s.homes) (says : Says (waiters_of list) n) where
-      returned : (w : View) → w.has_list ≡ false → Counts w → IsSound (waiters_of list) → AreOfSeats (after w) (waiters_of list) → number is_listed (after w) ≤ length (waiters_of list) → LosesNone (after w) x (waiters_of list) (marked_of list) → R (stepped s 1 n id me.1 w gives)
-      returned w off counts sound standing placed wakes =
+      returned : (w : View) → w.has_list ≡ false → Counts w → IsSound (waiters_of list) → AreOfSeats (after w) (waiters_of list) → Matched IsNumberOf (numbers (waiters_of list)) (after w) → LosesNone (after w) x (waiters_of list) (marked_of list) → R (stepped s 1 n id me.1 w gives)
+      returned w off counts sound standing matched wakes =
           let c = number-set has_list_out s.views id me.0 w at in let c' : weight (has_list_out w) ≡ 0 = ap weight off in let l : weight (has_list_out me.0) ≡ 1 = ap weight lists in
           let one = r.one_out in let four = says.0 in
           let nobody : number has_list_out (after w) ≡ 0 = omega arith in
-          list_word w n gives (waiters_of list) (marked_of list) counts (omega arith) (omega arith) sound standing placed wakes says.1
+          list_word w n gives (waiters_of list) (marked_of list) counts (omega arith) (omega arith) sound standing matched wakes says.1
           (λ _. (list, subst (λ (t : List (ℕ × S)). get_elem? (put_back s.homes t) 0 ≡ some (some list)) (sym has) (set_here s.homes 0 (some list) wide), refl, refl))
           (λ i v e is. let m = number-at has_list_out (after w) i v e in let q : weight (has_list_out v) ≡ 1 = ap weight is in absurd (omega arith))
 
@@ -295,32 +297,39 @@ module _ (S : Type 0) (waiters_of : S → List Waiter) (marked_of : S → ℕ) (
       knew e = subst (λ (m : List Waiter). StandsIn m e) known.0
 
       -- the seat's own entry has left
-      left-alone : LeftBy me.0.entry me.0.waiters (waiters_of list) → (w : View) → AreOfSeats (after w) (waiters_of list)
-      left-alone others w = stand-by (waiters_of list) w (λ e stands. let o = others e stands in (knew e o.0, λ f. absurd (o.1 (sym f.1))))
+      gone-sound : waiters_of list ≡ all_but me.0.entry me.0.waiters → IsSound (waiters_of list)
+      gone-sound gone = subst IsSound (sym (gone ∙ ap (all_but me.0.entry) known.0)) (sound-but me.0.entry r.waiters r.sound)
+
+      others : waiters_of list ≡ all_but me.0.entry me.0.waiters → (e : Waiter) → StandsIn (waiters_of list) e → StandsIn me.0.waiters e × (e.entry ≢ me.0.entry)
+      others gone e stands = left-by me.0.entry me.0.waiters e (subst (λ (l : List Waiter). StandsIn l e) gone stands)
+
+      left-alone : waiters_of list ≡ all_but me.0.entry me.0.waiters → (w : View) → AreOfSeats (after w) (waiters_of list)
+      left-alone gone w = stand-by (waiters_of list) w (λ e stands. let o = others gone e stands in (knew e o.0, λ f. absurd (o.1 (sym f.1))))
 
       -- nobody has joined or left
       unmoved : (w : View) → ((e : Waiter) → IsEntryOf e me.0 → IsEntryOf e w) → waiters_of list ≡ me.0.waiters → AreOfSeats (after w) (waiters_of list)
       unmoved w own same = stand-by (waiters_of list) w (λ e stands. (stood (waiters_of list) same e stands, own e))
 
-      placed-still : (w : View) → w.listed ≡ me.0.listed → waiters_of list ≡ me.0.waiters → number is_listed (after w) ≤ length (waiters_of list)
-      placed-still w l same = subst (λ (es : List Waiter). number is_listed (after w) ≤ length es) (sym (same ∙ known.0)) (placed-as w l)
+      matched-still : (w : View) → w.listed ≡ me.0.listed → w.entry ≡ me.0.entry → waiters_of list ≡ me.0.waiters → Matched IsNumberOf (numbers (waiters_of list)) (after w)
+      matched-still w l e same = subst (λ (es : List Waiter). Matched IsNumberOf (numbers es) (after w)) (sym (same ∙ known.0)) (matched-as w l e)
 
-      placed-left : (w : View) → w.listed ≡ false → me.0.listed ≡ true → length me.0.waiters ≤ length (waiters_of list) + 1 → number is_listed (after w) ≤ length (waiters_of list)
-      placed-left w off was shorter =
-          let c = number-set is_listed s.views id me.0 w at in let new : weight (is_listed w) ≡ 0 = ap weight off in let old : weight (is_listed me.0) ≡ 1 = ap weight was in
-          let p = r.placed in let k : length me.0.waiters ≡ length r.waiters = ap length known.0 in omega arith
+      matched-left : (w : View) → w.listed ≡ false → me.0.listed ≡ true → waiters_of list ≡ all_but me.0.entry me.0.waiters → Matched IsNumberOf (numbers (waiters_of list)) (after w)
+      matched-left w off was gone = subst (λ ns. Matched IsNumberOf ns (after w)) (sym (ap numbers (gone ∙ ap (all_but me.0.entry) known.0) ∙ numbers-but me.0.entry r.waiters))
+          (left IsNumberOf (numbers r.waiters) s.views id me.0 at r.matched me.0.entry w (was, refl) (λ n is. sym is.1) (λ n is. never (sym off ∙ is.0)))
+
+      matched-joined : (j : Waiter) → waiters_of list ≡ me.0.waiters ++ j ∷ [] → HasNo j.entry me.0.waiters → me.0.listed ≡ false → Matched IsNumberOf (numbers (waiters_of list)) (after (joined_of j me.0))
+      matched-joined j longer absent away = subst (λ ns. Matched IsNumberOf ns (after (joined_of j me.0))) (sym (ap numbers (longer ∙ ap (λ (es : List Waiter). es ++ j ∷ []) known.0) ∙ numbers-snoc r.waiters j))
+          (joined IsNumberOf (numbers r.waiters) s.views id me.0 at r.matched j.entry (joined_of j me.0) (λ n is. never (sym away ∙ is.0)) (refl, refl) (λ n is. sym is.1) (new-number j.entry r.waiters (subst (HasNo j.entry) known.0 absent)))
 
       -- its entry has joined: it has not looked yet
       pub joins : (j : Waiter) → waiters_of list ≡ me.0.waiters ++ j ∷ [] → marked_of list ≡ me.0.marked → HasNo j.entry me.0.waiters → 0 < j.weight → me.0.listed ≡ false → R (stepped s 1 n id me.1 (joined_of j me.0) gives)
       joins j longer same absent counts away = let w : View = joined_of j me.0 in
-          let c = number-set is_listed s.views id me.0 w at in let new' : weight (is_listed w) ≡ 1 = refl in let old' : weight (is_listed me.0) ≡ 0 = ap weight away in
-          let p = r.placed in let k' : length me.0.waiters ≡ length r.waiters = ap length known.0 in let more' : length (waiters_of list) ≡ length me.0.waiters + 1 = ap length longer ∙ length-snoc me.0.waiters j in
           returned w refl (refl, refl, refl, refl) (subst IsSound (sym longer) (sound-snoc me.0.waiters j (subst IsSound (sym known.0) r.sound) absent counts))
           (λ e stands. ⊎_elim
           (λ old. some-set (IsEntryOf e) (IsEntryOf e) s.views id me.0 w at (λ f. never (sym away ∙ f.0)) (λ u f. f) (r.standing e (knew e old)))
           (λ new. some-mine (IsEntryOf e) s.views id me.0 w at (refl, ap (λ (u : Waiter). u.entry) new, ap (λ (u : Waiter). u.weight) new))
           (stands-snoc me.0.waiters j e (subst (λ (m : List Waiter). StandsIn m e) longer stands)))
-          (omega arith)
+          (matched-joined j longer absent away)
           (⊎_elim (λ m. inl (let k = known.1 in omega arith))
           (λ more. inr (⊎_elim
           (λ k. inl (some-set (OwesOf x) (OwesOf x) s.views id me.0 w at (λ o. (o.0, inl refl)) (λ u o. o) k))
@@ -330,23 +339,23 @@ module _ (S : Type 0) (waiters_of : S → List Waiter) (marked_of : S → ℕ) (
           (stands-snoc me.0.waiters j e (subst (λ (m : List Waiter). StandsIn m e) longer stands)))) more)) r.wakes)
 
       -- its entry was notified, and has left: it owes
-      pub hears : IsSound (waiters_of list) → LeftBy me.0.entry me.0.waiters (waiters_of list) → length me.0.waiters ≤ length (waiters_of list) + 1 → me.0.listed ≡ true → R (stepped s 1 n id me.1 (told_of me.0) gives)
-      hears sound others shorter was = let w : View = told_of me.0 in returned w refl (refl, refl, refl, refl) sound (left-alone others w) (placed-left w refl was shorter) (wakes-owing x (waiters_of list) (marked_of list) w (refl, inl refl))
+      pub hears : waiters_of list ≡ all_but me.0.entry me.0.waiters → me.0.listed ≡ true → R (stepped s 1 n id me.1 (told_of me.0) gives)
+      hears gone was = let w : View = told_of me.0 in returned w refl (refl, refl, refl, refl) (gone-sound gone) (left-alone gone w) (matched-left w refl was gone) (wakes-owing x (waiters_of list) (marked_of list) w (refl, inl refl))
 
       -- its entry has left
-      pub leaves : IsSound (waiters_of list) → LeftBy me.0.entry me.0.waiters (waiters_of list) → length me.0.waiters ≤ length (waiters_of list) + 1 → me.0.listed ≡ true → marked_of list ≡ me.0.marked → R (stepped s 1 n id me.1 (gone_of me.0) gives)
-      leaves sound others shorter was same = let w : View = gone_of me.0 in
-          returned w refl (refl, refl, refl, refl) sound (left-alone others w) (placed-left w refl was shorter)
+      pub leaves : waiters_of list ≡ all_but me.0.entry me.0.waiters → me.0.listed ≡ true → marked_of list ≡ me.0.marked → R (stepped s 1 n id me.1 (gone_of me.0) gives)
+      leaves gone was same = let w : View = gone_of me.0 in
+          returned w refl (refl, refl, refl, refl) (gone-sound gone) (left-alone gone w) (matched-left w refl was gone)
           (⊎_elim (λ m. inl (let k = known.1 in omega arith))
           (λ more. inr (⊎_elim
           (λ k. inl (some-set (OwesOf x) (OwesOf x) s.views id me.0 w at (λ o. o) (λ u o. o) k))
-          (λ each. inr (λ e stands few. let o = others e stands in
+          (λ each. inr (λ e stands few. let o = others gone e stands in
           some-set (IsFreshIn e) (IsFreshIn e) s.views id me.0 w at (λ f. absurd (o.1 (sym f.0.1))) (λ u f. f) (each e (knew e o.0) few))) more)) r.wakes)
 
       -- it has notified of as many as it saw
       pub pays : waiters_of list ≡ me.0.waiters → me.0.marked ≤ marked_of list → ((e : Waiter) → StandsIn (waiters_of list) e → e.weight ≤ me.0.found → 1 ≤ marked_of list) → me.0.seen ≡ true → R (stepped s 1 n id me.1 (paid_of me.0) gives)
       pays same more fits seen = let w : View = paid_of me.0 in
-          returned w refl (refl, refl, refl, refl) (subst IsSound (sym (same ∙ known.0)) r.sound) (unmoved w (λ _ f. f) same) (placed-still w refl same)
+          returned w refl (refl, refl, refl, refl) (subst IsSound (sym (same ∙ known.0)) r.sound) (unmoved w (λ _ f. f) same) (matched-still w refl refl same)
           (dite (dec_le 1 (marked_of list)) (λ m. inl m)
           (λ none. inr (⊎_elim (λ m. absurd (none (let k = known.1 in omega arith)))
           (λ rest. ⊎_elim
@@ -360,7 +369,7 @@ module _ (S : Type 0) (waiters_of : S → List Waiter) (marked_of : S → ℕ) (
       -- nothing has changed
       pub stays : waiters_of list ≡ me.0.waiters → marked_of list ≡ me.0.marked → R (stepped s 1 n id me.1 (back me.0) gives)
       stays same marks = let w : View = back me.0 in
-          returned w refl (refl, refl, refl, refl) (subst IsSound (sym (same ∙ known.0)) r.sound) (unmoved w (λ _ f. f) same) (placed-still w refl same)
+          returned w refl (refl, refl, refl, refl) (subst IsSound (sym (same ∙ known.0)) r.sound) (unmoved w (λ _ f. f) same) (matched-still w refl refl same)
           (subst (λ (l : List Waiter). LosesNone (after w) x l (marked_of list)) (sym (same ∙ known.0)) (subst (λ (m : ℕ). LosesNone (after w) x r.waiters m) (sym (marks ∙ known.1)) (wakes-by x w (omega arith) (λ o. o) (λ _ _ f. f))))
 
   -- ---- the steps
@@ -417,11 +426,11 @@ module _ (S : Type 0) (waiters_of : S → List Waiter) (marked_of : S → ℕ) (
     )
 
     pub gives-told : (new : ℕ) → CanHear waiters_of marked_of me new me.0.entry → 0 < slots → me.0.listed ≡ true → Allows R slots id me 1 (λ _. new) (λ _ m'. m' ≡ (told_of me.0, rest me.1))
-    gives-told new c wide was s r len at _ = (told_of me.0, gives, tt, hears s id me r at c.0 new c.1.0 c.1.1 (subst (λ (z : ℕ). 0 < z) (sym len) wide) c.1.2 c.2 c.3 c.4 was, refl)
+    gives-told new c wide was s r len at _ = (told_of me.0, gives, tt, hears s id me r at c.0 new c.1.0 c.1.1 (subst (λ (z : ℕ). 0 < z) (sym len) wide) c.1.2 c.2 was, refl)
 
     pub gives-gone : (new : ℕ) → CanLeave waiters_of marked_of me new me.0.entry → 0 < slots → me.0.listed ≡ true → Allows R slots id me 1 (λ _. new) (λ _ m'. m' ≡ (gone_of me.0, rest me.1))
     gives-gone new c wide was s r len at _ =
-        (gone_of me.0, gives, tt, leaves s id me r at c.0 new c.1.0 c.1.1 (subst (λ (z : ℕ). 0 < z) (sym len) wide) c.1.2 c.2 c.3 c.4 was c.5, refl)
+        (gone_of me.0, gives, tt, leaves s id me r at c.0 new c.1.0 c.1.1 (subst (λ (z : ℕ). 0 < z) (sym len) wide) c.1.2 c.2 was c.3, refl)
 
     pub gives-paid : (new available : ℕ) → CanPay waiters_of marked_of me new available → available ≡ me.0.found → 0 < slots → me.0.seen ≡ true → Allows R slots id me 1 (λ _. new) (λ _ m'. m' ≡ (paid_of me.0, rest me.1))
     gives-paid new available c found wide seen s r len at _ =
@@ -446,7 +455,7 @@ module _ (S : Type 0) (waiters_of : S → List Waiter) (marked_of : S → ℕ) (
         marked = r.marked;
         sound = r.sound;
         standing = λ e stands. some-snoc (IsEntryOf e) s.views w (r.standing e stands);
-        placed = (let d = number-none is_listed s.views w away in let p = r.placed in omega arith);
+        matched = longer IsNumberOf (numbers r.waiters) s.views w (λ n q. never (sym away ∙ q.0)) r.matched;
         wakes = ⊎_elim (λ m. inl m) (λ more. inr (⊎_elim (λ k. inl (some-snoc (OwesOf (get_or s.words 0 0)) s.views w k)) (λ each. inr (λ e stands few. some-snoc (IsFreshIn e) s.views w (each e stands few))) more)) r.wakes;
         unlisted = r.unlisted;
         home = λ absent. r.home (sym outs ∙ absent);

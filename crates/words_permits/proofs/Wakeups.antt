@@ -2,10 +2,10 @@
 use Rattle.std.proofs.Common.{◌≡◌, ℕ, ◌<◌, ◌≤◌, true, List, sym, ◌∙◌, subst, arith, ◌⊎◌, inl, inr, ⊎_elim, length}
 use Rattle.atomic_table.specs.Table.{State}
 use Rattle.words_mutex.proofs.Flags.{never, number-no}
-use Rattle.words_base.specs.Sums.{number}
-use Rattle.words_permits.specs.Rule.{has_list_out, SomeSeat, IsFreshIn, AreOfSeats, Ruled, is_listed}
+use Rattle.words_base.specs.Waiting.{Matched}
+use Rattle.words_permits.specs.Rule.{has_list_out, SomeSeat, IsFreshIn, IsNumberOf, AreOfSeats, Ruled}
 use Rattle.words_permits.specs.Laws.{available, IsListHome, Lies, IsAtRest}
-use Rattle.words_permits.specs.Waiters.{Waiter, StandsIn}
+use Rattle.words_permits.specs.Waiters.{Waiter, StandsIn, numbers}
 use Rattle.words_permits.specs.declared.view.View.{View}
 
 module _ {S : Type 0} (waiters_of : S → List Waiter) (marked_of : S → ℕ) (start : ℕ) (s : State S View) (r : Ruled waiters_of marked_of start s) where
@@ -27,5 +27,5 @@ module _ {S : Type 0} (waiters_of : S → List Waiter) (marked_of : S → ℕ) (
             (λ each. let o = each w (subst (λ (l : List Waiter). StandsIn l w) h.2 stands) few in never (sym (rest o.0 o.1 o.2).1 ∙ o.3.1)) more) r.wakes,
       )
 
-  pub standing : IsListHome s → (list : S) × Lies s list × AreOfSeats s.views (waiters_of list) × (number is_listed s.views ≤ length (waiters_of list))
-  standing even = let h = r.home (sym r.is_out ∙ even) in (h.0, h.1, subst (AreOfSeats s.views) (sym h.2) r.standing, subst (λ (l : List Waiter). number is_listed s.views ≤ length l) (sym h.2) r.placed)
+  pub standing : IsListHome s → (list : S) × Lies s list × AreOfSeats s.views (waiters_of list) × Matched IsNumberOf (numbers (waiters_of list)) s.views
+  standing even = let h = r.home (sym r.is_out ∙ even) in (h.0, h.1, subst (AreOfSeats s.views) (sym h.2) r.standing, subst (λ (l : List Waiter). Matched IsNumberOf (numbers l) s.views) (sym h.2) r.matched)

@@ -4,7 +4,8 @@ use mathlib.Core.Option.{some}
 use lib.ListN.{get_elem?}
 use Rattle.atomic_table.specs.Table.{State}
 use Rattle.words_base.specs.Sums.{number, total}
-use Rattle.words_permits.specs.Waiters.{Waiter, StandsIn, IsSound}
+use Rattle.words_base.specs.Waiting.{Matched}
+use Rattle.words_permits.specs.Waiters.{Waiter, StandsIn, IsSound, numbers}
 use Rattle.words_permits.specs.declared.view.View.{View}
 
 abbrev pub permits_of : View → ℕ
@@ -18,9 +19,6 @@ added_of v = v.added
 
 abbrev pub forgotten_of : View → ℕ
 forgotten_of v = v.forgotten
-
-abbrev pub is_listed : View → Bool
-is_listed v = v.listed
 
 abbrev pub has_list_out : View → Bool
 has_list_out v = v.has_list
@@ -36,6 +34,10 @@ OwesOf available v = (v.owes ≡ true) × ((v.seen ≡ false) ⊎ (available ≤
 -- The seat stands in the list, and this is its entry.
 abbrev pub IsEntryOf : Waiter → View → Type 0
 IsEntryOf w v = (v.listed ≡ true) × (v.entry ≡ w.entry) × (v.weight ≡ w.weight)
+
+-- The entry of this number is the seat's.
+abbrev pub IsNumberOf : ℕ → View → Type 0
+IsNumberOf n v = (v.listed ≡ true) × (v.entry ≡ n)
 
 -- The seat has this entry, and no look of it has found too few since it joined.
 abbrev pub IsFreshIn : Waiter → View → Type 0
@@ -70,10 +72,10 @@ pub record Ruled {S : Type 0} (waiters_of : S → List Waiter) (marked_of : S �
   pub waiters : List Waiter
   pub marked : ℕ
   pub sound : IsSound waiters
-  -- each entry of the list, notified or not, is of a seat that stands in it
+  -- each entry of the list, notified or not, is of a seat that stands in it for as many permits
   pub standing : AreOfSeats s.views waiters
-  -- and no more seats stand in it than it has entries
-  pub placed : number is_listed s.views ≤ length waiters
+  -- each seat that stands in it has its entry there, and no two have one
+  pub matched : Matched IsNumberOf (numbers waiters) s.views
   pub wakes : LosesNone s.views (slice_index s.words 0) waiters marked
   pub unlisted : SaysEmpty (slice_index s.words 1) → waiters ≡ []
   pub home : number has_list_out s.views ≡ 0 → (list : S) × (get_elem? s.homes 0 ≡ some (some list)) × (waiters_of list ≡ waiters) × (marked_of list ≡ marked)

@@ -1,9 +1,9 @@
 -- What steps tell, and what a seat has that has the list out.
-use Rattle.std.specs.Prelude.{◌≡◌, ◌≢◌, ℕ, ◌%◌, ◌+◌, ◌-◌, ◌<◌, ◌≤◌, true, List, [], ◌∷◌, ◌++◌, length}
+use Rattle.std.specs.Prelude.{◌≡◌, ◌≢◌, ℕ, ◌%◌, ◌+◌, ◌-◌, ◌<◌, ◌≤◌, true, List, [], ◌∷◌, ◌++◌}
 use Rattle.atomic_table.specs.Table.{Me, Step, rest}
 use Rattle.words_permits.specs.Rule.{SaysEmpty}
 use Rattle.words_permits.specs.Seats.{having_taken, having_given, having_given_new, having_raised, listing_of}
-use Rattle.words_permits.specs.Waiters.{Waiter, waiter, StandsIn, last_or, HasNo, LeftBy, IsSound}
+use Rattle.words_permits.specs.Waiters.{Waiter, waiter, StandsIn, last_or, HasNo, all_but, IsSound}
 use Rattle.words_permits.specs.declared.view.View.{View}
 
 -- From the word expected: the permits are those that the word is lower by.
@@ -56,10 +56,10 @@ module _ {S : Type 0} (waiters_of : S → List Waiter) (marked_of : S → ℕ) (
   CanJoin w = (list : S) × Has list × (waiters_of list ≡ m.0.waiters ++ w ∷ []) × (marked_of list ≡ m.0.marked) × HasNo w.entry m.0.waiters × (0 < w.weight)
 
   abbrev pub CanHear : ℕ → Type 0
-  CanHear entry = (list : S) × Has list × IsSound (waiters_of list) × LeftBy entry m.0.waiters (waiters_of list) × (length m.0.waiters ≤ length (waiters_of list) + 1)
+  CanHear entry = (list : S) × Has list × (waiters_of list ≡ all_but entry m.0.waiters)
 
   abbrev pub CanLeave : ℕ → Type 0
-  CanLeave entry = (list : S) × Has list × IsSound (waiters_of list) × LeftBy entry m.0.waiters (waiters_of list) × (length m.0.waiters ≤ length (waiters_of list) + 1) × (marked_of list ≡ m.0.marked)
+  CanLeave entry = (list : S) × Has list × (waiters_of list ≡ all_but entry m.0.waiters) × (marked_of list ≡ m.0.marked)
 
   abbrev pub CanPay : ℕ → Type 0
   CanPay available =

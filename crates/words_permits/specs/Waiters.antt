@@ -1,5 +1,5 @@
 -- Who stands in a semaphore's list.
-use Rattle.std.specs.Prelude.{◌≡◌, ◌≢◌, ℕ, ◌<◌, ◌≤◌, Bool, ◌==◌, List, [], ◌∷◌, refl}
+use Rattle.std.specs.Prelude.{◌≡◌, ℕ, ◌<◌, ◌≤◌, Bool, ◌==◌, true, false, List, [], ◌∷◌, refl}
 use Rattle.std.specs.Coded.{Coded, code_by, coded×, coded_ℕ, coded_list}
 use mathlib.Core.Option.{some}
 use lib.ListN.{get_elem?}
@@ -36,9 +36,20 @@ last_or w (x ∷ xs) = last_or x xs
 abbrev pub HasNo : ℕ → List Waiter → Type 0
 HasNo entry l = number (is_of entry) l ≡ 0
 
--- whoever stands in the new list stood in the old one, and no entry of this number is left
-abbrev pub LeftBy : ℕ → List Waiter → List Waiter → Type 0
-LeftBy entry old new = (w : Waiter) → StandsIn new w → StandsIn old w × (w.entry ≢ entry)
+-- the numbers of the entries
+abbrev pub numbers : List Waiter → List ℕ
+numbers [] = []
+numbers (w ∷ ws) = w.entry ∷ numbers ws
+
+-- the list with this one at its front, unless something is so
+abbrev pub unless : Bool → Waiter → List Waiter → List Waiter
+unless true w ws = ws
+unless false w ws = w ∷ ws
+
+-- all of a list but the entry of this number
+abbrev pub all_but : ℕ → List Waiter → List Waiter
+all_but entry [] = []
+all_but entry (w ∷ ws) = unless (is_of entry w) w (all_but entry ws)
 
 -- an entry waits for one permit at least, and no two have one number
 abbrev pub IsSound : List Waiter → Type 0

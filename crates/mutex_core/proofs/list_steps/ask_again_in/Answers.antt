@@ -6,4 +6,4 @@ slot_mut-list-requires g c = (c.requires.table, lent c.args.inner.now.me c.requi
 
 pub returns-clause-ready : goal.returns-clause-ready
 returns-clause-ready g c =
-    asks c.args.inner.now.me c.requires.held c.slot_mut-list.result.now (record c.slot_mut-list.result.now { queue = c.ask_again-heard.new.self }) c.says-says.result c.slot_mut-list.ensures.value c.says-says.ensures c.ask_again-heard.result c.args.id.number c.requires.own c.ask_again-heard.ensures.asked c.ask_again-heard.ensures.gone
+    asks c.args.inner.now.me c.requires.held c.slot_mut-list.result.now (record c.slot_mut-list.result.now { queue = c.ask_again-heard.new.self }) c.says-says.result c.slot_mut-list.ensures.value c.says-says.ensures c.ask_again-heard.result c.args.id.number c.requires.own c.ask_again-heard.ensures.asked
