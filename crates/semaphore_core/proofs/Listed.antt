@@ -16,8 +16,8 @@ use Rattle.lock_event.proofs.Counts.{marked_count-without_waiting}
 use Rattle.weighted_event.proofs.Weights.{fitted_none}
 use Rattle.lock_event.proofs.Marks.{marked_count-joined, marked_count-with_key}
 use Rattle.words_base.specs.Sums.{weight, number}
-use Rattle.words_mutex.proofs.Flags.{number-zero}
-use Rattle.words_permits.specs.Waiters.{Waiter, waiter, is_of, StandsIn, HasNo}
+use Rattle.words_permits.specs.Waiters.{Waiter, waiter, is_of, StandsIn, HasNo, unless, all_but}
+use Rattle.words_permits.proofs.Owners.{all-stay}
 use Rattle.semaphore_core.specs.Entries.{waiters_in, HasJoined, HasLeft, IsGone, IsSame, IsTold}
 
 apart : (a b : Bool) → (a || b) ≡ false → (a ≡ false) × (b ≡ false)
@@ -31,9 +31,6 @@ or_left false c is = absurd (cc)
 or_right : (b c : Bool) → c ≡ true → (b || c) ≡ true
 or_right true c is = refl
 or_right false c is = is
-
-another : (l : List Waiter) (n : ℕ) (w : Waiter) → HasNo n l → StandsIn l w → w.entry ≢ n
-another l n w absent s same = true≢false (sym (eq-eqb w.entry n same) ∙ number-zero (is_of n) l s.0 w s.1 absent)
 
 module _ {W : Type 0} where
   -- ---- joining
@@ -67,50 +64,24 @@ module _ {W : Type 0} where
   joined-keyed old mid new n k a b = (b.0 ∙ a.0, b.1 ∙ a.1, a.2)
 
   -- ---- leaving
-  fewer : (test : Waiter → Bool) (es : List (Entry (Slot (Load W)))) (id : EntryId) → number test (waiters_in (without (has_id id) es)) ≤ number test (waiters_in es)
-  fewer test [] id = omega arith
-  fewer test (e ∷ es) id = by (fewer test es id) (has_id id e.key)
-    where
-      by : number test (waiters_in (without (has_id id) es)) ≤ number test (waiters_in es) → (b : Bool) → number test (waiters_in (if b then es else e ∷ without (has_id id) es)) ≤ number test (waiters_in (e ∷ es))
-      by r true = omega arith
-      by r false = omega arith
+  -- where no two entries have one number
+  only_head : (b : Bool) (e : Entry (Slot (Load W))) (es fs : List (Entry (Slot (Load W)))) (n : ℕ) → (b ≡ true → HasNo n (waiters_in es)) → (b ≡ false → waiters_in fs ≡ all_but n (waiters_in es))
+      → waiters_in (if b then es else e ∷ fs) ≡ unless b (waiter e.key.id.number (weight_of e.key)) (all_but n (waiters_in es))
+  only_head true e es fs n none rest = sym (all-stay n (waiters_in es) (none refl))
+  only_head false e es fs n none rest = ap (λ (l : List Waiter). waiter e.key.id.number (weight_of e.key) ∷ l) (rest refl)
 
-  stood : (es : List (Entry (Slot (Load W)))) (id : EntryId) (k : ℕ) (w : Waiter) → get_elem? (waiters_in (without (has_id id) es)) k ≡ some w → StandsIn (waiters_in es) w
-  stood [] id k w e = (k, e)
-  stood (x ∷ es) id k w e = by (λ j h. stood es id j w h) (has_id id x.key) k e
-    where
-      by : ((j : ℕ) → get_elem? (waiters_in (without (has_id id) es)) j ≡ some w → StandsIn (waiters_in es) w) → (b : Bool) (k : ℕ) → get_elem? (waiters_in (if b then es else x ∷ without (has_id id) es)) k ≡ some w → StandsIn (waiters_in (x ∷ es)) w
-      by r true k e = (suc k, e)
-      by r false zero e = (0, e)
-      by r false (suc k) e = let s = r k e in (suc s.0, s.1)
-
-  gone : (es : List (Entry (Slot (Load W)))) (id : EntryId) → number (is_of id.number) (waiters_in es) ≤ 1 → number (is_of id.number) (waiters_in (without (has_id id) es)) ≡ 0
-  gone [] id one = refl
-  gone (e ∷ es) id one = by (λ few. gone es id few) (has_id id e.key) refl
-    where
-      by : (number (is_of id.number) (waiters_in es) ≤ 1 → number (is_of id.number) (waiters_in (without (has_id id) es)) ≡ 0) → (b : Bool) → has_id id e.key ≡ b → number (is_of id.number) (waiters_in (if b then es else e ∷ without (has_id id) es)) ≡ 0
-      by r true is = let w : weight (has_id id e.key) ≡ 1 = ap weight is in omega arith
-      by r false is = let w : weight (has_id id e.key) ≡ 0 = ap weight is in let z = r (omega arith) in omega arith
-
-  long-without : (es : List (Entry (Slot (Load W)))) (id : EntryId) → length (waiters_in es) ≤ length (waiters_in (without (has_id id) es)) + 1
-  long-without [] id = omega arith
-  long-without (e ∷ es) id = by (long-without es id) (has_id id e.key)
-    where
-      by : length (waiters_in es) ≤ length (waiters_in (without (has_id id) es)) + 1 → (b : Bool) → length (waiters_in (e ∷ es)) ≤ length (waiters_in (if b then es else e ∷ without (has_id id) es)) + 1
-      by r true = omega arith
-      by r false = omega arith
+  only-without : (es : List (Entry (Slot (Load W)))) (id : EntryId) → number (is_of id.number) (waiters_in es) ≤ 1 → waiters_in (without (has_id id) es) ≡ all_but id.number (waiters_in es)
+  only-without [] id one = refl
+  only-without (e ∷ es) id one = only_head (has_id id e.key) e es (without (has_id id) es) id.number
+      (λ is. let w : weight (has_id id e.key) ≡ 1 = ap weight is in omega (arith, one, w))
+      (λ is. let w : weight (has_id id e.key) ≡ 0 = ap weight is in only-without es id (omega (arith, one, w)))
 
   pub gone-without : (old new : List (Entry (Slot (Load W)))) (id : EntryId) → new ≡ without (has_id id) old → IsGone old new id.number
-  gone-without old new id is = subst (λ (l : List (Entry (Slot (Load W)))). IsGone old l id.number) (sym is)
-      (λ sound. (
-        ((λ w s. sound.0 w (stood old id s.0 w s.1)), λ n. let f = fewer (is_of n) old id in let one = sound.1 n in omega arith),
-        (λ w s. (stood old id s.0 w s.1, another (waiters_in (without (has_id id) old)) id.number w (gone old id (sound.1 id.number)) s)),
-        long-without old id,
-      ))
+  gone-without old new id is sound = ap waiters_in is ∙ only-without old id (sound.1 id.number)
 
   -- nor is one left that wasn't there
   pub gone-unlisted : (old new : List (Entry (Slot (Load W)))) (id : EntryId) → is_listed (has_id id) old ≡ false → new ≡ old → IsGone old new id.number
-  gone-unlisted old new id absent is = subst (λ (l : List (Entry (Slot (Load W)))). IsGone old l id.number) (sym is) (λ sound. (sound, (λ w s. (s, another (waiters_in old) id.number w (has-no old id absent) s)), omega arith))
+  gone-unlisted old new id absent is sound = ap waiters_in is ∙ sym (all-stay id.number (waiters_in old) (has-no old id absent))
 
   -- whoever leaves without asking
   pub withdrawn : (id : EntryId) (old new : List (Entry (Slot (Load W)))) (b : Bool) → b ≡ is_marked_at (has_id id) old → new ≡ without (has_id id) old → MatchBool b (IsGone old new id.number) (HasLeft old new id.number)

@@ -1,9 +1,10 @@
 -- What is known of a list that is about to be given back.
-use Rattle.std.proofs.Common.{◌≡◌, ℕ, ◌<◌, ◌≤◌, Bool, true, false, List, [], ◌∷◌, ◌++◌, refl, sym, ap, ◌∙◌, subst, Result, Ok, Err, IfOk, OnErr, MatchBool, MatchResult, length, ◌+◌}
+use Rattle.std.proofs.Common.{◌≡◌, ℕ, ◌<◌, ◌≤◌, Bool, true, false, List, [], ◌∷◌, ◌++◌, refl, sym, ap, ◌∙◌, subst, Result, Ok, Err, IfOk, OnErr, MatchBool, MatchResult}
 use Rattle.atomic_table.specs.Table.{Me, rest}
 use Rattle.words_permits.specs.Steps.{Says, IsHeld, CanJoin, CanHear, CanLeave, CanPay, CanStay, Has}
-use Rattle.words_permits.specs.Waiters.{Waiter, waiter, StandsIn, HasNo, LeftBy, IsSound}
+use Rattle.words_permits.specs.Waiters.{Waiter, waiter, StandsIn, HasNo, all_but, IsSound}
 use Rattle.words_permits.specs.declared.view.View.{View}
+use Rattle.words_base.proofs.Holding.{same_out}
 use Rattle.lock_queue.specs.Asking.{ByHeard}
 use Rattle.lock_queue.specs.declared.heard.Heard.{Heard}
 use Rattle.lock_queue.specs.declared.heard.Heard.TheVariants.{Told, Waits}
@@ -15,11 +16,7 @@ module _ {S : Type 0} (waiters_of : S → List Waiter) (marked_of : S → ℕ) (
 
   -- the same list
   same : (now : S) → m.1 ≡ (0, now) ∷ rest m.1 → held.0 ≡ now
-  same now e = ap (λ (l : List (ℕ × S)). first held.0 l) (sym held.4 ∙ e)
-    where
-      first : S → List (ℕ × S) → S
-      first y [] = y
-      first y (x ∷ xs) = x.1
+  same now e = sym (same_out now held.0 m.1 (rest m.1) e held.4)
 
   waiters-now : (now : S) → m.1 ≡ (0, now) ∷ rest m.1 → waiters_of now ≡ m.0.waiters
   waiters-now now e = ap waiters_of (sym (same now e)) ∙ sym held.2
@@ -64,19 +61,19 @@ module _ {S : Type 0} (waiters_of : S → List Waiter) (marked_of : S → ℕ) (
   pays available now left n e says f = (left, has left n says, f.0 ∙ waiters-now now e, subst (λ (k : ℕ). k ≤ marked_of left) (marked-now now e) f.1, f.2, (λ before after. f.3 (marked-now now e ∙ before) after))
 
   abbrev Goes : S → S → ℕ → Type 0
-  Goes now left entry = IsSound (waiters_of now) → IsSound (waiters_of left) × LeftBy entry (waiters_of now) (waiters_of left) × (length (waiters_of now) ≤ length (waiters_of left) + 1)
+  Goes now left entry = IsSound (waiters_of now) → waiters_of left ≡ all_but entry (waiters_of now)
 
-  goes : (entry : ℕ) (now left : S) → m.1 ≡ (0, now) ∷ rest m.1 → Goes now left entry → IsSound (waiters_of left) × LeftBy entry m.0.waiters (waiters_of left) × (length m.0.waiters ≤ length (waiters_of left) + 1)
-  goes entry now left e f = let g = f (sound-now now e) in (g.0, subst (λ (l : List Waiter). LeftBy entry l (waiters_of left)) (waiters-now now e) g.1, subst (λ (l : List Waiter). length l ≤ length (waiters_of left) + 1) (waiters-now now e) g.2)
+  goes : (entry : ℕ) (now left : S) → m.1 ≡ (0, now) ∷ rest m.1 → Goes now left entry → waiters_of left ≡ all_but entry m.0.waiters
+  goes entry now left e f = f (sound-now now e) ∙ ap (all_but entry) (waiters-now now e)
 
   hears : (entry : ℕ) (now left : S) (n : ℕ) → m.1 ≡ (0, now) ∷ rest m.1 → Says (waiters_of left) n → Goes now left entry → CanHear waiters_of marked_of (After left) n entry
-  hears entry now left n e says f = let g = goes entry now left e f in (left, has left n says, g.0, g.1, g.2)
+  hears entry now left n e says f = (left, has left n says, goes entry now left e f)
 
   pub removed : (entry : ℕ) (now left : S) (n : ℕ) (b : Bool) → m.1 ≡ (0, now) ∷ rest m.1 → Says (waiters_of left) n
       → MatchBool b (Goes now left entry) (Goes now left entry × (marked_of left ≡ marked_of now))
       → MatchBool b (CanHear waiters_of marked_of (After left) n entry) (CanLeave waiters_of marked_of (After left) n entry)
   removed entry now left n true e says f = hears entry now left n e says f
-  removed entry now left n false e says f = let g = goes entry now left e f.0 in (left, has left n says, g.0, g.1, g.2, f.1 ∙ marked-now now e)
+  removed entry now left n false e says f = (left, has left n says, goes entry now left e f.0, f.1 ∙ marked-now now e)
 
   pub asks : {K : Type 0} (entry : ℕ) (now left : S) (n : ℕ) (h : Heard K) → m.1 ≡ (0, now) ∷ rest m.1 → Says (waiters_of left) n
       → ByHeard h (Goes now left entry) (λ _. (waiters_of left ≡ waiters_of now) × (marked_of left ≡ marked_of now))

@@ -1,11 +1,11 @@
 -- What calls on a list do, as far as the rule of the semaphore asks: who stands in it, and how many are notified.
-use Rattle.std.specs.Prelude.{◌≡◌, ℕ, ◌≤◌, List, [], ◌∷◌, ◌++◌, length, ◌+◌}
+use Rattle.std.specs.Prelude.{◌≡◌, ℕ, ◌≤◌, List, [], ◌∷◌, ◌++◌}
 use Rattle.lock_event.specs.Lists.{marked_count}
 use Rattle.weighted_event.specs.Loads.{weight_of}
 use Rattle.lock_event.specs.declared.event.Entry.{Entry}
 use Rattle.lock_event.specs.declared.event.Slot.{Slot}
 use Rattle.weighted_event.specs.declared.weighted.Load.{Load}
-use Rattle.words_permits.specs.Waiters.{Waiter, waiter, StandsIn, HasNo, LeftBy, IsSound}
+use Rattle.words_permits.specs.Waiters.{Waiter, waiter, StandsIn, HasNo, all_but, IsSound}
 
 module _ {W : Type 0} where
   -- who stands in the entries
@@ -22,9 +22,9 @@ module _ {W : Type 0} where
     abbrev pub IsSame : Type 0
     IsSame = (waiters_in new ≡ waiters_in old) × (marked_count new ≡ marked_count old)
 
-    -- No entry of this number is left, and one entry has left at most: no two have one number, and none waits for nothing, if that was so before.
+    -- The entry of this number has left, and each other stands where it did, if no two had one number.
     abbrev pub IsGone : ℕ → Type 0
-    IsGone entry = IsSound (waiters_in old) → IsSound (waiters_in new) × LeftBy entry (waiters_in old) (waiters_in new) × (length (waiters_in old) ≤ length (waiters_in new) + 1)
+    IsGone entry = IsSound (waiters_in old) → waiters_in new ≡ all_but entry (waiters_in old)
 
     -- This entry has left, which was not notified.
     abbrev pub HasLeft : ℕ → Type 0
