@@ -1,7 +1,7 @@
 //! What lies in the slot of a cell's table: its two lists.
 
 ghost use Rattle.std.specs.Prelude.{◌≡◌, ◌%◌, [], IfOk, OnErr};
-ghost use Rattle.words_cell.specs.Lists.{nobody};
+ghost use Rattle.words_base.specs.Lists.{nobody};
 ghost use Rattle.futures.specs.Task.{Keeps};
 ghost use Rattle.lock_queue.specs.Asking.{ByHeard};
 ghost use Rattle.cell_core.specs.Contents.{active_of, passive_of, Says, AreKept, HasJoinedActive, HasJoinedPassive, HasHeardActive, HasLeftActive, HasLeftPassive, IsOneTold, AreActiveTold, ArePassiveTold};
@@ -33,7 +33,7 @@ impl Drop for Lists {
 }
 
 impl Content for Lists {
-    ghost use Rattle.cell_core.specs.Contents.{listed_in};
+    ghost use Rattle.lock_queue.specs.Queues.{listed_in};
 
     ghost active = { λ lists. listed_in lists.active };
 

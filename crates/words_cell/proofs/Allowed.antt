@@ -7,13 +7,14 @@ use Rattle.atomic_table.specs.Table.{State, Me, keeps, takes, gives, stepped, re
 use Rattle.atomic_table.proofs.Lists.{at_snoc}
 use Rattle.words_base.specs.Sums.{weight}
 use Rattle.words_base.proofs.Sums.{number-none, number-snoc, total-snoc}
+use Rattle.words_base.specs.Lists.{Listed}
 use Rattle.words_base.specs.Waiting.{last_of}
-use Rattle.words_cell.specs.Lists.{Listed}
-use Rattle.words_cell.specs.Rule.{first_view, makes_of, is_in_active, is_in_passive, has_lists_out, filled_of, taken_of, Ruled}
+use Rattle.words_cell.specs.Rule.{first_view, makes_of, has_lists_out, filled_of, taken_of, IsActiveEntryOf, IsPassiveEntryOf, Ruled}
 use Rattle.words_cell.specs.Seats.{saw_of, saw_full_of, claimed_of, missed_of, late_of, filled_by, emptied_by, taken_by, having_found, eased_of, listing_of, back, joined_active_of, joined_passive_of, told_of, gone_of, paid_of, paid_active_of, paid_passive_of}
 use Rattle.words_cell.specs.Steps.{Kept, Looked, Claimed, Took, Peeked, Grabbed, CanJoinActive, CanJoinPassive, CanHear, CanLeave, CanPay, CanPayActive, CanPayPassive, CanStay}
 use Rattle.words_cell.specs.declared.view.View.{View}
 use Rattle.words_cell.proofs.Flags.{never, SetsLow}
+use Rattle.words_base.proofs.Matched.{longer}
 use Rattle.words_base.proofs.Waiting.{last-pushed}
 use Rattle.words_base.proofs.Views.{some-longer}
 use Rattle.words_cell.proofs.Keeps.{few, sees, sees_full, claims, misses, comes_late, fills, empties, takes_value, finds, busy, eases, grabbed, joins_active, joins_passive, hears, leaves, pays, pays_active, pays_passive, remains}
@@ -99,8 +100,8 @@ module _ (S : Type 0) (active_of passive_of : S → Listed) (start : Bool) where
         joined_active_of k me.0,
         gives,
         tt,
-        joins_active S active_of passive_of start s id me r at c.0 new c.1.0 c.1.1 (subst (λ (z : ℕ). 0 < z) (sym len) wide) c.1.2 c.1.3 k c.2 c.3 c.4 away off,
-        (c.0, c.1.1, ap (λ j. (joined_active_of j me.0, rest me.1)) (sym (ap last_of (c.2).0 ∙ last-pushed k me.0.active.entries))),
+        joins_active S active_of passive_of start s id me r at c.0 new c.1.0 c.1.1 (subst (λ (z : ℕ). 0 < z) (sym len) wide) c.1.2 c.1.3 k c.2 c.3 away off,
+        (c.0, c.1.1, ap (λ j. (joined_active_of j me.0, rest me.1)) (sym (ap last_of (c.2).entries ∙ last-pushed k me.0.active.entries))),
       )
 
       pub given_passive : (k : ℕ) → CanJoinPassive active_of passive_of me new k → me.0.in_active ≡ false → me.0.in_passive ≡ false
@@ -109,27 +110,27 @@ module _ (S : Type 0) (active_of passive_of : S → Listed) (start : Bool) where
         joined_passive_of k me.0,
         gives,
         tt,
-        joins_passive S active_of passive_of start s id me r at c.0 new c.1.0 c.1.1 (subst (λ (z : ℕ). 0 < z) (sym len) wide) c.1.2 c.1.3 k c.2 c.3 c.4 away off,
-        (c.0, c.1.1, ap (λ j. (joined_passive_of j me.0, rest me.1)) (sym (ap last_of (c.3).0 ∙ last-pushed k me.0.passive.entries))),
+        joins_passive S active_of passive_of start s id me r at c.0 new c.1.0 c.1.1 (subst (λ (z : ℕ). 0 < z) (sym len) wide) c.1.2 c.1.3 k c.2 c.3 away off,
+        (c.0, c.1.1, ap (λ j. (joined_passive_of j me.0, rest me.1)) (sym (ap last_of (c.3).entries ∙ last-pushed k me.0.passive.entries))),
       )
 
       pub given_told : CanHear active_of passive_of me new → me.0.in_active ≡ true → Allows R slots id me 1 (λ _. new) (λ _ m'. m' ≡ (told_of me.0, rest me.1))
-      given_told c was s r len at _ = (told_of me.0, gives, tt, hears S active_of passive_of start s id me r at c.0 new c.1.0 c.1.1 (subst (λ (z : ℕ). 0 < z) (sym len) wide) c.1.2 c.1.3 c.2 c.3 c.4 was, refl)
+      given_told c was s r len at _ = (told_of me.0, gives, tt, hears S active_of passive_of start s id me r at c.0 new c.1.0 c.1.1 (subst (λ (z : ℕ). 0 < z) (sym len) wide) c.1.2 c.1.3 c.2 c.3 was, refl)
 
       pub given_gone : CanLeave active_of passive_of me new → Allows R slots id me 1 (λ _. new) (λ _ m'. m' ≡ (gone_of me.0, rest me.1))
-      given_gone c s r len at _ = (gone_of me.0, gives, tt, leaves S active_of passive_of start s id me r at c.0 new c.1.0 c.1.1 (subst (λ (z : ℕ). 0 < z) (sym len) wide) c.1.2 c.1.3 c.2 c.3 c.4, refl)
+      given_gone c s r len at _ = (gone_of me.0, gives, tt, leaves S active_of passive_of start s id me r at c.0 new c.1.0 c.1.1 (subst (λ (z : ℕ). 0 < z) (sym len) wide) c.1.2 c.1.3 c.2 c.3, refl)
 
       pub given_paid : CanPay active_of passive_of me new → Allows R slots id me 1 (λ _. new) (λ _ m'. m' ≡ (paid_of me.0, rest me.1))
-      given_paid c s r len at _ = (paid_of me.0, gives, tt, pays S active_of passive_of start s id me r at c.0 new c.1.0 c.1.1 (subst (λ (z : ℕ). 0 < z) (sym len) wide) c.1.2 c.1.3 c.2 c.3 c.4, refl)
+      given_paid c s r len at _ = (paid_of me.0, gives, tt, pays S active_of passive_of start s id me r at c.0 new c.1.0 c.1.1 (subst (λ (z : ℕ). 0 < z) (sym len) wide) c.1.2 c.1.3 c.2 c.3, refl)
 
       pub given_paid_active : CanPayActive active_of passive_of me new → Allows R slots id me 1 (λ _. new) (λ _ m'. m' ≡ (paid_active_of me.0, rest me.1))
       given_paid_active c s r len at _ = (paid_active_of me.0, gives, tt, pays_active S active_of passive_of start s id me r at c.0 new c.1.0 c.1.1 (subst (λ (z : ℕ). 0 < z) (sym len) wide) c.1.2 c.1.3 c.2 c.3, refl)
 
       pub given_paid_passive : CanPayPassive active_of passive_of me new → Allows R slots id me 1 (λ _. new) (λ _ m'. m' ≡ (paid_passive_of me.0, rest me.1))
-      given_paid_passive c s r len at _ = (paid_passive_of me.0, gives, tt, pays_passive S active_of passive_of start s id me r at c.0 new c.1.0 c.1.1 (subst (λ (z : ℕ). 0 < z) (sym len) wide) c.1.2 c.1.3 c.2 c.3 c.4, refl)
+      given_paid_passive c s r len at _ = (paid_passive_of me.0, gives, tt, pays_passive S active_of passive_of start s id me r at c.0 new c.1.0 c.1.1 (subst (λ (z : ℕ). 0 < z) (sym len) wide) c.1.2 c.1.3 c.2 c.3, refl)
 
       pub given_same : CanStay active_of passive_of me new → Allows R slots id me 1 (λ _. new) (λ _ m'. m' ≡ (back me.0, rest me.1))
-      given_same c s r len at _ = (back me.0, gives, tt, remains S active_of passive_of start s id me r at c.0 new c.1.0 c.1.1 (subst (λ (z : ℕ). 0 < z) (sym len) wide) c.1.2 c.1.3 c.2 c.3 c.4, refl)
+      given_same c s r len at _ = (back me.0, gives, tt, remains S active_of passive_of start s id me r at c.0 new c.1.0 c.1.1 (subst (λ (z : ℕ). 0 < z) (sym len) wide) c.1.2 c.1.3 c.2 c.3, refl)
 
   -- a new seat has nothing
   pub sits : (slots i : ℕ) → Enters R slots i (λ n w. Kept {S = S} (first_view, []) (w, []))
@@ -144,9 +145,8 @@ module _ (S : Type 0) (active_of passive_of : S → Listed) (start : Bool) where
           list_word = (omega arith, omega arith);
           active = r.active;
           passive = r.passive;
-          standing = ((λ n h. some-longer _ s.views w (r.standing.0 n h)), λ n h. some-longer _ s.views w (r.standing.1 n h));
-          placed_active = (let d = number-none is_in_active s.views w refl in let p = r.placed_active in omega arith);
-          placed_passive = (let d = number-none is_in_passive s.views w refl in let p = r.placed_passive in omega arith);
+          active_match = longer IsActiveEntryOf r.active.entries s.views w (λ n is. never is.0) r.active_match;
+          passive_match = longer IsPassiveEntryOf r.passive.entries s.views w (λ n is. never is.0) r.passive_match;
           empty = λ e. ⊎_elim (λ m. inl m) (λ b. inr (⊎_elim (λ c. inl (some-longer _ s.views w c)) (λ all. inr (λ n h. some-longer _ s.views w (all n h))) b)) (r.empty e);
           filled = λ e. let f = r.filled e in (
             ⊎_elim (λ c. inl (some-longer _ s.views w c)) (λ all. inr (λ n h. some-longer _ s.views w (all n h))) f.0,

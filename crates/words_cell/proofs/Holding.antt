@@ -1,10 +1,11 @@
 -- What a seat has that has taken the lists out.
-use Rattle.std.proofs.Common.{◌≡◌, ℕ, List, [], ◌∷◌, sym, ap, ◌∙◌}
+use Rattle.std.proofs.Common.{◌≡◌, ℕ, ◌∷◌, sym, ap, ◌∙◌}
 use Rattle.atomic_table.specs.Table.{Me, rest}
+use Rattle.words_base.specs.Lists.{Listed}
 use Rattle.words_base.specs.Waiting.{last_of}
-use Rattle.words_cell.specs.Lists.{Listed}
 use Rattle.words_cell.specs.Seats.{listing_of, joined_active_of, joined_passive_of}
 use Rattle.words_cell.specs.Steps.{IsHeld, IsSame, CanJoinActive, CanJoinPassive}
+use Rattle.words_base.proofs.Holding.{same_out}
 use Rattle.words_base.proofs.Waiting.{last-pushed}
 use Rattle.words_cell.specs.declared.view.View.{View}
 
@@ -34,17 +35,9 @@ held_of {S} active_of passive_of m m' lists e = (
   ap (λ (n : Me S View). rest n.1) e,
 )
 
--- the lists that are out are one pair
-same_out : {S : Type 0} (x y : S) (l : List (ℕ × S)) → l ≡ (0, x) ∷ rest l → l ≡ (0, y) ∷ rest l → x ≡ y
-same_out {S} x y l e f = ap (λ (k : List (ℕ × S)). first x k) (sym e ∙ f)
-  where
-    first : S → List (ℕ × S) → S
-    first z [] = z
-    first z (k ∷ ks) = k.1
-
 module _ {S : Type 0} (active_of passive_of : S → Listed) (m : Me S View) (n k : ℕ) where
   pub joined_active_same : CanJoinActive active_of passive_of m n k → (m' : Me S View) → (lists : S) × (m.1 ≡ (0, lists) ∷ rest m.1) × (m' ≡ (joined_active_of (last_of (active_of lists).entries) m.0, rest m.1)) → m' ≡ (joined_active_of k m.0, rest m.1)
-  joined_active_same c m' t = t.2 ∙ ap (λ j. (joined_active_of j m.0, rest m.1)) (ap (λ l. last_of (active_of l).entries) (same_out t.0 c.0 m.1 t.1 c.1.1) ∙ ap last_of (c.2).0 ∙ last-pushed k m.0.active.entries)
+  joined_active_same c m' t = t.2 ∙ ap (λ j. (joined_active_of j m.0, rest m.1)) (ap (λ l. last_of (active_of l).entries) (same_out t.0 c.0 m.1 (rest m.1) t.1 c.1.1) ∙ ap last_of (c.2).entries ∙ last-pushed k m.0.active.entries)
 
   pub joined_passive_same : CanJoinPassive active_of passive_of m n k → (m' : Me S View) → (lists : S) × (m.1 ≡ (0, lists) ∷ rest m.1) × (m' ≡ (joined_passive_of (last_of (passive_of lists).entries) m.0, rest m.1)) → m' ≡ (joined_passive_of k m.0, rest m.1)
-  joined_passive_same c m' t = t.2 ∙ ap (λ j. (joined_passive_of j m.0, rest m.1)) (ap (λ l. last_of (passive_of l).entries) (same_out t.0 c.0 m.1 t.1 c.1.1) ∙ ap last_of (c.3).0 ∙ last-pushed k m.0.passive.entries)
+  joined_passive_same c m' t = t.2 ∙ ap (λ j. (joined_passive_of j m.0, rest m.1)) (ap (λ l. last_of (passive_of l).entries) (same_out t.0 c.0 m.1 (rest m.1) t.1 c.1.1) ∙ ap last_of (c.3).entries ∙ last-pushed k m.0.passive.entries)

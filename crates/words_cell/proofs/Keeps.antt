@@ -1,36 +1,29 @@
 -- Each step on the table keeps its rule: of one state.
-use Rattle.std.proofs.Common.{◌≡◌, ◌≢◌, ℕ, zero, suc, ◌+◌, ◌*◌, ◌-◌, ◌%◌, ◌^◌, ◌<◌, ◌≤◌, Bool, true, false, List, [], ◌∷◌, ◌++◌, length, get_or, set, sym, refl, ap, ◌∙◌, subst, arith, ◌⊎◌, ⊎_elim, inl, inr, length-set, get_or-set_same, get_or-set_other}
+use Rattle.std.proofs.Common.{◌≡◌, ◌≢◌, ℕ, zero, suc, ◌+◌, ◌*◌, ◌-◌, ◌%◌, ◌^◌, ◌<◌, ◌≤◌, Bool, true, false, List, [], ◌∷◌, length, get_or, set, sym, refl, ap, ◌∙◌, subst, arith, ◌⊎◌, ⊎_elim, inl, inr, length-set, get_or-set_same, get_or-set_other}
 use mathlib.Core.Option.{some, some-injective, some-ne-none}
 use lib.ListN.{get_elem?}
 use Rattle.atomic_table.specs.Table.{State, Me, keeps, takes, gives, stepped, put_back, rest, opening}
 use Rattle.atomic_table.proofs.Lists.{set_here, at_set}
 use Rattle.words_base.specs.Sums.{weight, number, total}
 use Rattle.words_base.proofs.Sums.{number-set, number-at, total-set}
-use Rattle.words_base.specs.Waiting.{Has, NoneWaits, Fewer, SomeSeat, AreOf}
-use Rattle.words_cell.specs.Lists.{Listed, nobody}
-use Rattle.words_cell.specs.Rule.{first_view, makes_of, is_in_active, is_in_passive, has_lists_out, filled_of, taken_of, Owes, OwesActive, OwesPassive, IsActiveEntryOf, IsPassiveEntryOf, IsFreshActive, IsFreshPassive, AllStand, LosesNoneEmpty, LosesNoneFull, IsCell, SaysEmpty, Ruled}
+use Rattle.words_base.specs.Lists.{Listed, nobody, Stays, Pays, PaysAll, Joins, Leaves, GoesOn}
+use Rattle.words_base.specs.Waiting.{Has, NoneWaits, Fewer, LeftBy, StaysTold, SomeSeat, AreOf, Matched, all_but}
+use Rattle.words_cell.specs.Rule.{first_view, makes_of, has_lists_out, filled_of, taken_of, Owes, OwesActive, OwesPassive, IsActiveEntryOf, IsPassiveEntryOf, IsFreshActive, IsFreshPassive, LosesNoneEmpty, LosesNoneFull, IsCell, SaysEmpty, Ruled}
 use Rattle.words_cell.specs.Seats.{saw_of, saw_full_of, claimed_of, missed_of, late_of, filled_by, emptied_by, taken_by, having_found, eased_of, listing_of, back, joined_active_of, joined_passive_of, told_of, gone_of, paid_of, paid_active_of, paid_passive_of}
-use Rattle.words_cell.specs.Steps.{KeepsEntries, AllTold, HasJoined, HasLeft, LosesOne, LeftIf, KeepsTold}
+use Rattle.words_cell.specs.Steps.{LeftIf}
 use Rattle.words_cell.specs.declared.view.View.{View}
 use Rattle.words_cell.proofs.Flags.{never}
-use Rattle.words_base.proofs.Waiting.{joined_by, length-pushed}
+use Rattle.words_base.proofs.Matched as matched
 use Rattle.words_base.proofs.Views.{own, apart, stays, all_stay as fresh_stays}
 
--- no entry is new, and none is the seat's where it stands
-left_if : (b : Bool) (k : ℕ) (old new : Listed) → LeftIf b k old new → ((n : ℕ) → Has n new.entries → Has n old.entries × (b ≡ true → n ≢ k)) × ((n : ℕ) → Has n new.waiting → Has n old.waiting × (b ≡ true → n ≢ k))
-left_if true k old new left = ((λ n h. let l = left.0.0 n h in (l.0, λ _. l.1)), λ n h. let l = left.0.1 n h in (l.0, λ _. l.1))
-left_if false k old new kept = ((λ n h. (subst (Has n) kept.0 h, λ b. never b)), λ n h. (kept.1 n h, λ b. never b))
+-- none that waits is new, and none is the seat's where it stands
+left_if : (b : Bool) (k : ℕ) (Left : Listed → Listed → Type 0) (old new : Listed) → (Left old new → LeftBy k old.waiting new.waiting) → LeftIf b Left old new → (n : ℕ) → Has n new.waiting → Has n old.waiting × (b ≡ true → n ≢ k)
+left_if true k Left old new left f n h = let l = left f n h in (l.0, λ _. l.1)
+left_if false k Left old new left f n h = (f.fewer n h, λ b. never b)
 
--- as many entries, one more, and one less where the seat leaves
-same_size : (n : ℕ) (old new : List ℕ) → new ≡ old → length old + n ≤ length new + n
-same_size n old new same = let e : length new ≡ length old = ap length same in omega arith
-
-joined_size : (n k : ℕ) (old new : List ℕ) → new ≡ old ++ k ∷ [] → length old + 1 ≤ length new + n
-joined_size n k old new joined = let e : length new ≡ length old + 1 = ap length joined ∙ length-pushed k old in omega arith
-
-left_size : (b : Bool) (k : ℕ) (old new : Listed) → LeftIf b k old new → length old.entries + 0 ≤ length new.entries + weight b
-left_size true k old new left = let l = left.1 in let one : weight true ≡ 1 = refl in omega arith
-left_size false k old new kept = let e : length new.entries ≡ length old.entries = ap length kept.0 in omega arith
+told_if : (b : Bool) (k : ℕ) (old new : Listed) → LeftIf b (GoesOn k) old new → StaysTold old.notified new.waiting new.notified
+told_if true k old new f = f.told
+told_if false k old new f = f.told
 
 module _ (S : Type 0) (active_of passive_of : S → Listed) where
   module _ (lists : S) (a : active_of lists ≡ nobody) (p : passive_of lists ≡ nobody) where
@@ -46,9 +39,8 @@ module _ (S : Type 0) (active_of passive_of : S → Listed) where
       list_word = (omega arith, refl);
       active = nobody;
       passive = nobody;
-      standing = ((λ n h. absurd h), λ n h. absurd h);
-      placed_active = omega arith;
-      placed_passive = omega arith;
+      active_match = matched.nobody_stands IsActiveEntryOf first_view [] refl (λ n is. never is.0);
+      passive_match = matched.nobody_stands IsPassiveEntryOf first_view [] refl (λ n is. never is.0);
       empty = λ _. inr (inr (λ n h. absurd h));
       filled = λ e. absurd (omega (arith, e));
       unlisted = λ _. (refl, refl);
@@ -63,9 +55,8 @@ module _ (S : Type 0) (active_of passive_of : S → Listed) where
       list_word = (omega arith, refl);
       active = nobody;
       passive = nobody;
-      standing = ((λ n h. absurd h), λ n h. absurd h);
-      placed_active = omega arith;
-      placed_passive = omega arith;
+      active_match = matched.nobody_stands IsActiveEntryOf first_view [] refl (λ n is. never is.0);
+      passive_match = matched.nobody_stands IsPassiveEntryOf first_view [] refl (λ n is. never is.0);
       empty = λ e. absurd (omega (arith, e));
       filled = λ _. (inr (λ n h. absurd h), inr (λ n h. absurd h));
       unlisted = λ _. (refl, refl);
@@ -103,34 +94,31 @@ module _ (S : Type 0) (active_of passive_of : S → Listed) where
       out_set w good i v e is = ⊎_elim (λ here. subst (λ (u : View). (u.active ≡ r.active) × (u.passive ≡ r.passive)) here.1 (good (ap (λ (u : View). u.has_lists) here.1 ∙ is))) (λ else. r.out i v else.1 is) (at_set s.views id i w v e)
 
       -- what a step on the word 0 leaves of a seat, and what one on the word 1 does
-      abbrev Leaves : View → Type 0
-      Leaves w = (w.has_lists ≡ me.0.has_lists) × (w.active ≡ me.0.active) × (w.passive ≡ me.0.passive) × (w.in_active ≡ me.0.in_active) × (w.in_passive ≡ me.0.in_passive) × (w.entry ≡ me.0.entry)
+      abbrev KeepsLists : View → Type 0
+      KeepsLists w = (w.has_lists ≡ me.0.has_lists) × (w.active ≡ me.0.active) × (w.passive ≡ me.0.passive) × (w.in_active ≡ me.0.in_active) × (w.in_passive ≡ me.0.in_passive) × (w.entry ≡ me.0.entry)
 
       abbrev Does : View → Type 0
       Does w = (w.makes ≡ me.0.makes) × (w.filled ≡ me.0.filled) × (w.taken ≡ me.0.taken)
 
-      out_left : (w : View) → Leaves w → (i : ℕ) (v : View) → get_elem? (after w) i ≡ some v → v.has_lists ≡ true → (v.active ≡ r.active) × (v.passive ≡ r.passive)
+      out_left : (w : View) → KeepsLists w → (i : ℕ) (v : View) → get_elem? (after w) i ≡ some v → v.has_lists ≡ true → (v.active ≡ r.active) × (v.passive ≡ r.passive)
       out_left w left = out_set w (λ is. let o = r.out id me.0 at (sym left.0 ∙ is) in (left.1 ∙ o.0, left.2 ∙ o.1))
 
-      -- the lists stay, and the seat stands where it stood
-      all_stand : (w : View) → w.in_active ≡ me.0.in_active → w.in_passive ≡ me.0.in_passive → w.entry ≡ me.0.entry → AllStand r.active r.passive (after w)
-      all_stand w active passive entry = (
-        all_stay IsActiveEntryOf r.active.entries w (λ n q. (active ∙ q.0, entry ∙ q.1)) r.standing.0,
-        all_stay IsPassiveEntryOf r.passive.entries w (λ n q. (passive ∙ q.0, entry ∙ q.1)) r.standing.1,
-      )
+      -- the entry of this number, of the list in which the flag says that it stands, is the seat's
+      abbrev IsEntry : (View → Bool) → ℕ → View → Type 0
+      IsEntry flag n v = (flag v ≡ true) × (v.entry ≡ n)
 
-      -- no more seats stand in a list than it has entries, as both change
-      places : (flag : View → Bool) (old new : List ℕ) (w : View) → length old + weight (flag w) ≤ length new + weight (flag me.0) → number flag s.views ≤ length old → number flag (after w) ≤ length new
-      places flag old new w enough placed = let c = number-set flag s.views id me.0 w at in omega (arith, enough, placed)
+      -- the entries of a list stay, and the seat stands in it as it did, or doesn't and didn't
+      matched_as : (flag : View → Bool) (entries : List ℕ) (w : View) → flag w ≡ flag me.0 → w.entry ≡ me.0.entry → Matched (IsEntry flag) entries s.views → Matched (IsEntry flag) entries (after w)
+      matched_as flag entries w same entry m = matched.kept (IsEntry flag) entries s.views id me.0 at m w (λ n q. (same ∙ q.0, entry ∙ q.1)) (λ n q. (sym same ∙ q.0, sym entry ∙ q.1))
 
-      placed_as : (flag : View → Bool) (entries : List ℕ) (w : View) → flag w ≡ flag me.0 → number flag s.views ≤ length entries → number flag (after w) ≤ length entries
-      placed_as flag entries w same = let e : weight (flag w) ≡ weight (flag me.0) = ap weight same in places flag entries entries w (omega arith)
+      matched_away : (flag : View → Bool) (entries : List ℕ) (w : View) → flag me.0 ≡ false → flag w ≡ false → Matched (IsEntry flag) entries s.views → Matched (IsEntry flag) entries (after w)
+      matched_away flag entries w away still m = matched.kept (IsEntry flag) entries s.views id me.0 at m w (λ n q. never (sym away ∙ q.0)) (λ n q. never (sym still ∙ q.0))
 
       same_out : (w : View) → w.has_lists ≡ me.0.has_lists → number has_lists_out (after w) ≡ number has_lists_out s.views
       same_out w e = let c = number-set has_lists_out s.views id me.0 w at in let e' : weight (has_lists_out w) ≡ weight (has_lists_out me.0) = ap weight e in omega arith
 
       -- the cell's word becomes n; what is known of the lists stays
-      moved : (n : ℕ) (w : View) → IsCell start (set s.words 0 n) (after w) → Leaves w → (n ≡ 0 → LosesNoneEmpty r.active (after w)) → (n ≡ 2 → LosesNoneFull r.active r.passive (after w)) → R (stepped s 0 n id me.1 w keeps)
+      moved : (n : ℕ) (w : View) → IsCell start (set s.words 0 n) (after w) → KeepsLists w → (n ≡ 0 → LosesNoneEmpty r.active (after w)) → (n ≡ 2 → LosesNoneFull r.active r.passive (after w)) → R (stepped s 0 n id me.1 w keeps)
       moved n w cell left empty filled =
           let same = same_out w left.0 in let one = r.list_word.0 in let is = r.list_word.1 in
           let here : get_or (set s.words 0 n) 0 0 ≡ n = get_or-set_same s.words 0 n 0 one_word in
@@ -140,9 +128,8 @@ module _ (S : Type 0) (active_of passive_of : S → Listed) where
             list_word = (omega arith, ap (λ k. k % 2) there ∙ is ∙ sym same);
             active = r.active;
             passive = r.passive;
-            standing = all_stand w left.3 left.4 left.5;
-            placed_active = placed_as is_in_active r.active.entries w left.3 r.placed_active;
-            placed_passive = placed_as is_in_passive r.passive.entries w left.4 r.placed_passive;
+            active_match = matched_as (λ v. v.in_active) r.active.entries w left.3 left.5 r.active_match;
+            passive_match = matched_as (λ v. v.in_passive) r.passive.entries w left.4 left.5 r.passive_match;
             empty = λ e. empty (sym here ∙ e);
             filled = λ e. filled (sym here ∙ e);
             unlisted = λ low. r.unlisted (subst SaysEmpty there low);
@@ -161,7 +148,7 @@ module _ (S : Type 0) (active_of passive_of : S → Listed) where
           record { full = r.cell.full; one_maker = omega arith; word = is ∙ (omega arith); values = omega arith }
 
       -- the cell's word stays
-      unmoved : (w : View) → Leaves w → Does w → (x ≡ 0 → LosesNoneEmpty r.active (after w)) → (x ≡ 2 → LosesNoneFull r.active r.passive (after w)) → R (stepped s 0 x id me.1 w keeps)
+      unmoved : (w : View) → KeepsLists w → Does w → (x ≡ 0 → LosesNoneEmpty r.active (after w)) → (x ≡ 2 → LosesNoneFull r.active r.passive (after w)) → R (stepped s 0 x id me.1 w keeps)
       unmoved w left does = moved x w (cell_same (set s.words 0 x) w (get_or-set_same s.words 0 x 0 one_word) does) left
 
       pub few : x ≤ 2
@@ -249,7 +236,7 @@ module _ (S : Type 0) (active_of passive_of : S → Listed) where
       beside : (n : ℕ) → get_or (set s.words 1 n) 0 0 ≡ x
       beside n = get_or-set_other s.words 1 0 n 0 (λ q. omega arith)
 
-      at_list : (n : ℕ) (w : View) → n % 2 ≡ y % 2 → (SaysEmpty n → SaysEmpty y) → Leaves w → Does w → (x ≡ 0 → LosesNoneEmpty r.active (after w)) → (x ≡ 2 → LosesNoneFull r.active r.passive (after w)) → R (stepped s 1 n id me.1 w keeps)
+      at_list : (n : ℕ) (w : View) → n % 2 ≡ y % 2 → (SaysEmpty n → SaysEmpty y) → KeepsLists w → Does w → (x ≡ 0 → LosesNoneEmpty r.active (after w)) → (x ≡ 2 → LosesNoneFull r.active r.passive (after w)) → R (stepped s 1 n id me.1 w keeps)
       at_list n w parity below left does empty filled =
           let same = same_out w left.0 in let one = r.list_word.0 in let is = r.list_word.1 in
           let here : get_or (set s.words 1 n) 1 0 ≡ n = get_or-set_same s.words 1 n 0 r.two_words in let there = beside n in record {
@@ -258,9 +245,8 @@ module _ (S : Type 0) (active_of passive_of : S → Listed) where
             list_word = (omega arith, ap (λ k. k % 2) here ∙ parity ∙ is ∙ sym same);
             active = r.active;
             passive = r.passive;
-            standing = all_stand w left.3 left.4 left.5;
-            placed_active = placed_as is_in_active r.active.entries w left.3 r.placed_active;
-            placed_passive = placed_as is_in_passive r.passive.entries w left.4 r.placed_passive;
+            active_match = matched_as (λ v. v.in_active) r.active.entries w left.3 left.5 r.active_match;
+            passive_match = matched_as (λ v. v.in_passive) r.passive.entries w left.4 left.5 r.passive_match;
             empty = λ e. empty (sym there ∙ e);
             filled = λ e. filled (sym there ∙ e);
             unlisted = λ low. r.unlisted (below (subst SaysEmpty here low));
@@ -295,9 +281,8 @@ module _ (S : Type 0) (active_of passive_of : S → Listed) where
               list_word = (omega arith, ap (λ k. k % 2) here ∙ odd ∙ sym one);
               active = r.active;
               passive = r.passive;
-              standing = all_stand w refl refl refl;
-              placed_active = placed_as is_in_active r.active.entries w refl r.placed_active;
-              placed_passive = placed_as is_in_passive r.passive.entries w refl r.placed_passive;
+              active_match = matched_as (λ v. v.in_active) r.active.entries w refl refl r.active_match;
+              passive_match = matched_as (λ v. v.in_passive) r.passive.entries w refl refl r.passive_match;
               empty = λ e. empty_as w ((λ o. o), (λ o. o), (λ o. o), (λ n f. f), λ n f. f) (sym there ∙ e);
               filled = λ e. full_as w ((λ o. o), (λ o. o), (λ o. o), (λ n f. f), λ n f. f) (sym there ∙ e);
               unlisted = λ low. r.unlisted (below (subst SaysEmpty here low));
@@ -327,33 +312,44 @@ module _ (S : Type 0) (active_of passive_of : S → Listed) where
         fewer : (P : ℕ → View → Type 0) (w : View) (old new : List ℕ) → Fewer old new → ((k : ℕ) → P k me.0 → P k w) → Stands P w old new
         fewer P w old new all good k h = inl (all k h, good k)
 
-        abbrev Stood : View → Type 0
-        Stood w = Stands IsActiveEntryOf w me.0.active.entries new_active.entries × Stands IsPassiveEntryOf w me.0.passive.entries new_passive.entries
+        active_known : Matched IsActiveEntryOf me.0.active.entries s.views
+        active_known = subst (λ (l : Listed). Matched IsActiveEntryOf l.entries s.views) (sym known.0) r.active_match
 
-        abbrev Enough : View → Type 0
-        Enough w = (length me.0.active.entries + weight w.in_active ≤ length new_active.entries + weight me.0.in_active) × (length me.0.passive.entries + weight w.in_passive ≤ length new_passive.entries + weight me.0.in_passive)
+        passive_known : Matched IsPassiveEntryOf me.0.passive.entries s.views
+        passive_known = subst (λ (l : Listed). Matched IsPassiveEntryOf l.entries s.views) (sym known.1) r.passive_match
 
-        stands_now : (w : View) → Stood w → AllStand new_active new_passive (after w)
-        stands_now w stood = let k = known in (
-          stand IsActiveEntryOf w me.0.active.entries new_active.entries stood.0 (subst (λ (l : Listed). AreOf IsActiveEntryOf l.entries s.views) (sym k.0) r.standing.0),
-          stand IsPassiveEntryOf w me.0.passive.entries new_passive.entries stood.1 (subst (λ (l : Listed). AreOf IsPassiveEntryOf l.entries s.views) (sym k.1) r.standing.1),
-        )
+        abbrev Match : View → Type 0
+        Match w = Matched IsActiveEntryOf new_active.entries (after w) × Matched IsPassiveEntryOf new_passive.entries (after w)
+
+        -- of one list: the seat stands in it as it did, or nowhere; or it has joined it, or left it
+        module _ (flag : View → Bool) (old new : Listed) (m : Matched (IsEntry flag) old.entries s.views) (w : View) where
+          same_match : new.entries ≡ old.entries → flag w ≡ flag me.0 → w.entry ≡ me.0.entry → Matched (IsEntry flag) new.entries (after w)
+          same_match same stands entry = matched_as flag new.entries w stands entry (subst (λ l. Matched (IsEntry flag) l s.views) (sym same) m)
+
+          away_match : new.entries ≡ old.entries → flag me.0 ≡ false → flag w ≡ false → Matched (IsEntry flag) new.entries (after w)
+          away_match same away still = matched_away flag new.entries w away still (subst (λ l. Matched (IsEntry flag) l s.views) (sym same) m)
+
+          joined_match : (k : ℕ) → Joins k old new → flag me.0 ≡ false → flag w ≡ true → w.entry ≡ k → Matched (IsEntry flag) new.entries (after w)
+          joined_match k j away stands entry = subst (λ l. Matched (IsEntry flag) l (after w)) (sym j.entries)
+              (matched.joined (IsEntry flag) old.entries s.views id me.0 at m k w (λ n q. never (sym away ∙ q.0)) (stands, entry) (λ n q. sym q.1 ∙ entry) j.fresh)
+
+          left_match : new.entries ≡ all_but me.0.entry old.entries → flag me.0 ≡ true → flag w ≡ false → Matched (IsEntry flag) new.entries (after w)
+          left_match same stood gone = subst (λ l. Matched (IsEntry flag) l (after w)) (sym same)
+              (matched.left (IsEntry flag) old.entries s.views id me.0 at m me.0.entry w (stood, refl) (λ n q. sym q.1) (λ n q. never (sym gone ∙ q.0)))
+
+          left_if_match : (b : Bool) (Left : Listed → Listed → Type 0) → flag me.0 ≡ b → flag w ≡ false → (Left old new → new.entries ≡ all_but me.0.entry old.entries) → LeftIf b Left old new → Matched (IsEntry flag) new.entries (after w)
+          left_if_match true Left stood gone left f = left_match (left f) stood gone
+          left_if_match false Left away gone left f = away_match f.entries away gone
 
         -- the same entries, and the seat stands where it stood
-        keeps_place : (w : View) → w.in_active ≡ me.0.in_active → w.in_passive ≡ me.0.in_passive → w.entry ≡ me.0.entry → new_active.entries ≡ me.0.active.entries → new_passive.entries ≡ me.0.passive.entries → Stood w × Enough w
-        keeps_place w in_active in_passive entry active passive = (
-          (
-            fewer IsActiveEntryOf w me.0.active.entries new_active.entries (λ j. subst (Has j) active) (λ j q. (in_active ∙ q.0, entry ∙ q.1)),
-            fewer IsPassiveEntryOf w me.0.passive.entries new_passive.entries (λ j. subst (Has j) passive) (λ j q. (in_passive ∙ q.0, entry ∙ q.1)),
-          ),
-          (
-            subst (λ b. length me.0.active.entries + weight b ≤ length new_active.entries + weight me.0.in_active) (sym in_active) (same_size (weight me.0.in_active) me.0.active.entries new_active.entries active),
-            subst (λ b. length me.0.passive.entries + weight b ≤ length new_passive.entries + weight me.0.in_passive) (sym in_passive) (same_size (weight me.0.in_passive) me.0.passive.entries new_passive.entries passive),
-          ),
+        keeps_match : (w : View) → w.in_active ≡ me.0.in_active → w.in_passive ≡ me.0.in_passive → w.entry ≡ me.0.entry → new_active.entries ≡ me.0.active.entries → new_passive.entries ≡ me.0.passive.entries → Match w
+        keeps_match w in_active in_passive entry active passive = (
+          same_match (λ v. v.in_active) me.0.active new_active active_known w active in_active entry,
+          same_match (λ v. v.in_passive) me.0.passive new_passive passive_known w passive in_passive entry,
         )
 
-        returned : (w : View) → w.has_lists ≡ false → Does w → Stood w × Enough w → (x ≡ 0 → LosesNoneEmpty new_active (after w)) → (x ≡ 2 → LosesNoneFull new_active new_passive (after w)) → R (stepped s 1 n id me.1 w gives)
-        returned w off does place empty filled =
+        returned : (w : View) → w.has_lists ≡ false → Does w → Match w → (x ≡ 0 → LosesNoneEmpty new_active (after w)) → (x ≡ 2 → LosesNoneFull new_active new_passive (after w)) → R (stepped s 1 n id me.1 w gives)
+        returned w off does match empty filled =
             let c = number-set has_lists_out s.views id me.0 w at in let c' : weight (has_lists_out w) ≡ 0 = ap weight off in let l : weight (has_lists_out me.0) ≡ 1 = ap weight is_out in
             let one = r.list_word.0 in
             let none_out : number has_lists_out (after w) ≡ 0 = omega arith in
@@ -363,9 +359,8 @@ module _ (S : Type 0) (active_of passive_of : S → Listed) where
               list_word = (omega arith, ap (λ k. k % 2) here ∙ (omega arith));
               active = new_active;
               passive = new_passive;
-              standing = stands_now w place.0;
-              placed_active = places is_in_active me.0.active.entries new_active.entries w place.1.0 (subst (λ (l : Listed). number is_in_active s.views ≤ length l.entries) (sym known.0) r.placed_active);
-              placed_passive = places is_in_passive me.0.passive.entries new_passive.entries w place.1.1 (subst (λ (l : Listed). number is_in_passive s.views ≤ length l.entries) (sym known.1) r.placed_passive);
+              active_match = match.0;
+              passive_match = match.1;
               empty = λ e. empty (sym there ∙ e);
               filled = λ e. filled (sym there ∙ e);
               unlisted = λ below. low (subst SaysEmpty here below);
@@ -395,7 +390,7 @@ module _ (S : Type 0) (active_of passive_of : S → Listed) where
           half OwesPassive IsFreshPassive w me.0.passive.waiting new_passive.waiting passive all_passive (subst (λ (l : Listed). SomeSeat OwesPassive s.views ⊎ AreOf IsFreshPassive l.waiting s.views) (sym k.1) f.1),
         )
 
-        told_still : (w : View) → KeepsTold me.0.active new_active → 0 < me.0.active.notified → Ends w
+        told_still : (w : View) → StaysTold me.0.active.notified new_active.waiting new_active.notified → 0 < me.0.active.notified → Ends w
         told_still w kept m = ⊎_elim (λ a. inl a) (λ none. inr (inr none)) (kept m)
 
         abbrev Active : View → Type 0
@@ -404,74 +399,67 @@ module _ (S : Type 0) (active_of passive_of : S → Listed) where
         abbrev Passive : View → Type 0
         Passive w = Stands IsFreshPassive w me.0.passive.waiting new_passive.waiting
 
-        active_fewer : (w : View) → KeepsEntries me.0.active new_active → ((k : ℕ) → IsFreshActive k me.0 → IsFreshActive k w) → Active w
-        active_fewer w all = fewer IsFreshActive w me.0.active.waiting new_active.waiting all.1
+        active_fewer : (w : View) → Fewer me.0.active.waiting new_active.waiting → ((k : ℕ) → IsFreshActive k me.0 → IsFreshActive k w) → Active w
+        active_fewer w = fewer IsFreshActive w me.0.active.waiting new_active.waiting
 
-        passive_fewer : (w : View) → KeepsEntries me.0.passive new_passive → ((k : ℕ) → IsFreshPassive k me.0 → IsFreshPassive k w) → Passive w
-        passive_fewer w all = fewer IsFreshPassive w me.0.passive.waiting new_passive.waiting all.1
+        passive_fewer : (w : View) → Fewer me.0.passive.waiting new_passive.waiting → ((k : ℕ) → IsFreshPassive k me.0 → IsFreshPassive k w) → Passive w
+        passive_fewer w = fewer IsFreshPassive w me.0.passive.waiting new_passive.waiting
 
         -- its entry has joined
-        pub joins_active : (k : ℕ) → HasJoined k me.0.active new_active → KeepsEntries me.0.passive new_passive → me.0.active.notified ≤ new_active.notified → me.0.in_active ≡ false → me.0.in_passive ≡ false → R (stepped s 1 n id me.1 (joined_active_of k me.0) gives)
-        joins_active k joined passive more away off = let w : View = joined_active_of k me.0 in
-            let act : Active w = λ j h. ⊎_elim (λ old. inl (old, λ f. never (sym away ∙ f.1.0))) (λ e. inr (refl, (refl, sym e))) (joined.1 j h) in
-            let pas = passive_fewer w passive (λ j f. never (sym off ∙ f.1.0)) in
-            let stood : Stood w = (
-              (λ j h. ⊎_elim (λ old. inl (old, λ q. never (sym away ∙ q.0))) (λ e. inr (refl, sym e)) (joined_by k me.0.active.entries j (subst (Has j) joined.0 h))),
-              λ j h. inl (subst (Has j) passive.0 h, λ q. never (sym off ∙ q.0)),
-            ) in
-            let enough : Enough w = (joined_size (weight me.0.in_active) k me.0.active.entries new_active.entries joined.0, same_size (weight me.0.in_passive) me.0.passive.entries new_passive.entries passive.0) in
-            returned w refl (refl, refl, refl) (stood, enough) (emptying w (λ m. inl (omega arith)) (λ o. inr (inl o)) act) (filling w (λ o. inl o) (λ o. inl o) act pas)
+        pub joins_active : (k : ℕ) → Joins k me.0.active new_active → Stays me.0.passive new_passive → me.0.in_active ≡ false → me.0.in_passive ≡ false → R (stepped s 1 n id me.1 (joined_active_of k me.0) gives)
+        joins_active k joins stay away off = let w : View = joined_active_of k me.0 in
+            let act : Active w = λ j h. ⊎_elim (λ old. inl (old, λ f. never (sym away ∙ f.1.0))) (λ e. inr (refl, (refl, sym e))) (joins.joined j h) in
+            let pas = passive_fewer w stay.fewer (λ j f. never (sym off ∙ f.1.0)) in
+            let match : Match w = (joined_match (λ v. v.in_active) me.0.active new_active active_known w k joins away refl refl, away_match (λ v. v.in_passive) me.0.passive new_passive passive_known w stay.entries off off) in
+            returned w refl (refl, refl, refl) match (emptying w (λ m. inl (joins.told m)) (λ o. inr (inl o)) act) (filling w (λ o. inl o) (λ o. inl o) act pas)
 
-        pub joins_passive : (k : ℕ) → KeepsEntries me.0.active new_active → HasJoined k me.0.passive new_passive → me.0.active.notified ≤ new_active.notified → me.0.in_active ≡ false → me.0.in_passive ≡ false → R (stepped s 1 n id me.1 (joined_passive_of k me.0) gives)
-        joins_passive k active joined more away off = let w : View = joined_passive_of k me.0 in
-            let act = active_fewer w active (λ j f. never (sym away ∙ f.1.0)) in
-            let pas : Passive w = λ j h. ⊎_elim (λ old. inl (old, λ f. never (sym off ∙ f.1.0))) (λ e. inr (refl, (refl, sym e))) (joined.1 j h) in
-            let stood : Stood w = (
-              (λ j h. inl (subst (Has j) active.0 h, λ q. never (sym away ∙ q.0))),
-              λ j h. ⊎_elim (λ old. inl (old, λ q. never (sym off ∙ q.0))) (λ e. inr (refl, sym e)) (joined_by k me.0.passive.entries j (subst (Has j) joined.0 h)),
-            ) in
-            let enough : Enough w = (same_size (weight me.0.in_active) me.0.active.entries new_active.entries active.0, joined_size (weight me.0.in_passive) k me.0.passive.entries new_passive.entries joined.0) in
-            returned w refl (refl, refl, refl) (stood, enough) (emptying w (λ m. inl (omega arith)) (λ o. inr (inl o)) act) (filling w (λ o. inl o) (λ o. inl o) act pas)
+        pub joins_passive : (k : ℕ) → Stays me.0.active new_active → Joins k me.0.passive new_passive → me.0.in_active ≡ false → me.0.in_passive ≡ false → R (stepped s 1 n id me.1 (joined_passive_of k me.0) gives)
+        joins_passive k stay joins away off = let w : View = joined_passive_of k me.0 in
+            let act = active_fewer w stay.fewer (λ j f. never (sym away ∙ f.1.0)) in
+            let pas : Passive w = λ j h. ⊎_elim (λ old. inl (old, λ f. never (sym off ∙ f.1.0))) (λ e. inr (refl, (refl, sym e))) (joins.joined j h) in
+            let match : Match w = (away_match (λ v. v.in_active) me.0.active new_active active_known w stay.entries away away, joined_match (λ v. v.in_passive) me.0.passive new_passive passive_known w k joins off refl refl) in
+            returned w refl (refl, refl, refl) match (emptying w (told_still w stay.told) (λ o. inr (inl o)) act) (filling w (λ o. inl o) (λ o. inl o) act pas)
 
         -- its entry was notified, and has left: it owes
-        pub hears : HasLeft me.0.entry me.0.active new_active → LosesOne me.0.active new_active → KeepsEntries me.0.passive new_passive → me.0.in_active ≡ true → R (stepped s 1 n id me.1 (told_of me.0) gives)
-        hears left shorter passive was = let w : View = told_of me.0 in
-            let act : Active w = λ j h. let l = left.1 j h in inl (l.0, λ f. absurd (l.1 (sym f.1.1))) in let pas = passive_fewer w passive (λ j f. f) in
-            let stood : Stood w = ((λ j h. let l = left.0 j h in inl (l.0, λ q. absurd (l.1 (sym q.1)))), λ j h. inl (subst (Has j) passive.0 h, λ q. q)) in
-            let enough : Enough w = (left_size me.0.in_active me.0.entry me.0.active new_active (subst (λ b. LeftIf b me.0.entry me.0.active new_active) (sym was) (left, shorter)), same_size (weight me.0.in_passive) me.0.passive.entries new_passive.entries passive.0) in
-            returned w refl (refl, refl, refl) (stood, enough) (emptying w (λ _. inr (inl (inl refl))) (λ _. inr (inl (inl refl))) act) (filling w (λ o. inl o) (λ o. inl o) act pas)
+        pub hears : Leaves me.0.entry me.0.active new_active → Stays me.0.passive new_passive → me.0.in_active ≡ true → R (stepped s 1 n id me.1 (told_of me.0) gives)
+        hears leave stay was = let w : View = told_of me.0 in
+            let act : Active w = λ j h. let l = leave.left j h in inl (l.0, λ f. absurd (l.1 (sym f.1.1))) in let pas = passive_fewer w stay.fewer (λ j f. f) in
+            let match : Match w = (left_match (λ v. v.in_active) me.0.active new_active active_known w leave.entries was refl, same_match (λ v. v.in_passive) me.0.passive new_passive passive_known w stay.entries refl refl) in
+            returned w refl (refl, refl, refl) match (emptying w (λ _. inr (inl (inl refl))) (λ _. inr (inl (inl refl))) act) (filling w (λ o. inl o) (λ o. inl o) act pas)
 
         -- its entry has left, and what it was told has gone on
-        pub leaves : LeftIf me.0.in_active me.0.entry me.0.active new_active → LeftIf me.0.in_passive me.0.entry me.0.passive new_passive → KeepsTold me.0.active new_active → R (stepped s 1 n id me.1 (gone_of me.0) gives)
-        leaves active passive kept = let w : View = gone_of me.0 in
-            let a = left_if me.0.in_active me.0.entry me.0.active new_active active in let p = left_if me.0.in_passive me.0.entry me.0.passive new_passive passive in
-            let act : Active w = λ j h. let l = a.1 j h in inl (l.0, λ f. absurd (l.1 f.1.0 (sym f.1.1))) in let pas : Passive w = λ j h. let l = p.1 j h in inl (l.0, λ f. absurd (l.1 f.1.0 (sym f.1.1))) in
-            let stood : Stood w = ((λ j h. let l = a.0 j h in inl (l.0, λ q. absurd (l.1 q.0 (sym q.1)))), λ j h. let l = p.0 j h in inl (l.0, λ q. absurd (l.1 q.0 (sym q.1)))) in
-            let enough : Enough w = (left_size me.0.in_active me.0.entry me.0.active new_active active, left_size me.0.in_passive me.0.entry me.0.passive new_passive passive) in
-            returned w refl (refl, refl, refl) (stood, enough) (emptying w (told_still w kept) (λ o. inr (inl o)) act) (filling w (λ o. inl o) (λ o. inl o) act pas)
+        pub leaves : LeftIf me.0.in_active (GoesOn me.0.entry) me.0.active new_active → LeftIf me.0.in_passive (Leaves me.0.entry) me.0.passive new_passive → R (stepped s 1 n id me.1 (gone_of me.0) gives)
+        leaves active passive = let w : View = gone_of me.0 in
+            let a = left_if me.0.in_active me.0.entry (GoesOn me.0.entry) me.0.active new_active (λ l. l.leaves.left) active in let p = left_if me.0.in_passive me.0.entry (Leaves me.0.entry) me.0.passive new_passive (λ l. l.left) passive in
+            let act : Active w = λ j h. let l = a j h in inl (l.0, λ f. absurd (l.1 f.1.0 (sym f.1.1))) in let pas : Passive w = λ j h. let l = p j h in inl (l.0, λ f. absurd (l.1 f.1.0 (sym f.1.1))) in
+            let match : Match w = (
+              left_if_match (λ v. v.in_active) me.0.active new_active active_known w me.0.in_active (GoesOn me.0.entry) refl refl (λ l. l.leaves.entries) active,
+              left_if_match (λ v. v.in_passive) me.0.passive new_passive passive_known w me.0.in_passive (Leaves me.0.entry) refl refl (λ l. l.entries) passive,
+            ) in
+            returned w refl (refl, refl, refl) match (emptying w (told_still w (told_if me.0.in_active me.0.entry me.0.active new_active active)) (λ o. inr (inl o)) act) (filling w (λ o. inl o) (λ o. inl o) act pas)
 
         -- it has notified one that would make
-        pub pays : KeepsEntries me.0.active new_active → KeepsEntries me.0.passive new_passive → (0 < new_active.notified) ⊎ NoneWaits new_active.waiting → R (stepped s 1 n id me.1 (paid_of me.0) gives)
-        pays active passive told = let w : View = paid_of me.0 in
-            let end : Ends w = ⊎_elim (λ a. inl a) (λ none. inr (inr none)) told in
-            let act = active_fewer w active (λ j f. f) in let pas = passive_fewer w passive (λ j f. f) in
-            returned w refl (refl, refl, refl) (keeps_place w refl refl refl active.0 passive.0) (emptying w (λ _. end) (λ _. end) act) (filling w (λ o. inl o) (λ o. inl o) act pas)
+        pub pays : Pays me.0.active new_active → Stays me.0.passive new_passive → R (stepped s 1 n id me.1 (paid_of me.0) gives)
+        pays pay stay = let w : View = paid_of me.0 in
+            let end : Ends w = ⊎_elim (λ a. inl a) (λ none. inr (inr none)) pay.settled in
+            let act = active_fewer w pay.fewer (λ j f. f) in let pas = passive_fewer w stay.fewer (λ j f. f) in
+            returned w refl (refl, refl, refl) (keeps_match w refl refl refl pay.entries stay.entries) (emptying w (λ _. end) (λ _. end) act) (filling w (λ o. inl o) (λ o. inl o) act pas)
 
         -- all that would make
-        pub pays_active : AllTold me.0.active new_active → KeepsEntries me.0.passive new_passive → R (stepped s 1 n id me.1 (paid_active_of me.0) gives)
-        pays_active active passive = let w : View = paid_active_of me.0 in
-            let end : Ends w = inr (inr active.1) in
-            let act : Active w = λ j h. absurd (active.1 j h) in let pas = passive_fewer w passive (λ j f. f) in
-            returned w refl (refl, refl, refl) (keeps_place w refl refl refl active.0 passive.0) (emptying w (λ _. end) (λ _. end) act) (filling w (λ _. inr active.1) (λ o. inl o) act pas)
+        pub pays_active : PaysAll me.0.active new_active → Stays me.0.passive new_passive → R (stepped s 1 n id me.1 (paid_active_of me.0) gives)
+        pays_active pay stay = let w : View = paid_active_of me.0 in
+            let end : Ends w = inr (inr pay.none_waits) in
+            let act : Active w = λ j h. absurd (pay.none_waits j h) in let pas = passive_fewer w stay.fewer (λ j f. f) in
+            returned w refl (refl, refl, refl) (keeps_match w refl refl refl pay.entries stay.entries) (emptying w (λ _. end) (λ _. end) act) (filling w (λ _. inr pay.none_waits) (λ o. inl o) act pas)
 
         -- all that wait
-        pub pays_passive : KeepsEntries me.0.active new_active → AllTold me.0.passive new_passive → KeepsTold me.0.active new_active → R (stepped s 1 n id me.1 (paid_passive_of me.0) gives)
-        pays_passive active passive kept = let w : View = paid_passive_of me.0 in
-            let act = active_fewer w active (λ j f. f) in let pas : Passive w = λ j h. absurd (passive.1 j h) in
-            returned w refl (refl, refl, refl) (keeps_place w refl refl refl active.0 passive.0) (emptying w (told_still w kept) (λ o. inr (inl o)) act) (filling w (λ o. inl o) (λ _. inr passive.1) act pas)
+        pub pays_passive : Stays me.0.active new_active → PaysAll me.0.passive new_passive → R (stepped s 1 n id me.1 (paid_passive_of me.0) gives)
+        pays_passive stay pay = let w : View = paid_passive_of me.0 in
+            let act = active_fewer w stay.fewer (λ j f. f) in let pas : Passive w = λ j h. absurd (pay.none_waits j h) in
+            returned w refl (refl, refl, refl) (keeps_match w refl refl refl stay.entries pay.entries) (emptying w (told_still w stay.told) (λ o. inr (inl o)) act) (filling w (λ o. inl o) (λ _. inr pay.none_waits) act pas)
 
         -- nothing has changed
-        pub remains : KeepsEntries me.0.active new_active → KeepsEntries me.0.passive new_passive → KeepsTold me.0.active new_active → R (stepped s 1 n id me.1 (back me.0) gives)
-        remains active passive kept = let w : View = back me.0 in
-            let act = active_fewer w active (λ j f. f) in let pas = passive_fewer w passive (λ j f. f) in
-            returned w refl (refl, refl, refl) (keeps_place w refl refl refl active.0 passive.0) (emptying w (told_still w kept) (λ o. inr (inl o)) act) (filling w (λ o. inl o) (λ o. inl o) act pas)
+        pub remains : Stays me.0.active new_active → Stays me.0.passive new_passive → R (stepped s 1 n id me.1 (back me.0) gives)
+        remains active passive = let w : View = back me.0 in
+            let act = active_fewer w active.fewer (λ j f. f) in let pas = passive_fewer w passive.fewer (λ j f. f) in
+            returned w refl (refl, refl, refl) (keeps_match w refl refl refl active.entries passive.entries) (emptying w (told_still w active.told) (λ o. inr (inl o)) act) (filling w (λ o. inl o) (λ o. inl o) act pas)

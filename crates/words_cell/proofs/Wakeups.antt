@@ -1,10 +1,10 @@
 -- What the rule says of an empty and of a full cell.
-use Rattle.std.proofs.Common.{◌≡◌, ℕ, ◌<◌, ◌≤◌, Bool, List, length, sym, ◌∙◌, subst, ◌⊎◌, inl, inr, ⊎_elim}
+use Rattle.std.proofs.Common.{◌≡◌, ℕ, ◌<◌, Bool, List, sym, ◌∙◌, subst, ◌⊎◌, inl, inr, ⊎_elim}
 use Rattle.atomic_table.specs.Table.{State}
 use Rattle.words_base.specs.Sums.{number}
-use Rattle.words_base.specs.Waiting.{NoneWaits, AreOf}
-use Rattle.words_cell.specs.Lists.{Listed}
-use Rattle.words_cell.specs.Rule.{is_in_active, is_in_passive, has_lists_out, Ruled, IsFreshActive, IsFreshPassive, AllStand, LosesNoneEmpty, LosesNoneFull}
+use Rattle.words_base.specs.Lists.{Listed}
+use Rattle.words_base.specs.Waiting.{NoneWaits, AreOf, Matched}
+use Rattle.words_cell.specs.Rule.{has_lists_out, Ruled, IsActiveEntryOf, IsPassiveEntryOf, IsFreshActive, IsFreshPassive, LosesNoneEmpty, LosesNoneFull}
 use Rattle.words_cell.specs.Laws.{IsEmpty, IsFull, AreListsHome, Lie, IsAtRest}
 use Rattle.words_cell.specs.declared.view.View.{View}
 use Rattle.words_cell.proofs.Flags.{never, number-no}
@@ -17,13 +17,12 @@ module _ {S : Type 0} (active_of passive_of : S → Listed) (start : Bool) (s : 
     full_home : IsFull s → (lists : S) × Lie s lists × LosesNoneFull (active_of lists) (passive_of lists) s.views
     full_home is = let h = r.home out in (h.0, h.1, subst (λ l. LosesNoneFull l (passive_of h.0) s.views) (sym h.2) (subst (λ l. LosesNoneFull r.active l s.views) (sym h.3) (r.filled is)))
 
-  pub standing : AreListsHome s → (lists : S) × Lie s lists × AllStand (active_of lists) (passive_of lists) s.views × (number is_in_active s.views ≤ length (active_of lists).entries) × (number is_in_passive s.views ≤ length (passive_of lists).entries)
+  pub standing : AreListsHome s → (lists : S) × Lie s lists × Matched IsActiveEntryOf (active_of lists).entries s.views × Matched IsPassiveEntryOf (passive_of lists).entries s.views
   standing even = let h = r.home (sym r.list_word.1 ∙ even) in (
     h.0,
     h.1,
-    subst (λ l. AllStand l (passive_of h.0) s.views) (sym h.2) (subst (λ l. AllStand r.active l s.views) (sym h.3) r.standing),
-    subst (λ (l : Listed). number is_in_active s.views ≤ length l.entries) (sym h.2) r.placed_active,
-    subst (λ (l : Listed). number is_in_passive s.views ≤ length l.entries) (sym h.3) r.placed_passive,
+    subst (λ (l : Listed). Matched IsActiveEntryOf l.entries s.views) (sym h.2) r.active_match,
+    subst (λ (l : Listed). Matched IsPassiveEntryOf l.entries s.views) (sym h.3) r.passive_match,
   )
 
   pub empty : IsEmpty s → AreListsHome s → (lists : S) × Lie s lists × LosesNoneEmpty (active_of lists) s.views

@@ -4,8 +4,8 @@ use mathlib.Core.Option.{some}
 use lib.ListN.{get_elem?}
 use Rattle.atomic_table.specs.Table.{State}
 use Rattle.words_base.specs.Sums.{weight, number, total}
-use Rattle.words_base.specs.Waiting.{SomeSeat, AreOf}
-use Rattle.words_cell.specs.Lists.{Listed, nobody}
+use Rattle.words_base.specs.Lists.{Listed, nobody}
+use Rattle.words_base.specs.Waiting.{SomeSeat, AreOf, Matched}
 use Rattle.words_cell.specs.declared.view.View.{View}
 
 abbrev pub first_view : View
@@ -14,12 +14,6 @@ first_view = record { makes = false; owes = false; owes_active = false; owes_pas
 -- Which seats have a flag, and how often each has filled the cell and emptied the full one.
 abbrev pub makes_of : View → Bool
 makes_of v = v.makes
-
-abbrev pub is_in_active : View → Bool
-is_in_active v = v.in_active
-
-abbrev pub is_in_passive : View → Bool
-is_in_passive v = v.in_passive
 
 abbrev pub has_lists_out : View → Bool
 has_lists_out v = v.has_lists
@@ -55,10 +49,6 @@ IsFreshActive n v = (v.fresh ≡ true) × IsActiveEntryOf n v
 abbrev pub IsFreshPassive : ℕ → View → Type 0
 IsFreshPassive n v = (v.fresh ≡ true) × IsPassiveEntryOf n v
 
--- Each entry of both lists, notified or not, is of a seat that stands in its list.
-abbrev pub AllStand : Listed → Listed → List View → Type 0
-AllStand active passive views = AreOf IsActiveEntryOf active.entries views × AreOf IsPassiveEntryOf passive.entries views
-
 -- No wake-up is lost of an empty cell: one that would make is notified, or a seat owes, or each that waits is fresh.
 abbrev pub LosesNoneEmpty : Listed → List View → Type 0
 LosesNoneEmpty active views = (0 < active.notified) ⊎ (SomeSeat (λ v. Owes v ⊎ OwesActive v) views ⊎ AreOf IsFreshActive active.waiting views)
@@ -86,17 +76,16 @@ abbrev pub SaysEmpty : ℕ → Type 0
 SaysEmpty word = word % 8 < 4
 
 -- So many seats have the right to make as the cell's word says. The lists are known: both lie in the slot 0, or a seat has them out, which knows
--- them as they were when it took them out. Each of their entries is of a seat that stands in its list, and no more seats stand in a list than it has
--- entries.
+-- them as they were when it took them out. Each entry of a list, notified or not, is of a seat that stands in it, each seat that stands there has its
+-- entry in it, and no two seats have one.
 pub record Ruled {S : Type 0} (active_of passive_of : S → Listed) (start : Bool) (s : State S View) : Type 0 where
   pub two_words : 1 < length s.words
   pub cell : IsCell start s.words s.views
   pub list_word : IsListWord s.words s.views
   pub active : Listed
   pub passive : Listed
-  pub standing : AllStand active passive s.views
-  pub placed_active : number is_in_active s.views ≤ length active.entries
-  pub placed_passive : number is_in_passive s.views ≤ length passive.entries
+  pub active_match : Matched IsActiveEntryOf active.entries s.views
+  pub passive_match : Matched IsPassiveEntryOf passive.entries s.views
   pub empty : slice_index s.words 0 ≡ 0 → LosesNoneEmpty active s.views
   pub filled : slice_index s.words 0 ≡ 2 → LosesNoneFull active passive s.views
   pub unlisted : SaysEmpty (slice_index s.words 1) → (active.waiting ≡ []) × (passive.waiting ≡ [])

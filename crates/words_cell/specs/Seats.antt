@@ -1,6 +1,6 @@
 -- What each step makes of a seat's view.
 use Rattle.std.specs.Prelude.{ℕ, ◌+◌, ◌&&◌, not, true, false}
-use Rattle.words_cell.specs.Lists.{Listed, nobody}
+use Rattle.words_base.specs.Lists.{Listed, nobody}
 use Rattle.words_cell.specs.declared.view.View.{View}
 
 -- A look found this, and not a full cell.

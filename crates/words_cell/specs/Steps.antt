@@ -1,8 +1,7 @@
 -- What steps tell, and what a seat has that has the lists out.
-use Rattle.std.specs.Prelude.{◌≡◌, ◌≢◌, ℕ, ◌+◌, ◌%◌, ◌<◌, ◌≤◌, ◌⊎◌, Bool, true, false, [], ◌∷◌, ◌++◌, length}
+use Rattle.std.specs.Prelude.{◌≡◌, ◌≢◌, ℕ, ◌%◌, ◌<◌, ◌≤◌, Bool, true, false, [], ◌∷◌}
 use Rattle.atomic_table.specs.Table.{Me, rest}
-use Rattle.words_base.specs.Waiting.{NoneWaits, Fewer, JoinedBy, LeftBy, StaysTold}
-use Rattle.words_cell.specs.Lists.{Listed}
+use Rattle.words_base.specs.Lists.{Listed, Stays, Pays, PaysAll, Joins, Leaves, GoesOn}
 use Rattle.words_cell.specs.Rule.{SaysEmpty}
 use Rattle.words_cell.specs.Seats.{saw_of, saw_full_of, claimed_of, missed_of, late_of, taken_by, having_found, eased_of, listing_of}
 use Rattle.words_cell.specs.declared.view.View.{View}
@@ -41,34 +40,10 @@ module _ {S : Type 0} (active_of passive_of : S → Listed) where
   abbrev pub IsHeld : Me S View → Type 0
   IsHeld m = (lists : S) × (m.0.has_lists ≡ true) × (m.0.active ≡ active_of lists) × (m.0.passive ≡ passive_of lists) × (m.1 ≡ (0, lists) ∷ rest m.1)
 
--- The same entries stand in the list, and none waits that didn't before.
-abbrev pub KeepsEntries : Listed → Listed → Type 0
-KeepsEntries old new = (new.entries ≡ old.entries) × Fewer old.waiting new.waiting
-
--- The same entries stand in it, and all are notified.
-abbrev pub AllTold : Listed → Listed → Type 0
-AllTold old new = (new.entries ≡ old.entries) × NoneWaits new.waiting
-
--- The entry of this number has joined at the back.
-abbrev pub HasJoined : ℕ → Listed → Listed → Type 0
-HasJoined k old new = (new.entries ≡ old.entries ++ k ∷ []) × JoinedBy k old.waiting new.waiting
-
--- No entry of this number stands in it any more, notified or not.
-abbrev pub HasLeft : ℕ → Listed → Listed → Type 0
-HasLeft k old new = LeftBy k old.entries new.entries × LeftBy k old.waiting new.waiting
-
--- It loses one entry at most.
-abbrev pub LosesOne : Listed → Listed → Type 0
-LosesOne old new = length old.entries ≤ length new.entries + 1
-
--- Both hold of a list in which a seat stands; one in which it doesn't keeps its entries.
-abbrev pub LeftIf : Bool → ℕ → Listed → Listed → Type 0
-LeftIf true k old new = HasLeft k old new × LosesOne old new
-LeftIf false k old new = KeepsEntries old new
-
--- If one was notified, one is, or nobody waits.
-abbrev pub KeepsTold : Listed → Listed → Type 0
-KeepsTold old new = StaysTold old.notified new.waiting new.notified
+-- The entry of a seat that stands in the list has left it so; where it doesn't stand in it, the list stays.
+abbrev pub LeftIf : Bool → (Listed → Listed → Type 0) → Listed → Listed → Type 0
+LeftIf true Left old new = Left old new
+LeftIf false Left old new = Stays old new
 
 -- The lists that are out with a seat may be given back with this word.
 module _ {S : Type 0} (active_of passive_of : S → Listed) (m : Me S View) (n : ℕ) where
@@ -78,32 +53,32 @@ module _ {S : Type 0} (active_of passive_of : S → Listed) (m : Me S View) (n :
 
   -- One has joined those that would make.
   abbrev pub CanJoinActive : ℕ → Type 0
-  CanJoinActive k = (lists : S) × Out lists × HasJoined k m.0.active (active_of lists) × KeepsEntries m.0.passive (passive_of lists) × (m.0.active.notified ≤ (active_of lists).notified)
+  CanJoinActive k = (lists : S) × Out lists × Joins k m.0.active (active_of lists) × Stays m.0.passive (passive_of lists)
 
   -- One has joined those that wait.
   abbrev pub CanJoinPassive : ℕ → Type 0
-  CanJoinPassive k = (lists : S) × Out lists × KeepsEntries m.0.active (active_of lists) × HasJoined k m.0.passive (passive_of lists) × (m.0.active.notified ≤ (active_of lists).notified)
+  CanJoinPassive k = (lists : S) × Out lists × Stays m.0.active (active_of lists) × Joins k m.0.passive (passive_of lists)
 
   -- The seat's entry was notified, and has left those that would make.
   abbrev pub CanHear : Type 0
-  CanHear = (lists : S) × Out lists × HasLeft m.0.entry m.0.active (active_of lists) × LosesOne m.0.active (active_of lists) × KeepsEntries m.0.passive (passive_of lists)
+  CanHear = (lists : S) × Out lists × Leaves m.0.entry m.0.active (active_of lists) × Stays m.0.passive (passive_of lists)
 
-  -- The seat's entry has left the list in which it stood: what it was notified of has gone on.
+  -- The seat's entry has left the list in which it stood: of those that would make, what it was notified of has gone on.
   abbrev pub CanLeave : Type 0
-  CanLeave = (lists : S) × Out lists × LeftIf m.0.in_active m.0.entry m.0.active (active_of lists) × LeftIf m.0.in_passive m.0.entry m.0.passive (passive_of lists) × KeepsTold m.0.active (active_of lists)
+  CanLeave = (lists : S) × Out lists × LeftIf m.0.in_active (GoesOn m.0.entry) m.0.active (active_of lists) × LeftIf m.0.in_passive (Leaves m.0.entry) m.0.passive (passive_of lists)
 
   -- One that would make is notified.
   abbrev pub CanPay : Type 0
-  CanPay = (lists : S) × Out lists × KeepsEntries m.0.active (active_of lists) × KeepsEntries m.0.passive (passive_of lists) × ((0 < (active_of lists).notified) ⊎ NoneWaits (active_of lists).waiting)
+  CanPay = (lists : S) × Out lists × Pays m.0.active (active_of lists) × Stays m.0.passive (passive_of lists)
 
   -- All that would make are.
   abbrev pub CanPayActive : Type 0
-  CanPayActive = (lists : S) × Out lists × AllTold m.0.active (active_of lists) × KeepsEntries m.0.passive (passive_of lists)
+  CanPayActive = (lists : S) × Out lists × PaysAll m.0.active (active_of lists) × Stays m.0.passive (passive_of lists)
 
   -- All that wait are.
   abbrev pub CanPayPassive : Type 0
-  CanPayPassive = (lists : S) × Out lists × KeepsEntries m.0.active (active_of lists) × AllTold m.0.passive (passive_of lists) × KeepsTold m.0.active (active_of lists)
+  CanPayPassive = (lists : S) × Out lists × Stays m.0.active (active_of lists) × PaysAll m.0.passive (passive_of lists)
 
-  -- The same entries stand in both lists, and none waits that didn't before.
+  -- Both lists stay.
   abbrev pub CanStay : Type 0
-  CanStay = (lists : S) × Out lists × KeepsEntries m.0.active (active_of lists) × KeepsEntries m.0.passive (passive_of lists) × KeepsTold m.0.active (active_of lists)
+  CanStay = (lists : S) × Out lists × Stays m.0.active (active_of lists) × Stays m.0.passive (passive_of lists)

@@ -1,7 +1,7 @@
 //! What a seat knows of itself.
 
 ghost use Rattle.std.specs.Prelude.{ℕ};
-ghost use Rattle.words_cell.specs.Lists.{Listed, listed_coded};
+ghost use Rattle.words_base.specs.Lists.{Listed, listed_coded};
 
 use std::marker::Model;
 
