@@ -1,18 +1,14 @@
 -- What lies in the slot: a list.
-use Rattle.std.specs.Prelude.{◌≡◌, ℕ, ◌%◌, List, []}
-use Rattle.lock_queue.specs.Entries.{waiting_in, numbers_in}
-use Rattle.lock_queue.specs.Queues.{entries_of}
+use Rattle.std.specs.Prelude.{◌≡◌, ℕ, ◌%◌, []}
+use Rattle.words_base.specs.Lists.{Listed}
+use Rattle.lock_queue.specs.Queues.{listed_in}
 use Rattle.words_barrier.specs.Rule.{SaysEmpty}
 use Rattle.barrier_core.specs.declared.list.Entries.{Entries}
 
--- who waits
-abbrev pub waiting_of : Entries → List ℕ
-waiting_of list = waiting_in (entries_of list.queue)
-
--- who stands in it, notified or not
-abbrev pub numbers_of : Entries → List ℕ
-numbers_of list = numbers_in (entries_of list.queue)
+-- what the rule sees of it
+abbrev pub listed_of : Entries → Listed
+listed_of list = listed_in list.queue
 
 -- a word that may be written as the list is given back
 abbrev pub Says : Entries → ℕ → Type 0
-Says list n = (n % 4 ≡ 0) × (SaysEmpty n → waiting_of list ≡ [])
+Says list n = (n % 4 ≡ 0) × (SaysEmpty n → (listed_of list).waiting ≡ [])

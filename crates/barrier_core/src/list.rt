@@ -23,12 +23,9 @@ impl Drop for Entries {
 }
 
 impl Content for Entries {
-    ghost use Rattle.lock_queue.specs.Entries.{waiting_in, numbers_in};
-    ghost use Rattle.lock_queue.specs.Queues.{entries_of};
+    ghost use Rattle.lock_queue.specs.Queues.{listed_in};
 
-    ghost waiting = { λ list. waiting_in (entries_of list.queue) };
-
-    ghost entries = { λ list. numbers_in (entries_of list.queue) };
+    ghost listed = { λ list. listed_in list.queue };
 }
 
 impl Entries {

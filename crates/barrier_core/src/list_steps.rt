@@ -4,7 +4,7 @@ ghost use Rattle.std.specs.Prelude.{◌≡◌, true, false, ⊤, IfNone, IfOk, I
 ghost use Rattle.futures.specs.Task.{Keeps};
 ghost use Rattle.atomic_table.specs.Table.{rest};
 ghost use Rattle.lock_queue.specs.Asking.{ByHeard};
-ghost use Rattle.barrier_core.specs.Lists.{waiting_of, numbers_of};
+ghost use Rattle.barrier_core.specs.Lists.{listed_of};
 ghost use Rattle.lock_queue.specs.Receipts.{IsReceipt};
 ghost use Rattle.lock_queue.specs.declared.heard.Heard.TheVariants as heard_as;
 ghost use Rattle.words_barrier.specs.Seats.{gone_of, back};
@@ -34,11 +34,11 @@ pub(crate) fn join_in(
     found: u64,
 ) -> (Result<EntryId, Memory>, u64)
     requires table { inner.old.table_id ≡ shared.now.table_id }
-    requires held { IsHeld waiting_of numbers_of inner.old.me }
+    requires held { IsHeld listed_of inner.old.me }
     ensures table { inner.new.table_id ≡ inner.old.table_id }
     ensures view { inner.new.me.0 ≡ inner.old.me.0 }
     ensures others { rest inner.new.me.1 ≡ rest inner.old.me.1 }
-    ensures ready { MatchResult result.0 (λ id. CanJoin waiting_of numbers_of inner.new.me result.1 id.number) (λ _. CanStay waiting_of numbers_of inner.new.me result.1) }
+    ensures ready { MatchResult result.0 (λ id. CanJoin listed_of inner.new.me result.1 id.number) (λ _. CanStay listed_of inner.new.me result.1) }
 {
     let list = inner.slot_mut(shared, LIST_SLOT);
     let joined = list.queue.join(alloc);
@@ -55,11 +55,11 @@ pub(crate) fn join_waking_in(
     found: u64,
 ) -> (Result<(EntryId, Whose), Memory>, u64)
     requires table { inner.old.table_id ≡ shared.now.table_id }
-    requires held { IsHeld waiting_of numbers_of inner.old.me }
+    requires held { IsHeld listed_of inner.old.me }
     ensures table { inner.new.table_id ≡ inner.old.table_id }
     ensures view { inner.new.me.0 ≡ inner.old.me.0 }
     ensures others { rest inner.new.me.1 ≡ rest inner.old.me.1 }
-    ensures ready { MatchResult result.0 (λ joined. CanJoin waiting_of numbers_of inner.new.me result.1 joined.0.number) (λ _. CanStay waiting_of numbers_of inner.new.me result.1) }
+    ensures ready { MatchResult result.0 (λ joined. CanJoin listed_of inner.new.me result.1 joined.0.number) (λ _. CanStay listed_of inner.new.me result.1) }
     ensures keeps { IfOk result.0 (λ joined. IsReceipt source.now.id cx.new joined.1) }
     ensures kept { Keeps cx.old cx.new }
 {
@@ -76,11 +76,11 @@ pub(crate) fn notify_all_in(
     found: u64,
 ) -> (AllDue, u64)
     requires table { inner.old.table_id ≡ shared.now.table_id }
-    requires held { IsHeld waiting_of numbers_of inner.old.me }
+    requires held { IsHeld listed_of inner.old.me }
     ensures table { inner.new.table_id ≡ inner.old.table_id }
     ensures view { inner.new.me.0 ≡ inner.old.me.0 }
     ensures others { rest inner.new.me.1 ≡ rest inner.old.me.1 }
-    ensures ready { CanPay waiting_of numbers_of inner.new.me result.1 }
+    ensures ready { CanPay listed_of inner.new.me result.1 }
 {
     let list = inner.slot_mut(shared, LIST_SLOT);
     let due = list.queue.notify_each(alloc);
@@ -90,11 +90,11 @@ pub(crate) fn notify_all_in(
 
 pub(crate) fn next_due_in(shared: &Listing, inner: &mut Lister, found: u64) -> (Due, u64)
     requires table { inner.old.table_id ≡ shared.now.table_id }
-    requires held { IsHeld waiting_of numbers_of inner.old.me }
+    requires held { IsHeld listed_of inner.old.me }
     ensures table { inner.new.table_id ≡ inner.old.table_id }
     ensures view { inner.new.me.0 ≡ inner.old.me.0 }
     ensures others { rest inner.new.me.1 ≡ rest inner.old.me.1 }
-    ensures ready { CanStay waiting_of numbers_of inner.new.me result.1 }
+    ensures ready { CanStay listed_of inner.new.me result.1 }
 {
     let list = inner.slot_mut(shared, LIST_SLOT);
     let due = Due::of(list.queue.next_due());
@@ -109,12 +109,12 @@ pub(crate) fn leave_in(
     found: u64,
 ) -> (Option<Waker>, Due, u64)
     requires table { inner.old.table_id ≡ shared.now.table_id }
-    requires held { IsHeld waiting_of numbers_of inner.old.me }
+    requires held { IsHeld listed_of inner.old.me }
     requires entry { inner.old.me.0.entry ≡ id.number }
     ensures table { inner.new.table_id ≡ inner.old.table_id }
     ensures view { inner.new.me.0 ≡ inner.old.me.0 }
     ensures others { rest inner.new.me.1 ≡ rest inner.old.me.1 }
-    ensures ready { CanLeave waiting_of numbers_of inner.new.me result.2 }
+    ensures ready { CanLeave listed_of inner.new.me result.2 }
 {
     let list = inner.slot_mut(shared, LIST_SLOT);
     let (kept, due) = list.queue.leave(id);
@@ -132,12 +132,12 @@ pub(crate) fn ask_in(
     found: u64,
 ) -> (Heard<Whose>, u64)
     requires table { inner.old.table_id ≡ shared.now.table_id }
-    requires held { IsHeld waiting_of numbers_of inner.old.me }
+    requires held { IsHeld listed_of inner.old.me }
     requires entry { inner.old.me.0.entry ≡ id.number }
     ensures table { inner.new.table_id ≡ inner.old.table_id }
     ensures view { inner.new.me.0 ≡ inner.old.me.0 }
     ensures others { rest inner.new.me.1 ≡ rest inner.old.me.1 }
-    ensures ready { ByHeard result.0 (CanLeave waiting_of numbers_of inner.new.me result.1) (λ _. CanStay waiting_of numbers_of inner.new.me result.1) }
+    ensures ready { ByHeard result.0 (CanLeave listed_of inner.new.me result.1) (λ _. CanStay listed_of inner.new.me result.1) }
     ensures waits { ByHeard result.0 (cx.new ≡ cx.old) (IsReceipt source.now.id cx.new) }
     ensures kept { Keeps cx.old cx.new }
 {
@@ -154,12 +154,12 @@ pub(crate) fn ask_again_in(
     found: u64,
 ) -> (Heard<()>, u64)
     requires table { inner.old.table_id ≡ shared.now.table_id }
-    requires held { IsHeld waiting_of numbers_of inner.old.me }
+    requires held { IsHeld listed_of inner.old.me }
     requires entry { inner.old.me.0.entry ≡ id.number }
     ensures table { inner.new.table_id ≡ inner.old.table_id }
     ensures view { inner.new.me.0 ≡ inner.old.me.0 }
     ensures others { rest inner.new.me.1 ≡ rest inner.old.me.1 }
-    ensures ready { ByHeard result.0 (CanLeave waiting_of numbers_of inner.new.me result.1) (λ _. CanStay waiting_of numbers_of inner.new.me result.1) }
+    ensures ready { ByHeard result.0 (CanLeave listed_of inner.new.me result.1) (λ _. CanStay listed_of inner.new.me result.1) }
 {
     let list = inner.slot_mut(shared, LIST_SLOT);
     let heard = list.queue.ask_again(id);
@@ -174,11 +174,11 @@ pub(crate) fn entry_in(
     found: u64,
 ) -> (Option<(EntryId, Mark)>, u64)
     requires table { inner.old.table_id ≡ shared.now.table_id }
-    requires held { IsHeld waiting_of numbers_of inner.old.me }
+    requires held { IsHeld listed_of inner.old.me }
     ensures table { inner.new.table_id ≡ inner.old.table_id }
     ensures view { inner.new.me.0 ≡ inner.old.me.0 }
     ensures others { rest inner.new.me.1 ≡ rest inner.old.me.1 }
-    ensures ready { CanStay waiting_of numbers_of inner.new.me result.1 }
+    ensures ready { CanStay listed_of inner.new.me result.1 }
 {
     let list = inner.slot_mut(shared, LIST_SLOT);
     let entry = list.queue.entry(index);
@@ -194,7 +194,7 @@ pub(crate) fn give_asked<K>(
     word: u64,
 ) -> Option<K>
     requires table { (inner.old.table_id ≡ shared.now.table_id) × (shared.now.table_id.words ≡ 2) × (shared.now.table_id.slots ≡ 1) }
-    requires list { ByHeard heard (CanLeave waiting_of numbers_of inner.old.me word) (λ _. CanStay waiting_of numbers_of inner.old.me word) }
+    requires list { ByHeard heard (CanLeave listed_of inner.old.me word) (λ _. CanStay listed_of inner.old.me word) }
     requires stands { inner.old.me.0.listed ≡ true }
     ensures table { inner.new.table_id ≡ inner.old.table_id }
     ensures told { IfNone result ((inner.new.me ≡ (gone_of inner.old.me.0, rest inner.old.me.1)) × ByHeard heard ⊤ (λ _. ⊥)) }

@@ -99,10 +99,11 @@ impl Model for Seat {
 
     ghost use Rattle.std.specs.Prelude.{◌≡◌, false, []};
     ghost use Rattle.barrier_core.specs.Barriers.{seated};
+    ghost use Rattle.words_base.specs.Lists.{nobody};
 
     ghost view = { λ s. seated s.inner.table_id s.inner.me.0 s.course };
 
-    ghost invariant = { λ s. (s.inner.me.1 ≡ []) × (s.inner.me.0.has_list ≡ false) × (s.inner.me.0.waiting ≡ []) × (s.inner.me.0.entries ≡ []) };
+    ghost invariant = { λ s. (s.inner.me.1 ≡ []) × (s.inner.me.0.has_list ≡ false) × (s.inner.me.0.list ≡ nobody) };
 }
 
 impl Seat {

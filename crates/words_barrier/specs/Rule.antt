@@ -4,11 +4,12 @@ use mathlib.Core.Option.{some}
 use lib.ListN.{get_elem?}
 use Rattle.atomic_table.specs.Table.{State}
 use Rattle.words_base.specs.Sums.{number}
+use Rattle.words_base.specs.Lists.{Listed, nobody}
 use Rattle.words_base.specs.Waiting.{SomeSeat, AreOf, Matched}
 use Rattle.words_barrier.specs.declared.view.View.{View}
 
 abbrev pub first_view : View
-first_view = record { owes = false; listed = false; fresh = false; counted = false; led = false; has_list = false; entry = 0; found = 0; generation = 0; waiting = []; entries = [] }
+first_view = record { owes = false; listed = false; fresh = false; counted = false; led = false; has_list = false; entry = 0; found = 0; generation = 0; list = nobody }
 
 abbrev pub has_list_out : View → Bool
 has_list_out v = v.has_list
@@ -39,16 +40,14 @@ IsListWord words views = (number has_list_out views ≤ 1) × (slice_index words
 abbrev pub SaysEmpty : ℕ → Type 0
 SaysEmpty word = word % 8 < 4
 
--- Word 0 is how many generations are finished. The list has these entries, of which `waiting` are not notified: it lies in the slot 0, or a seat has
--- it out, which knows both as they were when it took the list out. Each entry, notified or not, is of a seat that stands in the list, each seat that
--- stands there has its entry in it, and no two have one.
-pub record Ruled {S : Type 0} (waiting_of entries_of : S → List ℕ) (s : State S View) : Type 0 where
+-- Word 0 is how many generations are finished. The list is known: it lies in the slot 0, or a seat has it out, which knows it as it was when it took
+-- it out. Each entry, notified or not, is of a seat that stands in the list, each seat that stands there has its entry in it, and no two have one.
+pub record Ruled {S : Type 0} (listed_of : S → Listed) (s : State S View) : Type 0 where
   pub two_words : 1 < length s.words
   pub list_word : IsListWord s.words s.views
-  pub waiting : List ℕ
-  pub entries : List ℕ
-  pub wakes : LosesNone (slice_index s.words 0) waiting s.views
-  pub matched : Matched IsEntryOf entries s.views
-  pub unlisted : SaysEmpty (slice_index s.words 1) → waiting ≡ []
-  pub home : number has_list_out s.views ≡ 0 → (list : S) × (get_elem? s.homes 0 ≡ some (some list)) × (waiting_of list ≡ waiting) × (entries_of list ≡ entries)
-  pub out : (i : ℕ) (v : View) → get_elem? s.views i ≡ some v → v.has_list ≡ true → (v.waiting ≡ waiting) × (v.entries ≡ entries)
+  pub list : Listed
+  pub wakes : LosesNone (slice_index s.words 0) list.waiting s.views
+  pub matched : Matched IsEntryOf list.entries s.views
+  pub unlisted : SaysEmpty (slice_index s.words 1) → list.waiting ≡ []
+  pub home : number has_list_out s.views ≡ 0 → (queue : S) × (get_elem? s.homes 0 ≡ some (some queue)) × (listed_of queue ≡ list)
+  pub out : (i : ℕ) (v : View) → get_elem? s.views i ≡ some v → v.has_list ≡ true → v.list ≡ list

@@ -1,5 +1,6 @@
 -- What each step makes of a seat's view.
-use Rattle.std.specs.Prelude.{ℕ, ◌+◌, true, false, List, []}
+use Rattle.std.specs.Prelude.{ℕ, ◌+◌, true, false}
+use Rattle.words_base.specs.Lists.{Listed, nobody}
 use Rattle.words_barrier.specs.declared.view.View.{View}
 
 -- A look found so many generations finished.
@@ -18,18 +19,18 @@ finished_by v = record v { owes = true; led = true; found = v.found + 1 }
 abbrev pub eased_of : View → View
 eased_of v = record v { owes = false }
 
-abbrev pub listing_of : List ℕ → List ℕ → View → View
-listing_of waiting entries v = record v { has_list = true; waiting = waiting; entries = entries }
+abbrev pub listing_of : Listed → View → View
+listing_of list v = record v { has_list = true; list = list }
 
 -- It has given the list back.
 abbrev pub back : View → View
-back v = record v { has_list = false; waiting = []; entries = [] }
+back v = record v { has_list = false; list = nobody }
 
 abbrev pub joined_of : ℕ → View → View
-joined_of n v = record v { listed = true; fresh = true; entry = n; has_list = false; waiting = []; entries = [] }
+joined_of n v = record v { listed = true; fresh = true; entry = n; has_list = false; list = nobody }
 
 abbrev pub gone_of : View → View
-gone_of v = record v { listed = false; fresh = false; has_list = false; waiting = []; entries = [] }
+gone_of v = record v { listed = false; fresh = false; has_list = false; list = nobody }
 
 abbrev pub paid_of : View → View
-paid_of v = record v { owes = false; has_list = false; waiting = []; entries = [] }
+paid_of v = record v { owes = false; has_list = false; list = nobody }

@@ -17,7 +17,7 @@ use crate::rule::Content;
 /// the generation that is under way. Each entry, notified or not, is of a seat that stands in the list, each seat that stands there has
 /// its entry in it, and no two have one. The call does nothing: its clauses are the law.
 pub fn no_lost_wakeup<S: Content>()
-    ensures running { (s : State S View) → Ruled S.waiting S.entries s → IsListHome s → (list : S) × Lies s list × LosesNone (finished s) (S.waiting list) s.views }
-    ensures at_rest { (s : State S View) → Ruled S.waiting S.entries s → IsAtRest s → (list : S) × Lies s list × AreOf (IsOfThis s) (S.waiting list) s.views }
-    ensures standing { (s : State S View) → Ruled S.waiting S.entries s → IsListHome s → (list : S) × Lies s list × Matched IsEntryOf (S.entries list) s.views }
+    ensures running { (s : State S View) → Ruled S.listed s → IsListHome s → (list : S) × Lies s list × LosesNone (finished s) (S.listed list).waiting s.views }
+    ensures at_rest { (s : State S View) → Ruled S.listed s → IsAtRest s → (list : S) × Lies s list × AreOf (IsOfThis s) (S.listed list).waiting s.views }
+    ensures standing { (s : State S View) → Ruled S.listed s → IsListHome s → (list : S) × Lies s list × Matched IsEntryOf (S.listed list).entries s.views }
 {}

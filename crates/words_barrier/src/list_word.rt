@@ -19,7 +19,7 @@ pub fn take_out<S: Content, R: Wait>(
 ) -> u64
     requires table { (inner.old.table_id ≡ shared.now.table_id) × (shared.now.table_id.words ≡ 2) }
     ensures table { inner.new.table_id ≡ inner.old.table_id }
-    ensures held { IsHeld S.waiting S.entries inner.new.me }
+    ensures held { IsHeld S.listed inner.new.me }
     ensures same { IsSame inner.old.me.0 inner.new.me.0 }
     ensures others { rest inner.new.me.1 ≡ inner.old.me.1 }
 {
@@ -40,7 +40,7 @@ fn take_out_asleep<S: Content, R: Wait>(
 ) -> u64
     requires table { (inner.old.table_id ≡ shared.now.table_id) × (shared.now.table_id.words ≡ 2) }
     ensures table { inner.new.table_id ≡ inner.old.table_id }
-    ensures held { IsHeld S.waiting S.entries inner.new.me }
+    ensures held { IsHeld S.listed inner.new.me }
     ensures same { IsSame inner.old.me.0 inner.new.me.0 }
     ensures others { rest inner.new.me.1 ≡ inner.old.me.1 }
 {

@@ -46,7 +46,7 @@ pub(crate) struct Grabs;
 impl<S: Content> Play<S, View> for Grabs {
     ghost use Rattle.words_barrier.specs.Steps.{Grabbed};
 
-    ghost then = { λ _ m r m'. Grabbed S.waiting S.entries m r m' };
+    ghost then = { λ _ m r m'. Grabbed S.listed m r m' };
 }
 
 // The step that gives the list back, where its entry stands last of those that wait.
@@ -58,7 +58,7 @@ impl<S: Content> Play<S, View> for Joins {
     ghost use Rattle.words_barrier.specs.Seats.{joined_of};
     ghost use Rattle.words_base.specs.Waiting.{last_of};
 
-    ghost then = { λ _ m _ m'. (list : S) × (m.1 ≡ (0, list) ∷ rest m.1) × (m' ≡ (joined_of (last_of (S.entries list)) m.0, rest m.1)) };
+    ghost then = { λ _ m _ m'. (list : S) × (m.1 ≡ (0, list) ∷ rest m.1) × (m' ≡ (joined_of (last_of (S.listed list).entries) m.0, rest m.1)) };
 }
 
 // The same, which its entry has left.

@@ -84,7 +84,7 @@ pub fn peek<S: Content>(shared: &Ruled<S>, inner: &mut TableSeat<S, View>) -> u6
 pub fn grab<S: Content>(shared: &Ruled<S>, inner: &mut TableSeat<S, View>) -> u64
     requires table { (inner.old.table_id ≡ shared.now.table_id) × (shared.now.table_id.words ≡ 2) }
     ensures table { inner.new.table_id ≡ inner.old.table_id }
-    ensures took { result % 2 ≡ 0 → IsHeld S.waiting S.entries inner.new.me × IsSame inner.old.me.0 inner.new.me.0 × (rest inner.new.me.1 ≡ inner.old.me.1) }
+    ensures took { result % 2 ≡ 0 → IsHeld S.listed inner.new.me × IsSame inner.old.me.0 inner.new.me.0 × (rest inner.new.me.1 ≡ inner.old.me.1) }
     ensures not { result % 2 ≢ 0 → inner.new.me ≡ inner.old.me }
 {
     shared.fetch_or::<Grabs>(inner, LIST, OUT)
@@ -95,7 +95,7 @@ pub fn grab<S: Content>(shared: &Ruled<S>, inner: &mut TableSeat<S, View>) -> u6
 pub fn grab_asleep<S: Content>(shared: &Ruled<S>, inner: &mut TableSeat<S, View>) -> u64
     requires table { (inner.old.table_id ≡ shared.now.table_id) × (shared.now.table_id.words ≡ 2) }
     ensures table { inner.new.table_id ≡ inner.old.table_id }
-    ensures took { result % 2 ≡ 0 → IsHeld S.waiting S.entries inner.new.me × IsSame inner.old.me.0 inner.new.me.0 × (rest inner.new.me.1 ≡ inner.old.me.1) }
+    ensures took { result % 2 ≡ 0 → IsHeld S.listed inner.new.me × IsSame inner.old.me.0 inner.new.me.0 × (rest inner.new.me.1 ≡ inner.old.me.1) }
     ensures not { result % 2 ≢ 0 → inner.new.me ≡ inner.old.me }
 {
     shared.fetch_or::<Grabs>(inner, LIST, OUT_AND_ASLEEP)
@@ -110,7 +110,7 @@ pub fn give_joined<S: Content, N: Numbered>(
     entry: &N,
 ) -> u64
     requires table { (inner.old.table_id ≡ shared.now.table_id) × (shared.now.table_id.words ≡ 2) × (shared.now.table_id.slots ≡ 1) }
-    requires list { CanJoin S.waiting S.entries inner.old.me new (N.number entry.now) }
+    requires list { CanJoin S.listed inner.old.me new (N.number entry.now) }
     requires away { inner.old.me.0.listed ≡ false }
     ensures table { inner.new.table_id ≡ inner.old.table_id }
     ensures step { inner.new.me ≡ (joined_of (N.number entry.now) inner.old.me.0, rest inner.old.me.1) }
@@ -123,7 +123,7 @@ pub fn give_joined<S: Content, N: Numbered>(
 #[inline]
 pub fn give_gone<S: Content>(shared: &Ruled<S>, inner: &mut TableSeat<S, View>, new: u64) -> u64
     requires table { (inner.old.table_id ≡ shared.now.table_id) × (shared.now.table_id.words ≡ 2) × (shared.now.table_id.slots ≡ 1) }
-    requires list { CanLeave S.waiting S.entries inner.old.me new }
+    requires list { CanLeave S.listed inner.old.me new }
     requires stands { inner.old.me.0.listed ≡ true }
     ensures table { inner.new.table_id ≡ inner.old.table_id }
     ensures step { inner.new.me ≡ (gone_of inner.old.me.0, rest inner.old.me.1) }
@@ -135,7 +135,7 @@ pub fn give_gone<S: Content>(shared: &Ruled<S>, inner: &mut TableSeat<S, View>, 
 #[inline]
 pub fn give_paid<S: Content>(shared: &Ruled<S>, inner: &mut TableSeat<S, View>, new: u64) -> u64
     requires table { (inner.old.table_id ≡ shared.now.table_id) × (shared.now.table_id.words ≡ 2) × (shared.now.table_id.slots ≡ 1) }
-    requires list { CanPay S.waiting S.entries inner.old.me new }
+    requires list { CanPay S.listed inner.old.me new }
     ensures table { inner.new.table_id ≡ inner.old.table_id }
     ensures step { inner.new.me ≡ (paid_of inner.old.me.0, rest inner.old.me.1) }
 {
@@ -146,7 +146,7 @@ pub fn give_paid<S: Content>(shared: &Ruled<S>, inner: &mut TableSeat<S, View>, 
 #[inline]
 pub fn give_same<S: Content>(shared: &Ruled<S>, inner: &mut TableSeat<S, View>, new: u64) -> u64
     requires table { (inner.old.table_id ≡ shared.now.table_id) × (shared.now.table_id.words ≡ 2) × (shared.now.table_id.slots ≡ 1) }
-    requires list { CanStay S.waiting S.entries inner.old.me new }
+    requires list { CanStay S.listed inner.old.me new }
     ensures table { inner.new.table_id ≡ inner.old.table_id }
     ensures step { inner.new.me ≡ (back inner.old.me.0, rest inner.old.me.1) }
 {

@@ -1,7 +1,7 @@
 //! What a seat knows of itself.
 
-ghost use Rattle.std.specs.Prelude.{ℕ, List};
-ghost use Rattle.std.specs.Coded.{coded_list, coded_ℕ};
+ghost use Rattle.std.specs.Prelude.{ℕ};
+ghost use Rattle.words_base.specs.Lists.{Listed, listed_coded};
 
 use std::marker::Model;
 
@@ -25,10 +25,8 @@ pub struct View {
     pub ghost found: { ℕ },
     /// The generation that its arrival was counted in: how many were finished then.
     pub ghost generation: { ℕ },
-    /// Which entries were not notified when the seat took the list out.
-    pub ghost waiting: { List ℕ } by { coded_list coded_ℕ },
-    /// Which entries it had then.
-    pub ghost entries: { List ℕ } by { coded_list coded_ℕ },
+    /// What the list had when the seat took it out.
+    pub ghost list: { Listed } by { listed_coded },
 }
 
 impl Model for View {

@@ -3,4 +3,4 @@ use Rattle.words_barrier.proofs.Allowed.{given_paid}
 use Rattle.words_barrier.proofs.steps.give_paid.Goals as goal
 
 pub swap-requires : goal.swap-requires
-swap-requires g c = let t = c.requires.table.2 in (search rules, search rules, given_paid _ _ _ _ _ _ _ (omega (arith, t)) c.requires.list)
+swap-requires g c = let t = c.requires.table.2 in (search rules, search rules, given_paid _ _ _ _ _ _ (omega (arith, t)) c.requires.list)

@@ -3,4 +3,4 @@ use Rattle.words_barrier.proofs.Allowed.{given_same}
 use Rattle.words_barrier.proofs.steps.give_same.Goals as goal
 
 pub swap-requires : goal.swap-requires
-swap-requires g c = let t = c.requires.table.2 in (search rules, search rules, given_same _ _ _ _ _ _ _ (omega (arith, t)) c.requires.list)
+swap-requires g c = let t = c.requires.table.2 in (search rules, search rules, given_same _ _ _ _ _ _ (omega (arith, t)) c.requires.list)

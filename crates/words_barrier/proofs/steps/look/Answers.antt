@@ -3,4 +3,4 @@ use Rattle.words_barrier.proofs.Allowed.{looked}
 use Rattle.words_barrier.proofs.steps.look.Goals as goal
 
 pub load-requires : goal.load-requires
-load-requires g c = (search rules, search rules, looked _ _ _ _ _ _)
+load-requires g c = (search rules, search rules, looked _ _ _ _ _)
