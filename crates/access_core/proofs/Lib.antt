@@ -1,2 +1,1 @@
 pub mod Returning
-pub mod Queues

@@ -2,10 +2,10 @@
 
 ghost use Rattle.std.specs.Prelude.{◌≡◌, IfOk, OnErr};
 ghost use Rattle.futures.specs.Task.{Keeps};
-ghost use Rattle.words_access.specs.Lists.{nobody};
+ghost use Rattle.words_base.specs.Lists.{nobody, Stays, Pays, Joins, Leaves, GoesOn};
 ghost use Rattle.lock_queue.specs.Asking.{ByHeard};
 ghost use Rattle.lock_queue.specs.Receipts.{IsReceipt};
-ghost use Rattle.access_core.specs.Contents.{readers_of, writer_of, Says, IsKept, HasJoined, HasHeard, HasLeft, IsTold};
+ghost use Rattle.access_core.specs.Contents.{readers_of, writer_of, Says};
 
 use crate::watch::Side;
 use futures::task::{Context, Source, Waker};
@@ -36,7 +36,7 @@ impl Drop for Lists {
 }
 
 impl Content for Lists {
-    ghost use Rattle.access_core.specs.Contents.{listed_in};
+    ghost use Rattle.lock_queue.specs.Queues.{listed_in};
 
     ghost readers = { λ lists. listed_in lists.readers };
 
@@ -69,8 +69,8 @@ impl Lists {
     }
 
     pub(crate) fn join_readers(&mut self, alloc: Global) -> Result<EntryId, Memory>
-        ensures joined { IfOk result (λ id. HasJoined (readers_of self.old) (readers_of self.new) id.number) }
-        ensures refused { OnErr result (IsKept (readers_of self.old) (readers_of self.new)) }
+        ensures joined { IfOk result (λ id. Joins id.number (readers_of self.old) (readers_of self.new)) }
+        ensures refused { OnErr result (Stays (readers_of self.old) (readers_of self.new)) }
         ensures other { writer_of self.new ≡ writer_of self.old }
     {
         self.readers.join(alloc)
@@ -82,8 +82,8 @@ impl Lists {
         source: &Source,
         cx: &mut Context<'_>,
     ) -> Result<(EntryId, Whose), Memory>
-        ensures joined { IfOk result (λ joined. HasJoined (readers_of self.old) (readers_of self.new) joined.0.number) }
-        ensures refused { OnErr result (IsKept (readers_of self.old) (readers_of self.new)) }
+        ensures joined { IfOk result (λ joined. Joins joined.0.number (readers_of self.old) (readers_of self.new)) }
+        ensures refused { OnErr result (Stays (readers_of self.old) (readers_of self.new)) }
         ensures other { writer_of self.new ≡ writer_of self.old }
         ensures keeps { IfOk result (λ joined. IsReceipt source.now.id cx.new joined.1) }
         ensures kept { Keeps cx.old cx.new }
@@ -91,14 +91,13 @@ impl Lists {
         self.readers.join_waking(alloc, source, cx)
     }
 
-    #[tactic(auto, using(crate::proofs::Queues::shorter))]
     pub(crate) fn ask_readers(
         &mut self,
         id: EntryId,
         source: &Source,
         cx: &mut Context<'_>,
     ) -> Heard<Whose>
-        ensures asked { ByHeard result (HasHeard (readers_of self.old) (readers_of self.new) id.number) (λ _. IsKept (readers_of self.old) (readers_of self.new)) }
+        ensures asked { ByHeard result (Leaves id.number (readers_of self.old) (readers_of self.new)) (λ _. Stays (readers_of self.old) (readers_of self.new)) }
         ensures other { writer_of self.new ≡ writer_of self.old }
         ensures waits { ByHeard result (cx.new ≡ cx.old) (IsReceipt source.now.id cx.new) }
         ensures kept { Keeps cx.old cx.new }
@@ -106,32 +105,30 @@ impl Lists {
         self.readers.ask(id, source, cx)
     }
 
-    #[tactic(auto, using(crate::proofs::Queues::shorter))]
     pub(crate) fn ask_readers_again(&mut self, id: EntryId) -> Heard<()>
-        ensures asked { ByHeard result (HasHeard (readers_of self.old) (readers_of self.new) id.number) (λ _. IsKept (readers_of self.old) (readers_of self.new)) }
+        ensures asked { ByHeard result (Leaves id.number (readers_of self.old) (readers_of self.new)) (λ _. Stays (readers_of self.old) (readers_of self.new)) }
         ensures other { writer_of self.new ≡ writer_of self.old }
     {
         self.readers.ask_again(id)
     }
 
-    #[tactic(auto, using(crate::proofs::Queues::shorter))]
     pub(crate) fn leave_readers(&mut self, id: EntryId) -> (Option<Waker>, Due)
-        ensures left { HasLeft (readers_of self.old) (readers_of self.new) id.number }
+        ensures left { GoesOn id.number (readers_of self.old) (readers_of self.new) }
         ensures other { writer_of self.new ≡ writer_of self.old }
     {
         self.readers.leave(id)
     }
 
     pub(crate) fn notify_readers(&mut self) -> Due
-        ensures told { IsTold (readers_of self.old) (readers_of self.new) }
+        ensures told { Pays (readers_of self.old) (readers_of self.new) }
         ensures other { writer_of self.new ≡ writer_of self.old }
     {
         self.readers.notify()
     }
 
     pub(crate) fn join_writer(&mut self, alloc: Global) -> Result<EntryId, Memory>
-        ensures joined { IfOk result (λ id. HasJoined (writer_of self.old) (writer_of self.new) id.number) }
-        ensures refused { OnErr result (IsKept (writer_of self.old) (writer_of self.new)) }
+        ensures joined { IfOk result (λ id. Joins id.number (writer_of self.old) (writer_of self.new)) }
+        ensures refused { OnErr result (Stays (writer_of self.old) (writer_of self.new)) }
         ensures other { readers_of self.new ≡ readers_of self.old }
     {
         self.writer.join(alloc)
@@ -143,8 +140,8 @@ impl Lists {
         source: &Source,
         cx: &mut Context<'_>,
     ) -> Result<(EntryId, Whose), Memory>
-        ensures joined { IfOk result (λ joined. HasJoined (writer_of self.old) (writer_of self.new) joined.0.number) }
-        ensures refused { OnErr result (IsKept (writer_of self.old) (writer_of self.new)) }
+        ensures joined { IfOk result (λ joined. Joins joined.0.number (writer_of self.old) (writer_of self.new)) }
+        ensures refused { OnErr result (Stays (writer_of self.old) (writer_of self.new)) }
         ensures other { readers_of self.new ≡ readers_of self.old }
         ensures keeps { IfOk result (λ joined. IsReceipt source.now.id cx.new joined.1) }
         ensures kept { Keeps cx.old cx.new }
@@ -152,14 +149,13 @@ impl Lists {
         self.writer.join_waking(alloc, source, cx)
     }
 
-    #[tactic(auto, using(crate::proofs::Queues::shorter))]
     pub(crate) fn ask_writer(
         &mut self,
         id: EntryId,
         source: &Source,
         cx: &mut Context<'_>,
     ) -> Heard<Whose>
-        ensures asked { ByHeard result (HasHeard (writer_of self.old) (writer_of self.new) id.number) (λ _. IsKept (writer_of self.old) (writer_of self.new)) }
+        ensures asked { ByHeard result (Leaves id.number (writer_of self.old) (writer_of self.new)) (λ _. Stays (writer_of self.old) (writer_of self.new)) }
         ensures other { readers_of self.new ≡ readers_of self.old }
         ensures waits { ByHeard result (cx.new ≡ cx.old) (IsReceipt source.now.id cx.new) }
         ensures kept { Keeps cx.old cx.new }
@@ -167,24 +163,22 @@ impl Lists {
         self.writer.ask(id, source, cx)
     }
 
-    #[tactic(auto, using(crate::proofs::Queues::shorter))]
     pub(crate) fn ask_writer_again(&mut self, id: EntryId) -> Heard<()>
-        ensures asked { ByHeard result (HasHeard (writer_of self.old) (writer_of self.new) id.number) (λ _. IsKept (writer_of self.old) (writer_of self.new)) }
+        ensures asked { ByHeard result (Leaves id.number (writer_of self.old) (writer_of self.new)) (λ _. Stays (writer_of self.old) (writer_of self.new)) }
         ensures other { readers_of self.new ≡ readers_of self.old }
     {
         self.writer.ask_again(id)
     }
 
-    #[tactic(auto, using(crate::proofs::Queues::shorter))]
     pub(crate) fn leave_writer(&mut self, id: EntryId) -> (Option<Waker>, Due)
-        ensures left { HasLeft (writer_of self.old) (writer_of self.new) id.number }
+        ensures left { GoesOn id.number (writer_of self.old) (writer_of self.new) }
         ensures other { readers_of self.new ≡ readers_of self.old }
     {
         self.writer.leave(id)
     }
 
     pub(crate) fn notify_writer(&mut self) -> Due
-        ensures told { IsTold (writer_of self.old) (writer_of self.new) }
+        ensures told { Pays (writer_of self.old) (writer_of self.new) }
         ensures other { readers_of self.new ≡ readers_of self.old }
     {
         self.writer.notify()

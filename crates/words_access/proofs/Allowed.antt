@@ -8,12 +8,14 @@ use Rattle.atomic_table.proofs.Lists.{at_snoc}
 use Rattle.words_base.specs.Waiting.{last_of}
 use Rattle.words_base.proofs.Sums.{number-none}
 use Rattle.words_base.proofs.Exchanges.{exchanged}
-use Rattle.words_access.specs.Lists.{Listed}
-use Rattle.words_access.specs.Rule.{first_view, marks_of, reads_of, writes_of, has_lists_out, is_in_readers, is_in_writer, Nested, Ruled, IsEntryOfReaders, IsEntryOfWriter, LosesNone}
+use Rattle.words_base.proofs.Matched as matched
+use Rattle.words_base.specs.Lists.{Listed}
+use Rattle.words_access.specs.Rule.{first_view, marks_of, reads_of, writes_of, has_lists_out, Nested, Ruled, IsEntryOfReaders, IsEntryOfWriter, LosesNone}
 use Rattle.words_access.specs.Seats.{having_found, saw_writer_of, saw_readers_of, reading_of, left_of, last_left_of, writing_of, marking_of, upgraded_of, down_of, unmarked_of, eased_of, listing_of, back, joined_readers_of, joined_writer_of, told_reader_of, told_writer_of, gone_reader_of, gone_writer_of, paid_readers_of, paid_writer_of}
 use Rattle.words_access.specs.Steps.{Kept, Looked, LookedLeft, Entered, Upgraded, Won, Marked, Left, Peeked, Grabbed, CanJoinReaders, CanJoinWriter, CanHearReader, CanHearWriter, CanLeaveReaders, CanLeaveWriter, CanPayReaders, CanPayWriter, CanStay}
 use Rattle.words_access.specs.declared.view.View.{View}
 use Rattle.words_access.proofs.Flags.{never, SetsLow, or_odd, or_even}
+use Rattle.words_access.proofs.Holding.{joined_last}
 use Rattle.words_base.proofs.Views.{some-longer}
 use Rattle.words_access.proofs.Keeps.{finds, sees_writer, sees_readers, bit_of, enters, is_inside, leaves_last, leaves, writes_free, writes_alone, writes_last, marks, upgrades, downs, unmarks, busy, eases, grabbed, joins_readers, joins_writer, hears_reader, hears_writer, leaves_readers, leaves_writer, pays_readers, pays_writer, remains}
 
@@ -102,30 +104,30 @@ module _ (S : Type 0) (readers_of writer_of : S → Listed) where
 
     module _ (new : ℕ) (wide : 0 < slots) where
       pub given_readers : (k : ℕ) → CanJoinReaders readers_of writer_of me new k → me.0.in_readers ≡ false → me.0.in_writer ≡ false
-          → Allows R slots id me 1 (λ _. new) (λ _ m'. (lists : S) × (me.1 ≡ (0, lists) ∷ rest me.1) × (m' ≡ (joined_readers_of (last_of (readers_of lists).waiting) me.0, rest me.1)))
+          → Allows R slots id me 1 (λ _. new) (λ _ m'. (lists : S) × (me.1 ≡ (0, lists) ∷ rest me.1) × (m' ≡ (joined_readers_of (last_of (readers_of lists).entries) me.0, rest me.1)))
       given_readers k c away off s r len at _ = (
         joined_readers_of k me.0,
         gives,
         tt,
         joins_readers S readers_of writer_of s id me r at c.0 new c.1.0 c.1.1 (subst (λ (z : ℕ). 0 < z) (sym len) wide) c.1.2 c.1.3 k c.2 c.3 away off,
-        (c.0, c.1.1, ap (λ j. (joined_readers_of j me.0, rest me.1)) (sym c.2.1)),
+        (c.0, c.1.1, ap (λ j. (joined_readers_of j me.0, rest me.1)) (sym (joined_last k _ _ c.2))),
       )
 
       pub given_writer : (k : ℕ) → CanJoinWriter readers_of writer_of me new k → me.0.in_readers ≡ false → me.0.in_writer ≡ false → me.0.marks ≡ true
-          → Allows R slots id me 1 (λ _. new) (λ _ m'. (lists : S) × (me.1 ≡ (0, lists) ∷ rest me.1) × (m' ≡ (joined_writer_of (last_of (writer_of lists).waiting) me.0, rest me.1)))
+          → Allows R slots id me 1 (λ _. new) (λ _ m'. (lists : S) × (me.1 ≡ (0, lists) ∷ rest me.1) × (m' ≡ (joined_writer_of (last_of (writer_of lists).entries) me.0, rest me.1)))
       given_writer k c away off is s r len at _ = (
         joined_writer_of k me.0,
         gives,
         tt,
         joins_writer S readers_of writer_of s id me r at c.0 new c.1.0 c.1.1 (subst (λ (z : ℕ). 0 < z) (sym len) wide) c.1.2 c.1.3 k c.2 c.3 away off is,
-        (c.0, c.1.1, ap (λ j. (joined_writer_of j me.0, rest me.1)) (sym c.3.1)),
+        (c.0, c.1.1, ap (λ j. (joined_writer_of j me.0, rest me.1)) (sym (joined_last k _ _ c.3))),
       )
 
       pub given_told_reader : CanHearReader readers_of writer_of me new → (me.0.in_readers ≡ true) × (me.0.fresh ≡ false) → Allows R slots id me 1 (λ _. new) (λ _ m'. m' ≡ (told_reader_of me.0, rest me.1))
-      given_told_reader c stands s r len at _ = (told_reader_of me.0, gives, tt, hears_reader S readers_of writer_of s id me r at c.0 new c.1.0 c.1.1 (subst (λ (z : ℕ). 0 < z) (sym len) wide) c.1.2 c.1.3 c.2 c.3 stands.0 stands.1, refl)
+      given_told_reader c stands s r len at _ = (told_reader_of me.0, gives, tt, hears_reader S readers_of writer_of s id me r at c.0 new c.1.0 c.1.1 (subst (λ (z : ℕ). 0 < z) (sym len) wide) c.1.2 c.1.3 c.2 c.3 stands.0, refl)
 
       pub given_told_writer : CanHearWriter readers_of writer_of me new → (me.0.in_writer ≡ true) × (me.0.fresh ≡ false) → Allows R slots id me 1 (λ _. new) (λ _ m'. m' ≡ (told_writer_of me.0, rest me.1))
-      given_told_writer c stands s r len at _ = (told_writer_of me.0, gives, tt, hears_writer S readers_of writer_of s id me r at c.0 new c.1.0 c.1.1 (subst (λ (z : ℕ). 0 < z) (sym len) wide) c.1.2 c.1.3 c.2 c.3 stands.0 stands.1, refl)
+      given_told_writer c stands s r len at _ = (told_writer_of me.0, gives, tt, hears_writer S readers_of writer_of s id me r at c.0 new c.1.0 c.1.1 (subst (λ (z : ℕ). 0 < z) (sym len) wide) c.1.2 c.1.3 c.2 c.3 stands.0, refl)
 
       pub given_left_readers : CanLeaveReaders readers_of writer_of me new → (me.0.in_readers ≡ true) × (me.0.in_writer ≡ false) → Allows R slots id me 1 (λ _. new) (λ _ m'. m' ≡ (gone_reader_of me.0, rest me.1))
       given_left_readers c stands s r len at _ = (gone_reader_of me.0, gives, tt, leaves_readers S readers_of writer_of s id me r at c.0 new c.1.0 c.1.1 (subst (λ (z : ℕ). 0 < z) (sym len) wide) c.1.2 c.1.3 c.2 c.3 stands.0 stands.1, refl)
@@ -160,10 +162,8 @@ module _ (S : Type 0) (readers_of writer_of : S → Listed) where
           writer = r.writer;
           clear = λ e. longer _ _ r.readers vs w (r.clear e);
           left = λ e. longer _ _ r.writer vs w (r.left e);
-          standing_readers = λ n h. some-longer (IsEntryOfReaders n) vs w (r.standing_readers n h);
-          standing_writer = λ n h. some-longer (IsEntryOfWriter n) vs w (r.standing_writer n h);
-          placed_readers = (let d = number-none is_in_readers vs w refl in let p = r.placed_readers in omega arith);
-          placed_writer = (let d = number-none is_in_writer vs w refl in let p = r.placed_writer in omega arith);
+          readers_match = matched.longer IsEntryOfReaders r.readers.entries vs w (λ n f. never f.0) r.readers_match;
+          writer_matches = matched.longer IsEntryOfWriter r.writer.entries vs w (λ n f. never f.0) r.writer_matches;
           unlisted = r.unlisted;
           home = λ absent. r.home (sym o ∙ absent);
           out = λ j v e has. ⊎_elim (λ old. r.out j v old has) (λ same. never (ap (λ (u : View). u.has_lists) same ∙ has)) (at_snoc vs w v j e);

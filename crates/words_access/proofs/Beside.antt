@@ -3,7 +3,7 @@ use Rattle.std.proofs.Common.{◌≡◌, ℕ, true, false, sym, ap, ◌∙◌, a
 use Rattle.atomic_table.specs.Table.{Me, Joins, Allows}
 use Rattle.atomic_table.proofs.Lists.{set_else}
 use Rattle.words_base.specs.Sums.{weight}
-use Rattle.words_access.specs.Lists.{Listed}
+use Rattle.words_base.specs.Lists.{Listed}
 use Rattle.words_access.specs.Rule.{Ruled}
 use Rattle.words_access.specs.Seats.{both_of}
 use Rattle.words_access.specs.declared.view.View.{View}

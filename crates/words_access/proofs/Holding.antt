@@ -1,8 +1,10 @@
 -- What a seat has that has taken the lists out.
-use Rattle.std.proofs.Common.{◌≡◌, ℕ, List, [], ◌∷◌, sym, ap, ◌∙◌}
+use Rattle.std.proofs.Common.{◌≡◌, ℕ, ◌∷◌, sym, ap, ◌∙◌}
 use Rattle.atomic_table.specs.Table.{Me, rest}
 use Rattle.words_base.specs.Waiting.{last_of}
-use Rattle.words_access.specs.Lists.{Listed}
+use Rattle.words_base.specs.Lists.{Listed, Joins}
+use Rattle.words_base.proofs.Waiting.{last-pushed}
+use Rattle.words_base.proofs.Holding.{same_out}
 use Rattle.words_access.specs.Seats.{listing_of, joined_readers_of, joined_writer_of}
 use Rattle.words_access.specs.Steps.{IsHeld, IsSame, CanJoinReaders, CanJoinWriter}
 use Rattle.words_access.specs.declared.view.View.{View}
@@ -33,17 +35,13 @@ held_of {S} readers_of writer_of m m' lists e = (
   ap (λ (n : Me S View). rest n.1) e,
 )
 
--- the lists that are out are one pair
-same_out : {S : Type 0} (x y : S) (l : List (ℕ × S)) → l ≡ (0, x) ∷ rest l → l ≡ (0, y) ∷ rest l → x ≡ y
-same_out {S} x y l e f = ap (λ (k : List (ℕ × S)). first x k) (sym e ∙ f)
-  where
-    first : S → List (ℕ × S) → S
-    first z [] = z
-    first z (k ∷ ks) = k.1
+-- whoever has joined a list is its last
+pub joined_last : (k : ℕ) (old new : Listed) → Joins k old new → last_of new.entries ≡ k
+joined_last k old new j = ap last_of j.entries ∙ last-pushed k old.entries
 
 module _ {S : Type 0} (readers_of writer_of : S → Listed) (m : Me S View) (n k : ℕ) where
-  pub joined_readers_same : CanJoinReaders readers_of writer_of m n k → (m' : Me S View) → (lists : S) × (m.1 ≡ (0, lists) ∷ rest m.1) × (m' ≡ (joined_readers_of (last_of (readers_of lists).waiting) m.0, rest m.1)) → m' ≡ (joined_readers_of k m.0, rest m.1)
-  joined_readers_same c m' t = t.2 ∙ ap (λ j. (joined_readers_of j m.0, rest m.1)) (ap (λ l. last_of (readers_of l).waiting) (same_out t.0 c.0 m.1 t.1 c.1.1) ∙ c.2.1)
+  pub joined_readers_same : CanJoinReaders readers_of writer_of m n k → (m' : Me S View) → (lists : S) × (m.1 ≡ (0, lists) ∷ rest m.1) × (m' ≡ (joined_readers_of (last_of (readers_of lists).entries) m.0, rest m.1)) → m' ≡ (joined_readers_of k m.0, rest m.1)
+  joined_readers_same c m' t = t.2 ∙ ap (λ j. (joined_readers_of j m.0, rest m.1)) (ap (λ l. last_of (readers_of l).entries) (same_out t.0 c.0 m.1 (rest m.1) t.1 c.1.1) ∙ joined_last k _ _ c.2)
 
-  pub joined_writer_same : CanJoinWriter readers_of writer_of m n k → (m' : Me S View) → (lists : S) × (m.1 ≡ (0, lists) ∷ rest m.1) × (m' ≡ (joined_writer_of (last_of (writer_of lists).waiting) m.0, rest m.1)) → m' ≡ (joined_writer_of k m.0, rest m.1)
-  joined_writer_same c m' t = t.2 ∙ ap (λ j. (joined_writer_of j m.0, rest m.1)) (ap (λ l. last_of (writer_of l).waiting) (same_out t.0 c.0 m.1 t.1 c.1.1) ∙ c.3.1)
+  pub joined_writer_same : CanJoinWriter readers_of writer_of m n k → (m' : Me S View) → (lists : S) × (m.1 ≡ (0, lists) ∷ rest m.1) × (m' ≡ (joined_writer_of (last_of (writer_of lists).entries) m.0, rest m.1)) → m' ≡ (joined_writer_of k m.0, rest m.1)
+  joined_writer_same c m' t = t.2 ∙ ap (λ j. (joined_writer_of j m.0, rest m.1)) (ap (λ l. last_of (writer_of l).entries) (same_out t.0 c.0 m.1 (rest m.1) t.1 c.1.1) ∙ joined_last k _ _ c.3)

@@ -5,23 +5,28 @@ use lib.ListN.{get_elem?}
 use Rattle.atomic_table.specs.Table.{State, Me, keeps, takes, gives, stepped, put_back, rest, opening}
 use Rattle.atomic_table.proofs.Lists.{set_here, set_else, at_set}
 use Rattle.words_base.specs.Sums.{weight, number}
-use Rattle.words_base.specs.Waiting.{Has, NoneWaits, SomeSeat, AreOf, JoinedBy, LeftBy}
+use Rattle.words_base.specs.Waiting.{Has, NoneWaits, SomeSeat, all_but, Matched}
+use Rattle.words_base.specs.Lists.{Listed, nobody, IsSettled, Stays, Pays, Joins, Leaves, GoesOn}
 use Rattle.words_base.proofs.Sums.{number-set, number-at}
-use Rattle.words_access.specs.Lists.{Listed, nobody}
-use Rattle.words_access.specs.Rule.{first_view, marks_of, reads_of, writes_of, has_lists_out, is_in_readers, is_in_writer, OwesReaders, TellsWriter, IsEntryOfReaders, IsEntryOfWriter, IsFreshReader, IsFreshWriter, LosesNone, Nested, AllNested, IsState, SaysEmpty, Ruled}
-use Rattle.words_access.specs.Laws.{IsSettled}
+use Rattle.words_access.specs.Rule.{first_view, marks_of, reads_of, writes_of, has_lists_out, OwesReaders, TellsWriter, IsEntryOfReaders, IsEntryOfWriter, IsFreshReader, IsFreshWriter, LosesNone, Nested, AllNested, IsState, SaysEmpty, Ruled}
 use Rattle.words_access.specs.Seats.{having_found, saw_writer_of, saw_readers_of, reading_of, left_of, last_left_of, writing_of, marking_of, upgraded_of, down_of, unmarked_of, eased_of, listing_of, back, joined_readers_of, joined_writer_of, told_reader_of, told_writer_of, gone_reader_of, gone_writer_of, paid_readers_of, paid_writer_of}
-use Rattle.words_access.specs.Steps.{Stays, Joins, Hears, Goes, Pays}
 use Rattle.words_access.specs.declared.view.View.{View}
 use Rattle.words_access.proofs.Flags.{never, count_le, weight_le}
-use Rattle.words_base.proofs.Waiting.{joined_by, length-pushed}
 use Rattle.words_base.proofs.Views.{own, apart, stays, all_stay}
+use Rattle.words_base.proofs.Matched as matched
 
 nested_set : (vs : List View) (id : ℕ) (w : View) → AllNested vs → Nested w → AllNested (set vs id w)
 nested_set vs id w all good j v e = ⊎_elim (λ here. subst Nested here.1 good) (λ else. all j v else.1) (at_set vs id j w v e)
 
 writes_le : (vs : List View) → AllNested vs → number writes_of vs ≤ number marks_of vs
 writes_le vs all = count_le writes_of marks_of vs (λ i v e. (all i v e).0)
+
+-- which seats stand in a list
+abbrev in_readers : View → Bool
+in_readers v = v.in_readers
+
+abbrev in_writer : View → Bool
+in_writer v = v.in_writer
 
 module _ (S : Type 0) (readers_of writer_of : S → Listed) where
   abbrev R : State S View → Type 0
@@ -47,10 +52,8 @@ module _ (S : Type 0) (readers_of writer_of : S → Listed) where
       writer = writer_of lists;
       clear = λ _. inr (inr (λ n h. absurd (subst (λ (l : Listed). Has n l.waiting) a h)));
       left = λ e. absurd (omega (arith, e));
-      standing_readers = λ n h. absurd (subst (λ (l : Listed). Has n l.entries) a h);
-      standing_writer = λ n h. absurd (subst (λ (l : Listed). Has n l.entries) p h);
-      placed_readers = omega arith;
-      placed_writer = omega arith;
+      readers_match = matched.nobody_stands IsEntryOfReaders first_view (readers_of lists).entries (ap (λ (l : Listed). l.entries) a) (λ n f. never f.0);
+      writer_matches = matched.nobody_stands IsEntryOfWriter first_view (writer_of lists).entries (ap (λ (l : Listed). l.entries) p) (λ n f. never f.0);
       unlisted = λ _. (ap (λ (l : Listed). l.waiting) a, ap (λ (l : Listed). l.waiting) p);
       home = λ _. (lists, refl, refl, refl);
       out = nobody_out;
@@ -76,8 +79,8 @@ module _ (S : Type 0) (readers_of writer_of : S → Listed) where
     its = own s.views id me.0 at
 
     -- what a step leaves of a seat while the lists stay where they are, and what one on the word 1 does
-    abbrev Leaves : View → Type 0
-    Leaves w = (w.has_lists ≡ me.0.has_lists) × (w.readers ≡ me.0.readers) × (w.writer ≡ me.0.writer) × (w.in_readers ≡ me.0.in_readers) × (w.in_writer ≡ me.0.in_writer) × (w.entry ≡ me.0.entry)
+    abbrev LeavesLists : View → Type 0
+    LeavesLists w = (w.has_lists ≡ me.0.has_lists) × (w.readers ≡ me.0.readers) × (w.writer ≡ me.0.writer) × (w.in_readers ≡ me.0.in_readers) × (w.in_writer ≡ me.0.in_writer) × (w.entry ≡ me.0.entry)
 
     abbrev Does : View → Type 0
     Does w = (w.marks ≡ me.0.marks) × (w.reads ≡ me.0.reads) × (w.writes ≡ me.0.writes)
@@ -85,27 +88,21 @@ module _ (S : Type 0) (readers_of writer_of : S → Listed) where
     out_set : (w : View) → (w.has_lists ≡ true → (w.readers ≡ r.readers) × (w.writer ≡ r.writer)) → (i : ℕ) (v : View) → get_elem? (after w) i ≡ some v → v.has_lists ≡ true → (v.readers ≡ r.readers) × (v.writer ≡ r.writer)
     out_set w good i v e is = ⊎_elim (λ here. subst (λ (u : View). (u.readers ≡ r.readers) × (u.writer ≡ r.writer)) here.1 (good (ap (λ (u : View). u.has_lists) here.1 ∙ is))) (λ else. r.out i v else.1 is) (at_set s.views id i w v e)
 
-    out_left : (w : View) → Leaves w → (i : ℕ) (v : View) → get_elem? (after w) i ≡ some v → v.has_lists ≡ true → (v.readers ≡ r.readers) × (v.writer ≡ r.writer)
+    out_left : (w : View) → LeavesLists w → (i : ℕ) (v : View) → get_elem? (after w) i ≡ some v → v.has_lists ≡ true → (v.readers ≡ r.readers) × (v.writer ≡ r.writer)
     out_left w left = out_set w (λ is. let o = r.out id me.0 at (sym left.0 ∙ is) in (left.1 ∙ o.0, left.2 ∙ o.1))
 
     -- who stands in a list stays there
-    readers_stand : (w : View) → Leaves w → AreOf IsEntryOfReaders r.readers.entries (after w)
-    readers_stand w left = all_stay s.views id me.0 at IsEntryOfReaders r.readers.entries w (λ n f. (left.3 ∙ f.0, left.5 ∙ f.1)) r.standing_readers
+    readers_stand : (w : View) → LeavesLists w → Matched IsEntryOfReaders r.readers.entries (after w)
+    readers_stand w left = matched.kept IsEntryOfReaders r.readers.entries s.views id me.0 at r.readers_match w (λ n f. (left.3 ∙ f.0, left.5 ∙ f.1)) (λ n f. (sym left.3 ∙ f.0, sym left.5 ∙ f.1))
 
-    writer_stands : (w : View) → Leaves w → AreOf IsEntryOfWriter r.writer.entries (after w)
-    writer_stands w left = all_stay s.views id me.0 at IsEntryOfWriter r.writer.entries w (λ n f. (left.4 ∙ f.0, left.5 ∙ f.1)) r.standing_writer
+    writer_stands : (w : View) → LeavesLists w → Matched IsEntryOfWriter r.writer.entries (after w)
+    writer_stands w left = matched.kept IsEntryOfWriter r.writer.entries s.views id me.0 at r.writer_matches w (λ n f. (left.4 ∙ f.0, left.5 ∙ f.1)) (λ n f. (sym left.4 ∙ f.0, sym left.5 ∙ f.1))
 
     same : (f : View → Bool) (w : View) → f w ≡ f me.0 → number f (after w) ≡ number f s.views
     same f w e = let c = number-set f s.views id me.0 w at in let e' : weight (f w) ≡ weight (f me.0) = ap weight e in omega arith
 
-    readers_placed : (w : View) → w.in_readers ≡ me.0.in_readers → number is_in_readers (after w) ≤ length r.readers.entries
-    readers_placed w e = let c = same is_in_readers w e in let p = r.placed_readers in omega arith
-
-    writer_placed : (w : View) → w.in_writer ≡ me.0.in_writer → number is_in_writer (after w) ≤ length r.writer.entries
-    writer_placed w e = let c = same is_in_writer w e in let p = r.placed_writer in omega arith
-
     -- the state becomes n; what is known of the lists stays
-    moved : (n : ℕ) (w : View) → IsState (set s.words 0 n) (after w) → Nested w → Leaves w → (n % 2 ≡ 0 → LosesNone OwesReaders IsFreshReader r.readers (after w)) → (n ≡ 1 → LosesNone TellsWriter IsFreshWriter r.writer (after w)) → R (stepped s 0 n id me.1 w keeps)
+    moved : (n : ℕ) (w : View) → IsState (set s.words 0 n) (after w) → Nested w → LeavesLists w → (n % 2 ≡ 0 → LosesNone OwesReaders IsFreshReader r.readers (after w)) → (n ≡ 1 → LosesNone TellsWriter IsFreshWriter r.writer (after w)) → R (stepped s 0 n id me.1 w keeps)
     moved n w state tidy left clear gone =
         let out' = same has_lists_out w left.0 in let one = r.list_word.0 in let is = r.list_word.1 in
         let here : get_or (set s.words 0 n) 0 0 ≡ n = get_or-set_same s.words 0 n 0 one_word in
@@ -118,10 +115,8 @@ module _ (S : Type 0) (readers_of writer_of : S → Listed) where
           writer = r.writer;
           clear = λ e. clear (subst (λ k. k % 2 ≡ 0) here e);
           left = λ e. gone (sym here ∙ e);
-          standing_readers = readers_stand w left;
-          standing_writer = writer_stands w left;
-          placed_readers = readers_placed w left.3;
-          placed_writer = writer_placed w left.4;
+          readers_match = readers_stand w left;
+          writer_matches = writer_stands w left;
           unlisted = λ low. r.unlisted (subst SaysEmpty there low);
           home = λ absent. r.home (sym out' ∙ absent);
           out = out_left w left;
@@ -136,11 +131,11 @@ module _ (S : Type 0) (readers_of writer_of : S → Listed) where
         let one = r.state.one_marks in let few = r.state.few in let word = r.state.word in
         record { one_marks = omega arith; few = omega arith; word = is ∙ (omega arith); alone = λ some_one. rs ∙ r.state.alone (omega arith) }
 
-    tidy_same : (w : View) → Does w → Leaves w → Nested w
+    tidy_same : (w : View) → Does w → LeavesLists w → Nested w
     tidy_same w does left = let a : weight w.marks ≡ weight me.0.marks = ap weight does.0 in let b : weight w.writes ≡ weight me.0.writes = ap weight does.2 in let c : weight w.in_writer ≡ weight me.0.in_writer = ap weight left.4 in let m = mine.0 in let k = mine.1 in (omega arith, omega arith)
 
     -- the state stays
-    unmoved : (w : View) → Leaves w → Does w → (x % 2 ≡ 0 → LosesNone OwesReaders IsFreshReader r.readers (after w)) → (x ≡ 1 → LosesNone TellsWriter IsFreshWriter r.writer (after w)) → R (stepped s 0 x id me.1 w keeps)
+    unmoved : (w : View) → LeavesLists w → Does w → (x % 2 ≡ 0 → LosesNone OwesReaders IsFreshReader r.readers (after w)) → (x ≡ 1 → LosesNone TellsWriter IsFreshWriter r.writer (after w)) → R (stepped s 0 x id me.1 w keeps)
     unmoved w left does = moved x w (state_same (set s.words 0 x) w (get_or-set_same s.words 0 x 0 one_word) does) (tidy_same w does left) left
 
     -- who has to notify and who is fresh stay
@@ -189,7 +184,7 @@ module _ (S : Type 0) (readers_of writer_of : S → Listed) where
       down_two = let m = some_reads in let one = r.state.one_marks in let few = r.state.few in let word = r.state.word in
           let small : (x + 18446744073709551614) % 18446744073709551616 ≡ x - 2 = omega arith in small
 
-      goes : (w : View) → w.marks ≡ me.0.marks → w.reads ≡ false → w.writes ≡ me.0.writes → Leaves w → (x % 2 ≡ 0 → LosesNone OwesReaders IsFreshReader r.readers (after w)) → (x ≡ 3 → LosesNone TellsWriter IsFreshWriter r.writer (after w)) → R (stepped s 0 ((x + (2 ^ 64 - 2)) % 2 ^ 64) id me.1 w keeps)
+      goes : (w : View) → w.marks ≡ me.0.marks → w.reads ≡ false → w.writes ≡ me.0.writes → LeavesLists w → (x % 2 ≡ 0 → LosesNone OwesReaders IsFreshReader r.readers (after w)) → (x ≡ 3 → LosesNone TellsWriter IsFreshWriter r.writer (after w)) → R (stepped s 0 ((x + (2 ^ 64 - 2)) % 2 ^ 64) id me.1 w keeps)
       goes w m not wr left clear gone =
           let ms = same marks_of w m in let ws = same writes_of w wr in let rs = number-set reads_of s.views id me.0 w at in
           let r0 : weight (reads_of w) ≡ 0 = ap weight not in let r' : weight (reads_of me.0) ≡ 1 = ap weight does in
@@ -274,7 +269,7 @@ module _ (S : Type 0) (readers_of writer_of : S → Listed) where
     beside : (n : ℕ) → get_or (set s.words 1 n) 0 0 ≡ x
     beside n = get_or-set_other s.words 1 0 n 0 (λ q. omega arith)
 
-    at_list : (n : ℕ) (w : View) → n % 2 ≡ y % 2 → (SaysEmpty n → SaysEmpty y) → Leaves w → Does w → (x % 2 ≡ 0 → LosesNone OwesReaders IsFreshReader r.readers (after w)) → (x ≡ 1 → LosesNone TellsWriter IsFreshWriter r.writer (after w)) → R (stepped s 1 n id me.1 w keeps)
+    at_list : (n : ℕ) (w : View) → n % 2 ≡ y % 2 → (SaysEmpty n → SaysEmpty y) → LeavesLists w → Does w → (x % 2 ≡ 0 → LosesNone OwesReaders IsFreshReader r.readers (after w)) → (x ≡ 1 → LosesNone TellsWriter IsFreshWriter r.writer (after w)) → R (stepped s 1 n id me.1 w keeps)
     at_list n w parity below left does clear gone =
         let out' = same has_lists_out w left.0 in let one = r.list_word.0 in let is = r.list_word.1 in
         let here : get_or (set s.words 1 n) 1 0 ≡ n = get_or-set_same s.words 1 n 0 r.two_words in let there = beside n in record {
@@ -286,10 +281,8 @@ module _ (S : Type 0) (readers_of writer_of : S → Listed) where
           writer = r.writer;
           clear = λ e. clear (subst (λ k. k % 2 ≡ 0) there e);
           left = λ e. gone (sym there ∙ e);
-          standing_readers = readers_stand w left;
-          standing_writer = writer_stands w left;
-          placed_readers = readers_placed w left.3;
-          placed_writer = writer_placed w left.4;
+          readers_match = readers_stand w left;
+          writer_matches = writer_stands w left;
           unlisted = λ low. r.unlisted (below (subst SaysEmpty here low));
           home = λ absent. r.home (sym out' ∙ absent);
           out = out_left w left;
@@ -324,15 +317,80 @@ module _ (S : Type 0) (readers_of writer_of : S → Listed) where
             writer = r.writer;
             clear = λ e. clear_as w (λ o. o) (λ k f. f) (subst (λ k. k % 2 ≡ 0) there e);
             left = λ e. left_as w (λ o. o) (λ k f. f) (sym there ∙ e);
-            standing_readers = all_stay s.views id me.0 at IsEntryOfReaders r.readers.entries w (λ k f. f) r.standing_readers;
-            standing_writer = all_stay s.views id me.0 at IsEntryOfWriter r.writer.entries w (λ k f. f) r.standing_writer;
-            placed_readers = readers_placed w refl;
-            placed_writer = writer_placed w refl;
+            readers_match = matched.kept IsEntryOfReaders r.readers.entries s.views id me.0 at r.readers_match w (λ k f. f) (λ k f. f);
+            writer_matches = matched.kept IsEntryOfWriter r.writer.entries s.views id me.0 at r.writer_matches w (λ k f. f) (λ k f. f);
             unlisted = λ low. r.unlisted (below (subst SaysEmpty here low));
             home = λ absent. absurd (omega arith);
             out = out_set w (λ _. (h.2, h.3));
           },
         )
+
+    -- a list that becomes another, of those who have to notify it and of those who stand in it
+    module _ (Tells : View → Type 0) (stands : View → Bool) (old new : Listed) (w : View) where
+      abbrev IsOf : ℕ → View → Type 0
+      IsOf n v = (stands v ≡ true) × (v.entry ≡ n)
+
+      abbrev IsFresh : ℕ → View → Type 0
+      IsFresh n v = (v.fresh ≡ true) × IsOf n v
+
+      -- no wake-up is lost of it, and its entries and seats are matched, if it was so before
+      abbrev Turns : Type 0
+      Turns = (LosesNone Tells IsFresh old s.views → LosesNone Tells IsFresh new (after w)) × (Matched IsOf old.entries s.views → Matched IsOf new.entries (after w))
+
+      -- one is notified, or the seat owes, or nobody waits
+      abbrev Ends : Type 0
+      Ends = (0 < new.notified) ⊎ (Tells w ⊎ NoneWaits new.waiting)
+
+      settled : IsSettled new → Ends
+      settled i = ⊎_elim (λ a. inl a) (λ none. inr (inr none)) i
+
+      ends : Ends → LosesNone Tells IsFresh new (after w)
+      ends e = ⊎_elim (λ m. inl m) (λ b. inr (⊎_elim (λ o. inl (its Tells w o)) (λ none. inr (λ k h. absurd (none k h))) b)) e
+
+      -- whoever waits now did before, and is fresh if it was; or it is this seat, and is fresh
+      abbrev Waits : Type 0
+      Waits = (k : ℕ) → Has k new.waiting → (Has k old.waiting × (IsFresh k me.0 → IsFresh k w)) ⊎ IsFresh k w
+
+      turned : (0 < old.notified → Ends) → (Tells me.0 → Ends) → Waits → LosesNone Tells IsFresh old s.views → LosesNone Tells IsFresh new (after w)
+      turned told owed waits l = ⊎_elim (λ m. ends (told m))
+          (λ b. ⊎_elim (λ c. ⊎_elim (λ o. ends (owed o)) (λ other. inr (inl (other w))) (apart s.views id me.0 at Tells c))
+          (λ fresh. inr (inr (λ k h. ⊎_elim (λ t. stays s.views id me.0 at (IsFresh k) w t.1 (fresh k t.0)) (λ p. its (IsFresh k) w p) (waits k h)))) b) l
+
+      with_entries : (entries : List ℕ) → new.entries ≡ entries → Matched IsOf entries (after w) → Matched IsOf new.entries (after w)
+      with_entries entries is = subst (λ l. Matched IsOf l (after w)) (sym is)
+
+      -- the seat stands in it if it did, with the same entry, and is fresh if it was
+      abbrev StaysIn : Type 0
+      StaysIn = (stands w ≡ stands me.0) × (stands me.0 ≡ true → (w.entry ≡ me.0.entry) × (me.0.fresh ≡ true → w.fresh ≡ true))
+
+      same_seat : StaysIn → new.entries ≡ old.entries → Matched IsOf old.entries s.views → Matched IsOf new.entries (after w)
+      same_seat is same m = with_entries old.entries same
+          (matched.kept IsOf old.entries s.views id me.0 at m w (λ k f. (is.0 ∙ f.0, (is.1 f.0).0 ∙ f.1)) (λ k f. let did = sym is.0 ∙ f.0 in (did, sym (is.1 did).0 ∙ f.1)))
+
+      still_fresh : StaysIn → (k : ℕ) → IsFresh k me.0 → IsFresh k w
+      still_fresh is k f = let s' = is.1 f.1.0 in (s'.1 f.0, (is.0 ∙ f.1.0, s'.0 ∙ f.1.1))
+
+      -- the list stays, as far as the rule asks
+      list_stays : Stays old new → (Tells me.0 → Tells w) → StaysIn → Turns
+      list_stays l tells is = (turned (λ m. settled (l.told m)) (λ o. inr (inl (tells o))) (λ k h. inl (l.fewer k h, still_fresh is k)), same_seat is l.entries)
+
+      -- the seat has notified one
+      list_pays : Pays old new → StaysIn → Turns
+      list_pays l is = (turned (λ _. settled l.settled) (λ _. settled l.settled) (λ k h. inl (l.fewer k h, still_fresh is k)), same_seat is l.entries)
+
+      -- the seat has joined it
+      list_joins : (k : ℕ) → Joins k old new → (Tells me.0 → Tells w) → stands me.0 ≡ false → IsFresh k w → Turns
+      list_joins k l tells away is = (
+        turned (λ m. inl (l.told m)) (λ o. inr (inl (tells o))) (λ n h. ⊎_elim (λ was. inl (was, λ f. never (sym away ∙ f.1.0))) (λ e. inr (is.0, (is.1.0, is.1.1 ∙ sym e))) (l.joined n h)),
+        λ m. with_entries (old.entries ++ k ∷ []) l.entries (matched.joined IsOf old.entries s.views id me.0 at m k w (λ n f. never (sym away ∙ f.0)) is.1 (λ n f. sym f.1 ∙ is.1.1) l.fresh),
+      )
+
+      -- its entry has left it
+      list_leaves : Leaves me.0.entry old new → (0 < old.notified → Ends) → (Tells me.0 → Ends) → stands me.0 ≡ true → stands w ≡ false → Turns
+      list_leaves l told owed was gone = (
+        turned told owed (λ n h. let t = l.left n h in inl (t.0, λ f. absurd (t.1 (sym f.1.1)))),
+        λ m. with_entries (all_but me.0.entry old.entries) l.entries (matched.left IsOf old.entries s.views id me.0 at m me.0.entry w (was, refl) (λ n f. sym f.1) (λ n f. never (sym gone ∙ f.0))),
+      )
 
     -- the seat gives the lists back, and has this view then
     module _ (lists : S) (n : ℕ) (is_out : me.0.has_lists ≡ true) (has : me.1 ≡ (0, lists) ∷ rest me.1) (wide : 0 < length s.homes) (four : n % 4 ≡ 0) (low : SaysEmpty n → ((readers_of lists).waiting ≡ []) × ((writer_of lists).waiting ≡ [])) where
@@ -342,19 +400,11 @@ module _ (S : Type 0) (readers_of writer_of : S → Listed) where
       abbrev new_writer : Listed
       new_writer = writer_of lists
 
-      -- no more seats stand in a list than it has entries, if it was so before
-      abbrev Placed : (View → Bool) → View → List ℕ → List ℕ → Type 0
-      Placed stands w old new = number stands s.views ≤ length old → number stands (after w) ≤ length new
-
-      -- of one list no wake-up is lost then, each entry is of a seat that stands in it, and no more stand in it than it has entries, if it was so before
-      abbrev Turns : (View → Type 0) → (ℕ → View → Type 0) → (ℕ → View → Type 0) → (View → Bool) → Listed → Listed → View → Type 0
-      Turns O P Q stands old new w = (LosesNone O P old s.views → LosesNone O P new (after w)) × (AreOf Q old.entries s.views → AreOf Q new.entries (after w)) × Placed stands w old.entries new.entries
-
       abbrev ReadersTurn : View → Type 0
-      ReadersTurn w = Turns OwesReaders IsFreshReader IsEntryOfReaders is_in_readers me.0.readers new_readers w
+      ReadersTurn w = Turns OwesReaders in_readers me.0.readers new_readers w
 
       abbrev WriterTurns : View → Type 0
-      WriterTurns w = Turns TellsWriter IsFreshWriter IsEntryOfWriter is_in_writer me.0.writer new_writer w
+      WriterTurns w = Turns TellsWriter in_writer me.0.writer new_writer w
 
       returned : (w : View) → w.has_lists ≡ false → Does w → Nested w → ReadersTurn w → WriterTurns w → R (stepped s 1 n id me.1 w gives)
       returned w off does tidy readers writer =
@@ -370,156 +420,75 @@ module _ (S : Type 0) (readers_of writer_of : S → Listed) where
             writer = new_writer;
             clear = λ e. readers.0 (subst (λ l'. LosesNone OwesReaders IsFreshReader l' s.views) (sym known.0) (r.clear (subst (λ k. k % 2 ≡ 0) there e)));
             left = λ e. writer.0 (subst (λ l'. LosesNone TellsWriter IsFreshWriter l' s.views) (sym known.1) (r.left (sym there ∙ e)));
-            standing_readers = readers.1 (subst (λ (l' : Listed). AreOf IsEntryOfReaders l'.entries s.views) (sym known.0) r.standing_readers);
-            standing_writer = writer.1 (subst (λ (l' : Listed). AreOf IsEntryOfWriter l'.entries s.views) (sym known.1) r.standing_writer);
-            placed_readers = readers.2 (subst (λ (l' : Listed). number is_in_readers s.views ≤ length l'.entries) (sym known.0) r.placed_readers);
-            placed_writer = writer.2 (subst (λ (l' : Listed). number is_in_writer s.views ≤ length l'.entries) (sym known.1) r.placed_writer);
+            readers_match = readers.1 (subst (λ (l' : Listed). Matched IsEntryOfReaders l'.entries s.views) (sym known.0) r.readers_match);
+            writer_matches = writer.1 (subst (λ (l' : Listed). Matched IsEntryOfWriter l'.entries s.views) (sym known.1) r.writer_matches);
             unlisted = λ below. low (subst SaysEmpty here below);
             home = λ _. (lists, subst (λ (t : List (ℕ × S)). get_elem? (put_back s.homes t) 0 ≡ some (some lists)) (sym has) (set_here s.homes 0 (some lists) wide), refl, refl);
             out = λ i v e is. let m = number-at has_lists_out (after w) i v e in let q : weight (has_lists_out v) ≡ 1 = ap weight is in absurd (omega arith);
           }
 
-      -- whose each of these numbers is now: the seat's that it was, or this seat's own
-      module _ (P : ℕ → View → Type 0) (w : View) (old new : List ℕ) where
-        abbrev Stands : Type 0
-        Stands = (k : ℕ) → Has k new → (Has k old × (P k me.0 → P k w)) ⊎ P k w
-
-        same_stand : new ≡ old → ((k : ℕ) → P k me.0 → P k w) → Stands
-        same_stand is same k h = inl (subst (Has k) is h, same k)
-
-        joined_stand : (n : ℕ) → JoinedBy n old new → ((k : ℕ) → P k me.0 → ⊥) → P n w → Stands
-        joined_stand n joined none p k h = ⊎_elim (λ was. inl (was, λ q. absurd (none k q))) (λ e. inr (subst (λ j. P j w) (sym e) p)) (joined k h)
-
-        left_stand : LeftBy me.0.entry old new → ((k : ℕ) → P k me.0 → me.0.entry ≡ k) → Stands
-        left_stand left its k h = let t = left k h in inl (t.0, λ p. absurd (t.1 (sym (its k p))))
-
-        stand : Stands → AreOf P old s.views → AreOf P new (after w)
-        stand all were k h = ⊎_elim (λ t. stays s.views id me.0 at (P k) w t.1 (were k t.0)) (λ p. its (P k) w p) (all k h)
-
-      -- how many stand in it: as many as did, one more at most, or one less
-      module _ (stands : View → Bool) (w : View) (old new : List ℕ) where
-        same_placed : new ≡ old → stands w ≡ stands me.0 → Placed stands w old new
-        same_placed is e p = let c = same stands w e in let l : length new ≡ length old = ap length is in omega arith
-
-        joined_placed : (k : ℕ) → new ≡ old ++ k ∷ [] → Placed stands w old new
-        joined_placed k is p = let c = number-set stands s.views id me.0 w at in let one = weight_le (stands w) in let l : length new ≡ length old + 1 = ap length is ∙ length-pushed k old in omega arith
-
-        left_placed : length old ≤ length new + 1 → stands me.0 ≡ true → stands w ≡ false → Placed stands w old new
-        left_placed shorter was off p = let c = number-set stands s.views id me.0 w at in let a : weight (stands me.0) ≡ 1 = ap weight was in let b : weight (stands w) ≡ 0 = ap weight off in omega arith
-
-      -- what becomes of one list, of those who have to notify it, of the fresh, and of those who stand in it
-      module _ (O : View → Type 0) (P Q : ℕ → View → Type 0) (stands : View → Bool) (w : View) (old new : Listed) where
-        -- one is notified, or the seat owes, or nobody waits
-        abbrev Ends : Type 0
-        Ends = (0 < new.notified) ⊎ (O w ⊎ NoneWaits new.waiting)
-
-        ends : Ends → LosesNone O P new (after w)
-        ends e = ⊎_elim (λ m. inl m) (λ b. inr (⊎_elim (λ o. inl (its O w o)) (λ none. inr (λ k h. absurd (none k h))) b)) e
-
-        turned : (0 < old.notified → Ends) → (O me.0 → Ends) → Stands P w old.waiting new.waiting → Stands Q w old.entries new.entries → Placed stands w old.entries new.entries → Turns O P Q stands old new w
-        turned told owed waits all size = (
-          (λ l. ⊎_elim (λ m. ends (told m))
-              (λ b. ⊎_elim (λ c. ⊎_elim (λ o. ends (owed o)) (λ other. inr (inl (other w))) (apart s.views id me.0 at O c)) (λ fresh. inr (inr (stand P w old.waiting new.waiting waits fresh))) b) l),
-          stand Q w old.entries new.entries all,
-          size,
-        )
-
-        settled : IsSettled new → Ends
-        settled i = ⊎_elim (λ a. inl a) (λ none. inr (inr none)) i
-
-        -- the list stays, as far as the rule asks
-        untouched : Stays old new → (O me.0 → O w) → ((k : ℕ) → P k me.0 → P k w) → ((k : ℕ) → Q k me.0 → Q k w) → stands w ≡ stands me.0 → Turns O P Q stands old new w
-        untouched st tells fresh same_entry same_flag = turned (λ m. settled (st.1 m)) (λ o. inr (inl (tells o))) (λ k h. inl (st.0 k h, fresh k)) (same_stand Q w old.entries new.entries st.2 same_entry) (same_placed stands w old.entries new.entries st.2 same_flag)
-
       module _ (w : View) where
-        abbrev EndsReaders : Type 0
-        EndsReaders = Ends OwesReaders IsFreshReader IsEntryOfReaders is_in_readers w me.0.readers new_readers
+        readers_stay : Stays me.0.readers new_readers → (OwesReaders me.0 → OwesReaders w) → StaysIn OwesReaders in_readers me.0.readers new_readers w → ReadersTurn w
+        readers_stay = list_stays OwesReaders in_readers me.0.readers new_readers w
 
-        abbrev EndsWriter : Type 0
-        EndsWriter = Ends TellsWriter IsFreshWriter IsEntryOfWriter is_in_writer w me.0.writer new_writer
+        writer_stays : Stays me.0.writer new_writer → (TellsWriter me.0 → TellsWriter w) → StaysIn TellsWriter in_writer me.0.writer new_writer w → WriterTurns w
+        writer_stays = list_stays TellsWriter in_writer me.0.writer new_writer w
 
-        readers_settled : IsSettled new_readers → EndsReaders
-        readers_settled = settled OwesReaders IsFreshReader IsEntryOfReaders is_in_readers w me.0.readers new_readers
+        readers_leave : Leaves me.0.entry me.0.readers new_readers → (0 < me.0.readers.notified → Ends OwesReaders in_readers me.0.readers new_readers w) → (OwesReaders me.0 → OwesReaders w) → me.0.in_readers ≡ true → w.in_readers ≡ false → ReadersTurn w
+        readers_leave l told owed = list_leaves OwesReaders in_readers me.0.readers new_readers w l told (λ o. inr (inl (owed o)))
 
-        writer_settled : IsSettled new_writer → EndsWriter
-        writer_settled = settled TellsWriter IsFreshWriter IsEntryOfWriter is_in_writer w me.0.writer new_writer
-
-        readers_turned : (0 < me.0.readers.notified → EndsReaders) → (OwesReaders me.0 → EndsReaders) → Stands IsFreshReader w me.0.readers.waiting new_readers.waiting → Stands IsEntryOfReaders w me.0.readers.entries new_readers.entries → Placed is_in_readers w me.0.readers.entries new_readers.entries → ReadersTurn w
-        readers_turned = turned OwesReaders IsFreshReader IsEntryOfReaders is_in_readers w me.0.readers new_readers
-
-        writer_turned : (0 < me.0.writer.notified → EndsWriter) → (TellsWriter me.0 → EndsWriter) → Stands IsFreshWriter w me.0.writer.waiting new_writer.waiting → Stands IsEntryOfWriter w me.0.writer.entries new_writer.entries → Placed is_in_writer w me.0.writer.entries new_writer.entries → WriterTurns w
-        writer_turned = turned TellsWriter IsFreshWriter IsEntryOfWriter is_in_writer w me.0.writer new_writer
-
-        readers_stay : Stays me.0.readers new_readers → (OwesReaders me.0 → OwesReaders w) → ((k : ℕ) → IsFreshReader k me.0 → IsFreshReader k w) → ((k : ℕ) → IsEntryOfReaders k me.0 → IsEntryOfReaders k w) → w.in_readers ≡ me.0.in_readers → ReadersTurn w
-        readers_stay = untouched OwesReaders IsFreshReader IsEntryOfReaders is_in_readers w me.0.readers new_readers
-
-        writer_stays : Stays me.0.writer new_writer → (TellsWriter me.0 → TellsWriter w) → ((k : ℕ) → IsFreshWriter k me.0 → IsFreshWriter k w) → ((k : ℕ) → IsEntryOfWriter k me.0 → IsEntryOfWriter k w) → w.in_writer ≡ me.0.in_writer → WriterTurns w
-        writer_stays = untouched TellsWriter IsFreshWriter IsEntryOfWriter is_in_writer w me.0.writer new_writer
+        writer_leaves : Leaves me.0.entry me.0.writer new_writer → (0 < me.0.writer.notified → Ends TellsWriter in_writer me.0.writer new_writer w) → (TellsWriter me.0 → TellsWriter w) → me.0.in_writer ≡ true → w.in_writer ≡ false → WriterTurns w
+        writer_leaves l told owed = list_leaves TellsWriter in_writer me.0.writer new_writer w l told (λ o. inr (inl (owed o)))
 
       -- its entry has joined
       pub joins_readers : (k : ℕ) → Joins k me.0.readers new_readers → Stays me.0.writer new_writer → me.0.in_readers ≡ false → me.0.in_writer ≡ false → R (stepped s 1 n id me.1 (joined_readers_of k me.0) gives)
-      joins_readers k readers writer away off = let w : View = joined_readers_of k me.0 in let more = readers.2 in
+      joins_readers k readers writer away off = let w : View = joined_readers_of k me.0 in
           returned w refl (refl, refl, refl) mine
-          (readers_turned w (λ m. inl (omega arith)) (λ o. inr (inl o))
-          (joined_stand IsFreshReader w me.0.readers.waiting new_readers.waiting k readers.0 (λ j f. never (sym away ∙ f.1.0)) (refl, (refl, refl)))
-          (joined_stand IsEntryOfReaders w me.0.readers.entries new_readers.entries k (subst (JoinedBy k me.0.readers.entries) (sym readers.3) (joined_by k me.0.readers.entries)) (λ j f. never (sym away ∙ f.0)) (refl, refl))
-          (joined_placed is_in_readers w me.0.readers.entries new_readers.entries k readers.3))
-          (writer_stays w writer (λ o. o) (λ j f. never (sym off ∙ f.1.0)) (λ j f. never (sym off ∙ f.0)) refl)
+          (list_joins OwesReaders in_readers me.0.readers new_readers w k readers (λ o. o) away (refl, (refl, refl)))
+          (writer_stays w writer (λ o. o) (refl, λ is. never (sym off ∙ is)))
 
       pub joins_writer : (k : ℕ) → Stays me.0.readers new_readers → Joins k me.0.writer new_writer → me.0.in_readers ≡ false → me.0.in_writer ≡ false → me.0.marks ≡ true → R (stepped s 1 n id me.1 (joined_writer_of k me.0) gives)
       joins_writer k readers writer away off is = let w : View = joined_writer_of k me.0 in
-          let m' : weight me.0.marks ≡ 1 = ap weight is in let t = mine.0 in let more = writer.2 in
+          let m' : weight me.0.marks ≡ 1 = ap weight is in let t = mine.0 in
           returned w refl (refl, refl, refl) (t, omega arith)
-          (readers_stay w readers (λ o. o) (λ j f. never (sym away ∙ f.1.0)) (λ j f. never (sym away ∙ f.0)) refl)
-          (writer_turned w (λ m. inl (omega arith)) (λ o. inr (inl o))
-          (joined_stand IsFreshWriter w me.0.writer.waiting new_writer.waiting k writer.0 (λ j f. never (sym off ∙ f.1.0)) (refl, (refl, refl)))
-          (joined_stand IsEntryOfWriter w me.0.writer.entries new_writer.entries k (subst (JoinedBy k me.0.writer.entries) (sym writer.3) (joined_by k me.0.writer.entries)) (λ j f. never (sym off ∙ f.0)) (refl, refl))
-          (joined_placed is_in_writer w me.0.writer.entries new_writer.entries k writer.3))
+          (readers_stay w readers (λ o. o) (refl, λ stood. never (sym away ∙ stood)))
+          (list_joins TellsWriter in_writer me.0.writer new_writer w k writer (λ o. o) off (refl, (refl, refl)))
 
       -- its entry was notified, and has left: it owes
-      pub hears_reader : Hears me.0.entry me.0.readers new_readers → Stays me.0.writer new_writer → me.0.in_readers ≡ true → me.0.fresh ≡ false → R (stepped s 1 n id me.1 (told_reader_of me.0) gives)
-      hears_reader readers writer was looked = let w : View = told_reader_of me.0 in
-          returned w refl (refl, refl, refl) mine
-          (readers_turned w (λ _. inr (inl refl)) (λ _. inr (inl refl)) (λ j h. inl (readers.0 j h, λ f. never (sym looked ∙ f.0))) (left_stand IsEntryOfReaders w me.0.readers.entries new_readers.entries readers.1 (λ j f. f.1)) (left_placed is_in_readers w me.0.readers.entries new_readers.entries readers.2 was refl))
-          (writer_stays w writer (λ o. o) (λ j f. f) (λ j f. f) refl)
+      pub hears_reader : Leaves me.0.entry me.0.readers new_readers → Stays me.0.writer new_writer → me.0.in_readers ≡ true → R (stepped s 1 n id me.1 (told_reader_of me.0) gives)
+      hears_reader readers writer was = let w : View = told_reader_of me.0 in
+          returned w refl (refl, refl, refl) mine (readers_leave w readers (λ _. inr (inl refl)) (λ _. refl) was refl) (writer_stays w writer (λ o. o) (refl, λ _. (refl, λ f. f)))
 
-      pub hears_writer : Stays me.0.readers new_readers → Hears me.0.entry me.0.writer new_writer → me.0.in_writer ≡ true → me.0.fresh ≡ false → R (stepped s 1 n id me.1 (told_writer_of me.0) gives)
-      hears_writer readers writer was looked = let w : View = told_writer_of me.0 in let t = mine.0 in
-          returned w refl (refl, refl, refl) (t, omega arith)
-          (readers_stay w readers (λ o. o) (λ j f. f) (λ j f. f) refl)
-          (writer_turned w (λ _. inr (inl (inl refl))) (λ _. inr (inl (inl refl))) (λ j h. inl (writer.0 j h, λ f. never (sym looked ∙ f.0))) (left_stand IsEntryOfWriter w me.0.writer.entries new_writer.entries writer.1 (λ j f. f.1)) (left_placed is_in_writer w me.0.writer.entries new_writer.entries writer.2 was refl))
+      pub hears_writer : Stays me.0.readers new_readers → Leaves me.0.entry me.0.writer new_writer → me.0.in_writer ≡ true → R (stepped s 1 n id me.1 (told_writer_of me.0) gives)
+      hears_writer readers writer was = let w : View = told_writer_of me.0 in let t = mine.0 in
+          returned w refl (refl, refl, refl) (t, omega arith) (readers_stay w readers (λ o. o) (refl, λ _. (refl, λ f. f))) (writer_leaves w writer (λ _. inr (inl (inl refl))) (λ _. inl refl) was refl)
 
       -- its entry has left, and what it was told has gone on
-      pub leaves_readers : Goes me.0.entry me.0.readers new_readers → Stays me.0.writer new_writer → me.0.in_readers ≡ true → me.0.in_writer ≡ false → R (stepped s 1 n id me.1 (gone_reader_of me.0) gives)
+      pub leaves_readers : GoesOn me.0.entry me.0.readers new_readers → Stays me.0.writer new_writer → me.0.in_readers ≡ true → me.0.in_writer ≡ false → R (stepped s 1 n id me.1 (gone_reader_of me.0) gives)
       leaves_readers readers writer was off = let w : View = gone_reader_of me.0 in
           returned w refl (refl, refl, refl) mine
-          (readers_turned w (λ m. readers_settled w (readers.1 m)) (λ o. inr (inl o)) (left_stand IsFreshReader w me.0.readers.waiting new_readers.waiting readers.0 (λ j f. f.1.1)) (left_stand IsEntryOfReaders w me.0.readers.entries new_readers.entries readers.2 (λ j f. f.1)) (left_placed is_in_readers w me.0.readers.entries new_readers.entries readers.3 was refl))
-          (writer_stays w writer (λ o. o) (λ j f. never (sym off ∙ f.1.0)) (λ j f. f) refl)
+          (readers_leave w readers.leaves (λ m. settled OwesReaders in_readers me.0.readers new_readers w (readers.told m)) (λ o. o) was refl)
+          (writer_stays w writer (λ o. o) (refl, λ is. never (sym off ∙ is)))
 
-      pub leaves_writer : Stays me.0.readers new_readers → Goes me.0.entry me.0.writer new_writer → me.0.in_writer ≡ true → me.0.in_readers ≡ false → R (stepped s 1 n id me.1 (gone_writer_of me.0) gives)
+      pub leaves_writer : Stays me.0.readers new_readers → GoesOn me.0.entry me.0.writer new_writer → me.0.in_writer ≡ true → me.0.in_readers ≡ false → R (stepped s 1 n id me.1 (gone_writer_of me.0) gives)
       leaves_writer readers writer was away = let w : View = gone_writer_of me.0 in let t = mine.0 in
           returned w refl (refl, refl, refl) (t, omega arith)
-          (readers_stay w readers (λ o. o) (λ j f. never (sym away ∙ f.1.0)) (λ j f. f) refl)
-          (writer_turned w (λ m. writer_settled w (writer.1 m)) (λ o. inr (inl o)) (left_stand IsFreshWriter w me.0.writer.waiting new_writer.waiting writer.0 (λ j f. f.1.1)) (left_stand IsEntryOfWriter w me.0.writer.entries new_writer.entries writer.2 (λ j f. f.1)) (left_placed is_in_writer w me.0.writer.entries new_writer.entries writer.3 was refl))
+          (readers_stay w readers (λ o. o) (refl, λ is. never (sym away ∙ is)))
+          (writer_leaves w writer.leaves (λ m. settled TellsWriter in_writer me.0.writer new_writer w (writer.told m)) (λ o. o) was refl)
 
       -- it has notified one
       pub pays_readers : Pays me.0.readers new_readers → Stays me.0.writer new_writer → R (stepped s 1 n id me.1 (paid_readers_of me.0) gives)
       pays_readers readers writer = let w : View = paid_readers_of me.0 in
-          let end : EndsReaders w = readers_settled w readers.1 in
-          returned w refl (refl, refl, refl) mine
-          (readers_turned w (λ _. end) (λ _. end) (λ j h. inl (readers.0 j h, λ f. f)) (same_stand IsEntryOfReaders w me.0.readers.entries new_readers.entries readers.2 (λ j f. f)) (same_placed is_in_readers w me.0.readers.entries new_readers.entries readers.2 refl))
-          (writer_stays w writer (λ o. o) (λ j f. f) (λ j f. f) refl)
+          returned w refl (refl, refl, refl) mine (list_pays OwesReaders in_readers me.0.readers new_readers w readers (refl, λ _. (refl, λ f. f))) (writer_stays w writer (λ o. o) (refl, λ _. (refl, λ f. f)))
 
       pub pays_writer : Stays me.0.readers new_readers → Pays me.0.writer new_writer → R (stepped s 1 n id me.1 (paid_writer_of me.0) gives)
       pays_writer readers writer = let w : View = paid_writer_of me.0 in
-          let end : EndsWriter w = writer_settled w writer.1 in
-          returned w refl (refl, refl, refl) mine
-          (readers_stay w readers (λ o. o) (λ j f. f) (λ j f. f) refl)
-          (writer_turned w (λ _. end) (λ _. end) (λ j h. inl (writer.0 j h, λ f. f)) (same_stand IsEntryOfWriter w me.0.writer.entries new_writer.entries writer.2 (λ j f. f)) (same_placed is_in_writer w me.0.writer.entries new_writer.entries writer.2 refl))
+          returned w refl (refl, refl, refl) mine (readers_stay w readers (λ o. o) (refl, λ _. (refl, λ f. f))) (list_pays TellsWriter in_writer me.0.writer new_writer w writer (refl, λ _. (refl, λ f. f)))
 
       -- nothing has changed
       pub remains : Stays me.0.readers new_readers → Stays me.0.writer new_writer → R (stepped s 1 n id me.1 (back me.0) gives)
-      remains readers writer = let w : View = back me.0 in returned w refl (refl, refl, refl) mine (readers_stay w readers (λ o. o) (λ j f. f) (λ j f. f) refl) (writer_stays w writer (λ o. o) (λ j f. f) (λ j f. f) refl)
+      remains readers writer = let w : View = back me.0 in
+          returned w refl (refl, refl, refl) mine (readers_stay w readers (λ o. o) (refl, λ _. (refl, λ f. f))) (writer_stays w writer (λ o. o) (refl, λ _. (refl, λ f. f)))
 
 -- ---- what the rule says of two seats: nobody reads or writes beside who writes
 pub alone_with : (S : Type 0) (readers_of writer_of : S → Listed) (s : State S View) → Ruled readers_of writer_of s → (i j : ℕ) (v w : View) → i ≢ j → get_elem? s.views i ≡ some v → get_elem? s.views j ≡ some w → v.writes ≡ true → (w.reads ≡ false) × (w.writes ≡ false)

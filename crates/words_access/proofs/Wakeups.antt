@@ -1,12 +1,12 @@
 -- What the rule says of the lists, and of who is inside.
-use Rattle.std.proofs.Common.{◌≡◌, ◌≤◌, length, sym, refl, ◌∙◌, subst, arith, inl, inr, ⊎_elim}
+use Rattle.std.proofs.Common.{◌≡◌, sym, refl, ◌∙◌, subst, arith, inl, inr, ⊎_elim}
 use Rattle.atomic_table.specs.Table.{State}
 use Rattle.words_base.specs.Sums.{weight, number}
-use Rattle.words_base.specs.Waiting.{AreOf}
+use Rattle.words_base.specs.Waiting.{Matched}
 use Rattle.words_base.proofs.Sums.{number-at}
-use Rattle.words_access.specs.Lists.{Listed}
-use Rattle.words_access.specs.Rule.{has_lists_out, is_in_readers, is_in_writer, marks_of, Ruled, IsEntryOfReaders, IsEntryOfWriter, IsFreshReader, IsFreshWriter, OwesReaders, TellsWriter, LosesNone}
-use Rattle.words_access.specs.Laws.{IsBitClear, AreReadersGone, NobodyWrites, AreListsHome, Lie, IsAtRest, NobodyWaitsToWrite, OwesWriter, IsSettled}
+use Rattle.words_base.specs.Lists.{Listed, IsSettled}
+use Rattle.words_access.specs.Rule.{has_lists_out, marks_of, Ruled, IsEntryOfReaders, IsEntryOfWriter, IsFreshReader, IsFreshWriter, OwesReaders, TellsWriter, LosesNone}
+use Rattle.words_access.specs.Laws.{IsBitClear, AreReadersGone, NobodyWrites, AreListsHome, Lie, IsAtRest, NobodyWaitsToWrite, OwesWriter}
 use Rattle.words_access.specs.declared.view.View.{View}
 use Rattle.words_access.proofs.Flags.{never, number-no, off}
 
@@ -21,14 +21,12 @@ module _ {S : Type 0} (readers_of writer_of : S → Listed) (s : State S View) (
     writer_home : AreReadersGone s → NobodyWrites s → (lists : S) × Lie s lists × LosesNone OwesWriter IsFreshWriter (writer_of lists) s.views
     writer_home is none = let h = r.home out in (h.0, h.1, owing (writer_of h.0) none (subst (λ l. LosesNone TellsWriter IsFreshWriter l s.views) (sym h.3) (r.left is)))
 
-  pub standing : AreListsHome s → (lists : S) × Lie s lists × AreOf IsEntryOfReaders (readers_of lists).entries s.views × AreOf IsEntryOfWriter (writer_of lists).entries s.views × (number is_in_readers s.views ≤ length (readers_of lists).entries) × (number is_in_writer s.views ≤ length (writer_of lists).entries)
+  pub standing : AreListsHome s → (lists : S) × Lie s lists × Matched IsEntryOfReaders (readers_of lists).entries s.views × Matched IsEntryOfWriter (writer_of lists).entries s.views
   standing even = let h = r.home (sym r.list_word.1 ∙ even) in (
     h.0,
     h.1,
-    subst (λ (l : Listed). AreOf IsEntryOfReaders l.entries s.views) (sym h.2) r.standing_readers,
-    subst (λ (l : Listed). AreOf IsEntryOfWriter l.entries s.views) (sym h.3) r.standing_writer,
-    subst (λ (l : Listed). number is_in_readers s.views ≤ length l.entries) (sym h.2) r.placed_readers,
-    subst (λ (l : Listed). number is_in_writer s.views ≤ length l.entries) (sym h.3) r.placed_writer,
+    subst (λ (l : Listed). Matched IsEntryOfReaders l.entries s.views) (sym h.2) r.readers_match,
+    subst (λ (l : Listed). Matched IsEntryOfWriter l.entries s.views) (sym h.3) r.writer_matches,
   )
 
   pub readers : IsBitClear s → AreListsHome s → (lists : S) × Lie s lists × LosesNone OwesReaders IsFreshReader (readers_of lists) s.views

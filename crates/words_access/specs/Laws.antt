@@ -1,10 +1,8 @@
 -- What the law speaks of: the writer's bit, who is inside, the lists, and who is inside a call.
-use Rattle.std.specs.Prelude.{◌≡◌, ℕ, ◌%◌, ◌<◌, ◌⊎◌, true, false, slice_index}
+use Rattle.std.specs.Prelude.{◌≡◌, ℕ, ◌%◌, true, false, slice_index}
 use mathlib.Core.Option.{some}
 use lib.ListN.{get_elem?}
 use Rattle.atomic_table.specs.Table.{State}
-use Rattle.words_access.specs.Lists.{Listed}
-use Rattle.words_base.specs.Waiting.{NoneWaits}
 use Rattle.words_access.specs.declared.view.View.{View}
 
 module _ {S : Type 0} (s : State S View) where
@@ -43,7 +41,3 @@ module _ {S : Type 0} (s : State S View) where
 -- It has to notify who waits until no reader is inside.
 abbrev pub OwesWriter : View → Type 0
 OwesWriter v = v.owes_writer ≡ true
-
--- Nobody waits in the list, or one in it is notified.
-abbrev pub IsSettled : Listed → Type 0
-IsSettled list = (0 < list.notified) ⊎ NoneWaits list.waiting

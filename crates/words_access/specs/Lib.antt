@@ -1,4 +1,3 @@
-pub mod Lists
 pub mod Rule
 pub mod Laws
 pub mod Seats

@@ -4,8 +4,8 @@ use mathlib.Core.Option.{some}
 use lib.ListN.{get_elem?}
 use Rattle.atomic_table.specs.Table.{State}
 use Rattle.words_base.specs.Sums.{weight, number}
-use Rattle.words_base.specs.Waiting.{SomeSeat, AreOf}
-use Rattle.words_access.specs.Lists.{Listed, nobody}
+use Rattle.words_base.specs.Waiting.{SomeSeat, AreOf, Matched}
+use Rattle.words_base.specs.Lists.{Listed, nobody}
 use Rattle.words_access.specs.declared.view.View.{View}
 
 abbrev pub first_view : View
@@ -23,12 +23,6 @@ writes_of v = v.writes
 
 abbrev pub has_lists_out : View → Bool
 has_lists_out v = v.has_lists
-
-abbrev pub is_in_readers : View → Bool
-is_in_readers v = v.in_readers
-
-abbrev pub is_in_writer : View → Bool
-is_in_writer v = v.in_writer
 
 -- It has to notify one of those that wait until the writer's bit is clear.
 abbrev pub OwesReaders : View → Type 0
@@ -91,12 +85,9 @@ pub record Ruled {S : Type 0} (readers_of writer_of : S → Listed) (s : State S
   pub writer : Listed
   pub clear : slice_index s.words 0 % 2 ≡ 0 → LosesNone OwesReaders IsFreshReader readers s.views
   pub left : slice_index s.words 0 ≡ 1 → LosesNone TellsWriter IsFreshWriter writer s.views
-  -- each entry of a list, notified or not, is of a seat that stands in it
-  pub standing_readers : AreOf IsEntryOfReaders readers.entries s.views
-  pub standing_writer : AreOf IsEntryOfWriter writer.entries s.views
-  -- no more seats stand in a list than it has entries
-  pub placed_readers : number is_in_readers s.views ≤ length readers.entries
-  pub placed_writer : number is_in_writer s.views ≤ length writer.entries
+  -- each entry of a list, notified or not, is of a seat that stands in it, each seat that stands there has its entry in it, and no two seats have one
+  pub readers_match : Matched IsEntryOfReaders readers.entries s.views
+  pub writer_matches : Matched IsEntryOfWriter writer.entries s.views
   pub unlisted : SaysEmpty (slice_index s.words 1) → (readers.waiting ≡ []) × (writer.waiting ≡ [])
   pub home : number has_lists_out s.views ≡ 0 → (lists : S) × (get_elem? s.homes 0 ≡ some (some lists)) × (readers_of lists ≡ readers) × (writer_of lists ≡ writer)
   pub out : (i : ℕ) (v : View) → get_elem? s.views i ≡ some v → v.has_lists ≡ true → (v.readers ≡ readers) × (v.writer ≡ writer)

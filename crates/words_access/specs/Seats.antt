@@ -1,6 +1,6 @@
 -- What each step makes of a seat's view.
 use Rattle.std.specs.Prelude.{ℕ, true, false}
-use Rattle.words_access.specs.Lists.{Listed, nobody}
+use Rattle.words_base.specs.Lists.{Listed, nobody}
 use Rattle.words_access.specs.declared.view.View.{View}
 
 abbrev pub having_found : ℕ → View → View

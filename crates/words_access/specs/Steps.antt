@@ -1,10 +1,8 @@
 -- What steps tell, and what a seat has that has the lists out.
-use Rattle.std.specs.Prelude.{◌≡◌, ◌≢◌, ℕ, ◌+◌, ◌%◌, ◌<◌, ◌≤◌, true, [], ◌∷◌, ◌++◌, length}
+use Rattle.std.specs.Prelude.{◌≡◌, ◌≢◌, ℕ, ◌%◌, ◌<◌, ◌≤◌, true, [], ◌∷◌}
 use Rattle.atomic_table.specs.Table.{Me, rest}
-use Rattle.words_access.specs.Lists.{Listed}
-use Rattle.words_base.specs.Waiting.{Fewer, JoinedBy, LeftBy, StaysTold, last_of}
+use Rattle.words_base.specs.Lists.{Listed, Stays, Pays, Joins, Leaves, GoesOn}
 use Rattle.words_access.specs.Rule.{SaysEmpty}
-use Rattle.words_access.specs.Laws.{IsSettled}
 use Rattle.words_access.specs.Seats.{having_found, saw_writer_of, saw_readers_of, reading_of, left_of, last_left_of, writing_of, marking_of, upgraded_of, eased_of, listing_of}
 use Rattle.words_access.specs.declared.view.View.{View}
 
@@ -57,26 +55,6 @@ module _ {S : Type 0} (readers_of writer_of : S → Listed) where
   abbrev pub IsHeld : Me S View → Type 0
   IsHeld m = (lists : S) × (m.0.has_lists ≡ true) × (m.0.readers ≡ readers_of lists) × (m.0.writer ≡ writer_of lists) × (m.1 ≡ (0, lists) ∷ rest m.1)
 
--- Nobody waits that didn't before; if one was notified, one is, or nobody waits; and the same entries stand in it.
-abbrev pub Stays : Listed → Listed → Type 0
-Stays old new = Fewer old.waiting new.waiting × StaysTold old.notified new.waiting new.notified × (new.entries ≡ old.entries)
-
--- One has joined at the end, with this number.
-abbrev pub Joins : ℕ → Listed → Listed → Type 0
-Joins k old new = JoinedBy k old.waiting new.waiting × (last_of new.waiting ≡ k) × (old.notified ≤ new.notified) × (new.entries ≡ old.entries ++ k ∷ [])
-
--- The entry of this number was notified, and has left, and no other has.
-abbrev pub Hears : ℕ → Listed → Listed → Type 0
-Hears k old new = Fewer old.waiting new.waiting × LeftBy k old.entries new.entries × (length old.entries ≤ length new.entries + 1)
-
--- The entry of this number has left, and no other has: what it was notified of has gone on.
-abbrev pub Goes : ℕ → Listed → Listed → Type 0
-Goes k old new = LeftBy k old.waiting new.waiting × StaysTold old.notified new.waiting new.notified × LeftBy k old.entries new.entries × (length old.entries ≤ length new.entries + 1)
-
--- One is notified, or nobody waits; and the same entries stand in it.
-abbrev pub Pays : Listed → Listed → Type 0
-Pays old new = Fewer old.waiting new.waiting × IsSettled new × (new.entries ≡ old.entries)
-
 -- The lists that are out with a seat may be given back with this word.
 module _ {S : Type 0} (readers_of writer_of : S → Listed) (m : Me S View) (n : ℕ) where
   -- The lists are out with the seat, and the word says whether they have entries.
@@ -93,17 +71,17 @@ module _ {S : Type 0} (readers_of writer_of : S → Listed) (m : Me S View) (n :
 
   -- A reader that was notified has left.
   abbrev pub CanHearReader : Type 0
-  CanHearReader = (lists : S) × Out lists × Hears m.0.entry m.0.readers (readers_of lists) × Stays m.0.writer (writer_of lists)
+  CanHearReader = (lists : S) × Out lists × Leaves m.0.entry m.0.readers (readers_of lists) × Stays m.0.writer (writer_of lists)
 
   abbrev pub CanHearWriter : Type 0
-  CanHearWriter = (lists : S) × Out lists × Stays m.0.readers (readers_of lists) × Hears m.0.entry m.0.writer (writer_of lists)
+  CanHearWriter = (lists : S) × Out lists × Stays m.0.readers (readers_of lists) × Leaves m.0.entry m.0.writer (writer_of lists)
 
   -- The seat's entry has left the readers: what it was notified of has gone on.
   abbrev pub CanLeaveReaders : Type 0
-  CanLeaveReaders = (lists : S) × Out lists × Goes m.0.entry m.0.readers (readers_of lists) × Stays m.0.writer (writer_of lists)
+  CanLeaveReaders = (lists : S) × Out lists × GoesOn m.0.entry m.0.readers (readers_of lists) × Stays m.0.writer (writer_of lists)
 
   abbrev pub CanLeaveWriter : Type 0
-  CanLeaveWriter = (lists : S) × Out lists × Stays m.0.readers (readers_of lists) × Goes m.0.entry m.0.writer (writer_of lists)
+  CanLeaveWriter = (lists : S) × Out lists × Stays m.0.readers (readers_of lists) × GoesOn m.0.entry m.0.writer (writer_of lists)
 
   -- A reader is notified.
   abbrev pub CanPayReaders : Type 0

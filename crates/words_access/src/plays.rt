@@ -123,7 +123,7 @@ impl<S: Content> Play<S, View> for JoinsReaders {
     ghost use Rattle.words_base.specs.Waiting.{last_of};
     ghost use Rattle.words_access.specs.Seats.{joined_readers_of};
 
-    ghost then = { λ _ m _ m'. (lists : S) × (m.1 ≡ (0, lists) ∷ rest m.1) × (m' ≡ (joined_readers_of (last_of (S.readers lists).waiting) m.0, rest m.1)) };
+    ghost then = { λ _ m _ m'. (lists : S) × (m.1 ≡ (0, lists) ∷ rest m.1) × (m' ≡ (joined_readers_of (last_of (S.readers lists).entries) m.0, rest m.1)) };
 }
 
 // The same, of the writer's list.
@@ -135,7 +135,7 @@ impl<S: Content> Play<S, View> for JoinsWriter {
     ghost use Rattle.words_base.specs.Waiting.{last_of};
     ghost use Rattle.words_access.specs.Seats.{joined_writer_of};
 
-    ghost then = { λ _ m _ m'. (lists : S) × (m.1 ≡ (0, lists) ∷ rest m.1) × (m' ≡ (joined_writer_of (last_of (S.writer lists).waiting) m.0, rest m.1)) };
+    ghost then = { λ _ m _ m'. (lists : S) × (m.1 ≡ (0, lists) ∷ rest m.1) × (m' ≡ (joined_writer_of (last_of (S.writer lists).entries) m.0, rest m.1)) };
 }
 
 // The same, where its entry was notified, and has left the readers: the seat owes.

@@ -1,6 +1,6 @@
 //! The rule of the table.
 
-ghost use Rattle.words_access.specs.Lists.{Listed};
+ghost use Rattle.words_base.specs.Lists.{Listed};
 
 use crate::view::View;
 use atomic_table::TableRule;

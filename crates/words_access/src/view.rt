@@ -2,7 +2,7 @@
 
 ghost use Rattle.std.specs.Prelude.{ℕ};
 ghost use Rattle.std.specs.Coded.{coded_ℕ};
-ghost use Rattle.words_access.specs.Lists.{Listed, listed_coded};
+ghost use Rattle.words_base.specs.Lists.{Listed, listed_coded};
 
 use std::marker::Model;
 
