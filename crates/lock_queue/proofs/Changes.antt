@@ -1,5 +1,5 @@
 -- What the calls on a list do to those that wait in it.
-use Rattle.words_base.specs.Waiting.{Has, NoneWaits, Fewer, JoinedBy, LeftBy, StaysTold, unless, all_but, last_of}
+use Rattle.words_base.specs.Waiting.{Has, NoneWaits, Fewer, StaysTold, unless, last_of}
 use Rattle.std.proofs.Common.{◌≡◌, ◌≢◌, ℕ, ◌+◌, ◌-◌, ◌<◌, ◌≤◌, ◌==◌, ◌||◌, if◌then◌else◌, Bool, true, false, not, List, [], ◌∷◌, ◌++◌, length, refl, sym, ap, ◌∙◌, subst, arith, ◌⊎◌, inl, inr, ⊎_elim, Option, Some, None, Result, Ok, Err, IfOk, eq-eqb, ne_eqb, true≢false}
 use mathlib.Core.Logic.{dite}
 use native.Mathlib.Decide.{ℕ_discrete}
@@ -14,7 +14,7 @@ use Rattle.lock_event.specs.Lists.{is_marked, marked_count, entry, joined, mark_
 use Rattle.lock_event.specs.Slots.{without_waker, has_id, slot_of, is_due, emptied, HasAsked}
 use Rattle.lock_event.proofs.Counts.{marked_count-notified}
 use Rattle.lock_event.proofs.Marks.{length-mark_waiting, marked_count-joined, marked_count-with_key}
-use Rattle.lock_queue.specs.Entries.{waiting_in, numbers_in, IsKept, HasJoined, IsTold, AreTold, IsGone, HasLeft}
+use Rattle.lock_queue.specs.Entries.{waiting_in, IsKept, HasJoined, IsTold, AreTold, IsGone, HasLeft}
 use Rattle.lock_queue.specs.Sizes.{StaysNotified}
 use Rattle.words_base.proofs.Waiting.{joined_by, last-pushed}
 use Rattle.lock_queue.proofs.Numbers.{numbers-mark, numbers-without_waker, numbers-with_key, numbers-joined, is_new, left_by_id, asked_by_id}

@@ -1,13 +1,10 @@
 -- What the calls on a list do to its sizes.
-use Rattle.std.proofs.Common.{◌≡◌, ◌+◌, ◌-◌, ◌≤◌, Bool, List, [], ◌∷◌, length, refl, sym, ap, ◌∙◌, subst, arith, Option}
+use Rattle.std.proofs.Common.{◌≡◌, ◌-◌, Bool, List, [], ◌∷◌, length, refl, ◌∙◌, arith}
 use Rattle.lock_event.specs.declared.event.Entry.{Entry}
-use Rattle.lock_event.specs.declared.event.EntryId.{EntryId}
 use Rattle.lock_event.specs.declared.event.Mark.TheVariants.{Notified}
 use Rattle.lock_event.specs.declared.event.Slot.{Slot}
-use Rattle.lock_event.specs.declared.event.Asked.{Asked}
-use Rattle.lock_event.specs.declared.event.Asked.TheVariants as asked
 use Rattle.lock_event.specs.Lists.{marked_count, joined, notified, left, without, with_key, mark_at}
-use Rattle.lock_event.specs.Slots.{without_waker, has_id, slot_of, HasAsked}
+use Rattle.lock_event.specs.Slots.{without_waker}
 use Rattle.lock_event.proofs.Counts.{length-joined, marked_count-notified, marked_count-left, length-passed_on}
 use Rattle.lock_event.proofs.Marks.{length-mark_waiting, marked_count-joined, marked_count-with_key}
 use Rattle.lock_queue.specs.Sizes.{IsOneMore, IsOneNotified, StaysNotified, IsSameSize}

@@ -1,5 +1,5 @@
 -- Each step on the table keeps its rule: as the table asks it of a call.
-use Rattle.std.proofs.Common.{◌≡◌, ℕ, ◌+◌, ◌%◌, ◌<◌, bit_or, lt_of_not-le, false, List, [], ◌∷◌, get_or, sym, refl, ap, ◌∙◌, subst, arith, ⊎_elim, inl, inr, true, ◌≤◌}
+use Rattle.std.proofs.Common.{◌≡◌, ℕ, ◌+◌, ◌%◌, ◌<◌, bit_or, lt_of_not-le, false, [], ◌∷◌, get_or, sym, refl, ap, ◌∙◌, subst, arith, ⊎_elim, inl, inr, true}
 use mathlib.Core.Logic.{dite}
 use native.Mathlib.Decide.{dec_le, ℕ_discrete}
 use Rattle.atomic_table.specs.Table.{State, Me, keeps, takes, gives, rest, Enters, Allows}

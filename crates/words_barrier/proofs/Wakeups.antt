@@ -1,5 +1,5 @@
 -- What the rule says of who waits for a generation.
-use Rattle.std.proofs.Common.{◌≡◌, ℕ, ◌≤◌, List, length, sym, ◌∙◌, subst, ⊎_elim}
+use Rattle.std.proofs.Common.{◌≡◌, sym, ◌∙◌, subst, ⊎_elim}
 use Rattle.atomic_table.specs.Table.{State}
 use Rattle.words_base.specs.Sums.{number}
 use Rattle.words_base.specs.Lists.{Listed}

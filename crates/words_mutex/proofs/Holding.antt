@@ -1,5 +1,5 @@
 -- What a seat has that has taken the list out.
-use Rattle.std.proofs.Common.{◌≡◌, ℕ, List, ◌∷◌, [], sym, ap, ◌∙◌}
+use Rattle.std.proofs.Common.{◌≡◌, ℕ, List, ◌∷◌, sym, ap, ◌∙◌}
 use Rattle.atomic_table.specs.Table.{Me, rest}
 use Rattle.words_base.specs.Waiting.{last_of}
 use Rattle.words_base.proofs.Holding.{same_out}

@@ -1,5 +1,5 @@
 -- What the rule says of who waits.
-use Rattle.std.proofs.Common.{◌≡◌, ℕ, ◌<◌, ◌≤◌, true, List, sym, ◌∙◌, subst, arith, ◌⊎◌, inl, inr, ⊎_elim, length}
+use Rattle.std.proofs.Common.{◌≡◌, ℕ, ◌<◌, ◌≤◌, true, List, sym, ◌∙◌, subst, arith, ◌⊎◌, inl, inr, ⊎_elim}
 use Rattle.atomic_table.specs.Table.{State}
 use Rattle.words_mutex.proofs.Flags.{never, number-no}
 use Rattle.words_base.specs.Waiting.{Matched}
