@@ -1,5 +1,5 @@
 -- What is known of a list that is about to be given back.
-use Rattle.std.proofs.Common.{◌≡◌, ℕ, List, ◌∷◌, refl, sym, ap, ◌∙◌, subst, Result, Ok, Err, IfOk, OnErr, MatchResult, inl}
+use Rattle.std.proofs.Common.{◌≡◌, ℕ, ◌∷◌, refl, sym, ap, ◌∙◌, subst, Result, Ok, Err, IfOk, OnErr, MatchResult}
 use Rattle.atomic_table.specs.Table.{Me, rest}
 use Rattle.lock_queue.specs.Asking.{ByHeard}
 use Rattle.lock_queue.specs.Entries.{IsKept, HasJoined, AreTold, IsGone, HasLeft}

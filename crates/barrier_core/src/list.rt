@@ -1,6 +1,6 @@
 //! What lies in the slot of a barrier's table: its list.
 
-ghost use Rattle.std.specs.Prelude.{◌≡◌, ◌%◌, []};
+ghost use Rattle.std.specs.Prelude.{◌≡◌, []};
 ghost use Rattle.lock_queue.specs.Queues.{entries_of};
 ghost use Rattle.barrier_core.specs.Lists.{Says};
 

@@ -2,7 +2,7 @@
 
 ghost use Rattle.std.specs.Prelude.{◌≡◌, true, false, OnErr, IfOk};
 ghost use Rattle.futures.specs.Task.{Keeps};
-ghost use Rattle.lock_event.specs.Lists.{is_waiting_at, is_listed};
+ghost use Rattle.lock_event.specs.Lists.{is_waiting_at};
 ghost use Rattle.lock_event.specs.Slots.{has_id};
 ghost use Rattle.lock_queue.specs.Asking.{ByHeard};
 ghost use Rattle.lock_queue.specs.Entries.{IsKept, HasJoined, IsTold, AreTold, IsGone, HasLeft};

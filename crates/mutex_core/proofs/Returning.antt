@@ -1,5 +1,5 @@
 -- What is known of a list that is about to be given back.
-use Rattle.std.proofs.Common.{◌≡◌, ℕ, ◌<◌, ◌≤◌, ◌+◌, List, [], ◌∷◌, ◌++◌, length, arith, refl, sym, ap, ◌∙◌, subst, Result, Ok, Err, IfOk, OnErr, MatchResult}
+use Rattle.std.proofs.Common.{◌≡◌, ℕ, ◌<◌, ◌+◌, List, [], ◌∷◌, ◌++◌, length, arith, refl, sym, ap, ◌∙◌, subst, Result, Ok, Err, IfOk, OnErr, MatchResult}
 use Rattle.atomic_table.specs.Table.{Me, rest}
 use Rattle.lock_event.specs.Lists.{marked_count}
 use Rattle.lock_queue.specs.Asking.{ByHeard}

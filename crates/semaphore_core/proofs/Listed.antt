@@ -1,5 +1,5 @@
 -- What the calls on a list do to who stands in it.
-use Rattle.std.proofs.Common.{eq-eqb, ◌≡◌, ◌≢◌, ℕ, zero, suc, ◌<◌, ◌≤◌, Bool, true, false, ◌||◌, ◌==◌, if◌then◌else◌, List, [], ◌∷◌, ◌++◌, refl, sym, ap, ◌∙◌, subst, arith, true≢false, MatchBool, Result, Ok, Err, IfOk, Option, None, length, ◌+◌}
+use Rattle.std.proofs.Common.{◌≡◌, ℕ, zero, suc, ◌<◌, ◌≤◌, Bool, true, false, ◌||◌, ◌==◌, if◌then◌else◌, List, [], ◌∷◌, ◌++◌, refl, sym, ap, ◌∙◌, subst, arith, MatchBool, Result, Ok, Err, IfOk, Option, None, ◌+◌}
 use Rattle.std.proofs.lemmas.Bool.{eqb-true, le-leb, leb-true}
 use mathlib.Core.Option.{some, some-injective, some-ne-none}
 use lib.ListN.{get_elem?}

@@ -1,7 +1,6 @@
 //! What a seat knows of itself.
 
 ghost use Rattle.std.specs.Prelude.{ℕ};
-ghost use Rattle.std.specs.Coded.{coded_ℕ};
 ghost use Rattle.words_base.specs.Lists.{Listed, listed_coded};
 
 use std::marker::Model;

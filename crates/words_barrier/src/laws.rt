@@ -1,6 +1,5 @@
 //! What the rule says of who waits for a generation.
 
-ghost use Rattle.std.specs.Prelude.{ℕ, ◌⊎◌};
 ghost use Rattle.atomic_table.specs.Table.{State};
 ghost use Rattle.words_base.specs.Waiting.{AreOf, Matched};
 ghost use Rattle.words_barrier.specs.Rule.{Ruled, LosesNone, IsEntryOf};

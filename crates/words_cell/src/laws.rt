@@ -1,6 +1,6 @@
 //! What the rule says of an empty and of a full cell.
 
-ghost use Rattle.std.specs.Prelude.{ℕ, Bool, ◌<◌, ◌⊎◌};
+ghost use Rattle.std.specs.Prelude.{Bool, ◌<◌, ◌⊎◌};
 ghost use Rattle.atomic_table.specs.Table.{State};
 ghost use Rattle.words_base.specs.Waiting.{NoneWaits, Matched};
 ghost use Rattle.words_cell.specs.Rule.{Ruled, IsActiveEntryOf, IsPassiveEntryOf, LosesNoneEmpty, LosesNoneFull};
