@@ -3,7 +3,7 @@
 # and a future can be dropped, and what can be dropped may be forgotten too.
 #
 # The library is the crates async_lock and lockrun with all that they stand on by crates.txt. In their sources, outside comments,
-# - nothing is forgotten, leaked or made raw: no `mem::forget`, no `ManuallyDrop`, no `leak`, no `into_raw`;
+# - nothing is forgotten, leaked or made raw: no `forget` of any module, no `ManuallyDrop`, no `leak`, no `into_raw`;
 # - each drop that is written by hand takes `self` apart in its first statement, with each field by its name and none by `..`, or an
 #   enum by its variants;
 # - each guard and future of the public types has such a drop.
@@ -36,7 +36,7 @@ BY_ANOTHER = {(path, "drop(self.into_inner());") for path in ("crates/async_rwlo
 }
 
 FORGETS = re.compile(
-    r"\bmem\s*::\s*(forget|\*|\{[^}]*\bforget\b)|(?<![.\w:])(?<!fn )forget\s*(\(|::<)|\buse\b[^;]*[:{,\s]forget\s*[,;}]"
+    r"\b[a-z]\w*\s*::\s*forget\b|\bmem\s*::\s*(\*|\{[^}]*\bforget\b)|(?<![.\w:])(?<!fn )forget\s*(\(|::<)|\buse\b[^;]*[:{,\s]forget\s*[,;}]"
     r"|\bManuallyDrop\b|\bMaybeUninit\b|\bleak\b|\binto_raw"
 )
 DROP = re.compile(r"\bDrop\s+for\s+(\w+)[^{;]*?\{(?:\s*#\[[^\]]*\])*\s*fn\s+drop\s*\(\s*self\s*\)[^{]*\{\s*(match self \{|[^;]*;)")
@@ -93,6 +93,7 @@ PLANTED = [
     "use std::mem::forget;",
     "use std::mem::{self, forget};",
     "use std::mem::*;",
+    "use std::mem as memory; memory::forget(guard);",
     "forget(self);",
     "let kept = ManuallyDrop::new(guard);",
     "let value = Box::leak(boxed);",
