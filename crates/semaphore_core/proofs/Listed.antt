@@ -16,7 +16,8 @@ use Rattle.lock_event.proofs.Counts.{marked_count-without_waiting}
 use Rattle.weighted_event.proofs.Weights.{fitted_none}
 use Rattle.lock_event.proofs.Marks.{marked_count-joined, marked_count-with_key}
 use Rattle.words_base.specs.Sums.{weight, number}
-use Rattle.words_permits.specs.Waiters.{Waiter, waiter, is_of, StandsIn, HasNo, unless, all_but}
+use Rattle.words_permits.specs.Waiters.{Waiter, waiter, is_of, StandsIn, HasNo, all_but}
+use Rattle.words_base.specs.Waiting.{unless}
 use Rattle.words_permits.proofs.Owners.{all-stay}
 use Rattle.semaphore_core.specs.Entries.{waiters_in, HasJoined, HasLeft, IsGone, IsSame, IsTold}
 

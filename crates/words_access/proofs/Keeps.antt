@@ -381,7 +381,7 @@ module _ (S : Type 0) (readers_of writer_of : S → Listed) where
       -- the seat has joined it
       list_joins : (k : ℕ) → Joins k old new → (Tells me.0 → Tells w) → stands me.0 ≡ false → IsFresh k w → Turns
       list_joins k l tells away is = (
-        turned (λ m. inl (l.told m)) (λ o. inr (inl (tells o))) (λ n h. ⊎_elim (λ was. inl (was, λ f. never (sym away ∙ f.1.0))) (λ e. inr (is.0, (is.1.0, is.1.1 ∙ sym e))) (l.joined n h)),
+        turned (λ m. inl (let more = l.notified in omega arith)) (λ o. inr (inl (tells o))) (λ n h. ⊎_elim (λ was. inl (was, λ f. never (sym away ∙ f.1.0))) (λ e. inr (is.0, (is.1.0, is.1.1 ∙ sym e))) (l.joined n h)),
         λ m. with_entries (old.entries ++ k ∷ []) l.entries (matched.joined IsOf old.entries s.views id me.0 at m k w (λ n f. never (sym away ∙ f.0)) is.1 (λ n f. sym f.1 ∙ is.1.1) l.fresh),
       )
 

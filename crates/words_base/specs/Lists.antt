@@ -1,7 +1,7 @@
 -- What the rule of a table sees of a waiting list, and what becomes of a list while it is out.
-use Rattle.std.specs.Prelude.{◌≡◌, ℕ, ◌<◌, ◌⊎◌, List, [], ◌∷◌, ◌++◌, refl}
+use Rattle.std.specs.Prelude.{◌≡◌, ℕ, ◌<◌, ◌≤◌, ◌⊎◌, List, [], ◌∷◌, ◌++◌, refl}
 use Rattle.std.specs.Coded.{Coded, code_by, coded×, coded_list, coded_ℕ}
-use Rattle.words_base.specs.Waiting.{IsNew, NoneWaits, Fewer, JoinedBy, LeftBy, StaysTold, all_but}
+use Rattle.words_base.specs.Waiting.{IsNew, NoneWaits, Fewer, JoinedBy, LeftBy, StaysTold, all_but, last_of}
 
 -- The numbers of its entries; of those that are not notified; and how many are.
 pub record Listed : Type 0 where
@@ -25,7 +25,7 @@ pub record Stays (old new : Listed) : Type 0 where
   pub fewer : Fewer old.waiting new.waiting
   pub told : StaysTold old.notified new.waiting new.notified
 
--- The same, and it is settled.
+-- The same entries stand in it, nobody waits that didn't before, and it is settled.
 pub record Pays (old new : Listed) : Type 0 where
   pub entries : new.entries ≡ old.entries
   pub fewer : Fewer old.waiting new.waiting
@@ -36,12 +36,13 @@ pub record PaysAll (old new : Listed) : Type 0 where
   pub entries : new.entries ≡ old.entries
   pub none_waits : NoneWaits new.waiting
 
--- The entry of this number, which no other has, has joined at the back; and if one was notified, one is.
+-- The entry of this number, which no other had, has joined at the back, and waits; and no fewer are notified.
 pub record Joins (k : ℕ) (old new : Listed) : Type 0 where
   pub entries : new.entries ≡ old.entries ++ k ∷ []
   pub fresh : IsNew k old.entries
   pub joined : JoinedBy k old.waiting new.waiting
-  pub told : 0 < old.notified → 0 < new.notified
+  pub last : last_of new.waiting ≡ k
+  pub notified : old.notified ≤ new.notified
 
 -- The entry of this number has left, and each other stands where it did.
 pub record Leaves (k : ℕ) (old new : Listed) : Type 0 where

@@ -26,8 +26,8 @@ JoinedBy k old new = (n : ℕ) → Has n new → Has n old ⊎ (n ≡ k)
 abbrev pub LeftBy : ℕ → List ℕ → List ℕ → Type 0
 LeftBy k old new = (n : ℕ) → Has n new → Has n old × (n ≢ k)
 
--- The list with this number at its front, unless this is so.
-abbrev pub unless : Bool → ℕ → List ℕ → List ℕ
+-- The list with this one at its front, unless this is so.
+abbrev pub unless : {A : Type 0} → Bool → A → List A → List A
 unless true n ns = ns
 unless false n ns = n ∷ ns
 

@@ -411,7 +411,7 @@ module _ (S : Type 0) (active_of passive_of : S → Listed) where
             let act : Active w = λ j h. ⊎_elim (λ old. inl (old, λ f. never (sym away ∙ f.1.0))) (λ e. inr (refl, (refl, sym e))) (joins.joined j h) in
             let pas = passive_fewer w stay.fewer (λ j f. never (sym off ∙ f.1.0)) in
             let match : Match w = (joined_match (λ v. v.in_active) me.0.active new_active active_known w k joins away refl refl, away_match (λ v. v.in_passive) me.0.passive new_passive passive_known w stay.entries off off) in
-            returned w refl (refl, refl, refl) match (emptying w (λ m. inl (joins.told m)) (λ o. inr (inl o)) act) (filling w (λ o. inl o) (λ o. inl o) act pas)
+            returned w refl (refl, refl, refl) match (emptying w (λ m. inl (let more = joins.notified in omega arith)) (λ o. inr (inl o)) act) (filling w (λ o. inl o) (λ o. inl o) act pas)
 
         pub joins_passive : (k : ℕ) → Stays me.0.active new_active → Joins k me.0.passive new_passive → me.0.in_active ≡ false → me.0.in_passive ≡ false → R (stepped s 1 n id me.1 (joined_passive_of k me.0) gives)
         joins_passive k stay joins away off = let w : View = joined_passive_of k me.0 in

@@ -8,8 +8,9 @@ use Rattle.atomic_table.proofs.Lists.{set_else, at_longer, at_snoc}
 use Rattle.words_base.specs.Sums.{weight, number}
 use Rattle.words_base.proofs.Sums.{number-snoc}
 use Rattle.words_base.specs.Waiting as waiting
+use Rattle.words_base.specs.Waiting.{unless}
 use Rattle.words_permits.specs.Rule.{SomeSeat}
-use Rattle.words_permits.specs.Waiters.{Waiter, StandsIn, last_or, is_of, numbers, unless, all_but, HasNo, IsSound}
+use Rattle.words_permits.specs.Waiters.{Waiter, StandsIn, last_or, is_of, numbers, all_but, HasNo, IsSound}
 use Rattle.words_permits.specs.declared.view.View.{View}
 
 pub set_at : {A : Type 0} (l : List A) (i : ℕ) (v w : A) → get_elem? l i ≡ some v → get_elem? (set l i w) i ≡ some w
@@ -61,7 +62,7 @@ pub numbers-snoc : (l : List Waiter) (w : Waiter) → numbers (l ++ w ∷ []) �
 numbers-snoc [] w = refl
 numbers-snoc (x ∷ xs) w = ap (λ (ns : List ℕ). x.entry ∷ ns) (numbers-snoc xs w)
 
-numbers_head : (b : Bool) (x : Waiter) (l : List Waiter) (ns : List ℕ) → numbers l ≡ ns → numbers (unless b x l) ≡ waiting.unless b x.entry ns
+numbers_head : (b : Bool) (x : Waiter) (l : List Waiter) (ns : List ℕ) → numbers l ≡ ns → numbers (unless b x l) ≡ unless b x.entry ns
 numbers_head true x l ns same = same
 numbers_head false x l ns same = ap (λ (ms : List ℕ). x.entry ∷ ms) same
 

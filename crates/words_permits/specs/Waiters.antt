@@ -1,9 +1,10 @@
 -- Who stands in a semaphore's list.
-use Rattle.std.specs.Prelude.{◌≡◌, ℕ, ◌<◌, ◌≤◌, Bool, ◌==◌, true, false, List, [], ◌∷◌, refl}
+use Rattle.std.specs.Prelude.{◌≡◌, ℕ, ◌<◌, ◌≤◌, Bool, ◌==◌, List, [], ◌∷◌, refl}
 use Rattle.std.specs.Coded.{Coded, code_by, coded×, coded_ℕ, coded_list}
 use mathlib.Core.Option.{some}
 use lib.ListN.{get_elem?}
 use Rattle.words_base.specs.Sums.{number}
+use Rattle.words_base.specs.Waiting.{unless}
 
 -- the number of an entry, and for how many permits it waits
 pub record Waiter : Type 0 where
@@ -40,11 +41,6 @@ HasNo entry l = number (is_of entry) l ≡ 0
 abbrev pub numbers : List Waiter → List ℕ
 numbers [] = []
 numbers (w ∷ ws) = w.entry ∷ numbers ws
-
--- the list with this one at its front, unless something is so
-abbrev pub unless : Bool → Waiter → List Waiter → List Waiter
-unless true w ws = ws
-unless false w ws = w ∷ ws
 
 -- all of a list but the entry of this number
 abbrev pub all_but : ℕ → List Waiter → List Waiter
