@@ -2,7 +2,7 @@
 # Looks that whole calls act by a lock's single actions alone. By contract each of these asks that the call has come to its place, and moves
 # the call's course by what it found. That a whole call doesn't move the course by itself, or reach past the actions to the words and lists,
 # no contract can say, since both stand in one crate. (A whole call may take a seat, and make a whole call on the mutex inside its lock.)
-# Nor can one say that a seat isn't taken apart within its own crate, and what it steps with dropped, duty and all: where that is done is counted.
+# Nor can one say that what a seat steps with isn't made beside all seats, stepped with and dropped, duty and all: only seat.rt of each core makes it.
 #
 # At first it plants such lines in a copy of each file of whole calls, and fails if it doesn't find them.
 #
@@ -27,20 +27,8 @@ MOVES = re.compile(r"\.go\(")
 PAST = re.compile(r"list_steps|::steps\b|\.table\b|self\.access\.(?!sit\b|sit_and_look\b)|self\.turn\.(?!cancel\b|first_look\b|poll_first\b|poll_later\b)")
 MAKES = re.compile(r"\b(Course|Standing|Snapshot)(::of\(|\s*\{)")
 
-# Where a seat is taken apart, or what it steps with is dropped, how often: as it rises; where two that can't be meet; and where the seat of a lock that nobody
-# else may reach has given all back.
-APART = re.compile(r"\blet\s+Seat\s*\{|\bdrop\(\s*(\w+\.)*inner\s*\)|\blet\s+(mut\s+)?\w+\s*=\s*\w+\.inner\s*;")
-TAKEN_APART = {
-    "crates/mutex_core/src/alone.rt": 2,
-    "crates/mutex_core/src/left.rt": 3,
-    "crates/mutex_core/src/seat.rt": 1,
-    "crates/semaphore_core/src/seat.rt": 2,
-    "crates/cell_core/src/seat.rt": 1,
-    "crates/barrier_core/src/seat.rt": 1,
-    "crates/access_core/src/alone.rt": 2,
-    "crates/access_core/src/pledge.rt": 1,
-    "crates/access_core/src/seat.rt": 1,
-}
+# Only seat.rt of a core makes what a seat steps with, and puts it into a seat, which the compiler lets no other file take apart.
+MADE_ANEW = re.compile(r"\w*_new_seat\b|\binto_seat\b")
 
 
 def code(path):
@@ -58,17 +46,16 @@ def found(path, text):
         yield f"{path}: a course is made outside {' and '.join(it + '.rt' for it in MADE)}"
 
 
-def found_apart(path, text):
-    count = len(APART.findall(text))
-    if count != TAKEN_APART.get(path, 0):
-        yield f"{path}: a seat is taken apart {count} times"
+def found_anew(path, text):
+    if not path.endswith("/seat.rt") and MADE_ANEW.search(text):
+        yield f"{path}: what a seat steps with is made outside seat.rt"
 
 
 paths = [path for crate in (*CALLS, "access_core") for path in sorted(glob.glob(f"crates/{crate}/src/*.rt"))]
-faults = [it for path in paths for it in (*found(path, code(path)), *found_apart(path, code(path)))]
+faults = [it for path in paths for it in (*found(path, code(path)), *found_anew(path, code(path)))]
 for path in paths:
-    for planted in ("let Seat { inner, course } = seat;", "drop(seat.inner);", "drop(inner);", "let inner = seat.inner;"):
-        if not list(found_apart(path, code(path) + planted)):
+    for planted in ("self.table.shared.load_new_seat::<Keep>(WORD);", "badge.into_seat();"):
+        if not path.endswith("/seat.rt") and not list(found_anew(path, code(path) + planted)):
             faults.append(f"{path}: a planted line is not found: {planted}")
 for crate, names in CALLS.items():
     for name in names:
@@ -76,6 +63,6 @@ for crate, names in CALLS.items():
         for planted in ("seat.go(at, Found::Done);", "Course::of(&next);", "self.access.off(&mut seat);", "self.table.shared.peek(WORD);"):
             if not list(found(path, code(path) + planted)):
                 faults.append(f"{path}: a planted line is not found: {planted}")
-print("\n".join(faults) or f"the calls of {len(CALLS)} locks act by their single actions alone, and no seat is taken apart but where it ends")
+print("\n".join(faults) or f"the calls of {len(CALLS)} locks act by their single actions alone, and only their seats step")
 sys.exit(bool(faults))
 PYTHON

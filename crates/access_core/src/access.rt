@@ -1,7 +1,7 @@
 //! A read-write lock's state and its two lists: each single action on the state.
 
 ghost use Rattle.std.specs.Prelude.{◌≡◌, ◌≢◌, ◌<◌, ◌≤◌, ◌%◌, ◌/◌, true, false, min, IfOk, MatchBool};
-ghost use Rattle.access_core.specs.Accesses.{IsOf, IsIdle, IsReading, IsWriting, IsMarking, entering, with_found, with_saw_writer, with_saw_readers, with_reading, with_left, with_last_left, with_writing, with_mark, with_down, with_unmarked, with_ease};
+ghost use Rattle.access_core.specs.Accesses.{IsOf, IsIdle, IsReading, IsWriting, IsMarking, with_found, with_saw_writer, with_saw_readers, with_reading, with_left, with_last_left, with_writing, with_mark, with_down, with_unmarked, with_ease};
 ghost use Rattle.access_core.specs.Found.{OnReading, OnEntering, OnReaders, OnLeft, OnMarking};
 
 use crate::found::{Entering, Left, Marking, Readers, Reading};
@@ -16,7 +16,7 @@ use words_access::steps::{
     ENTRIES, FREE, MARK, READER, READERS_LIMIT, STATE, down, enter, leave, look, look_left, mark,
     peek, try_upgrade, try_write, unmark, upgrade,
 };
-use words_access::{AccessRule, Keep, View};
+use words_access::{AccessRule, View};
 
 /// A read-write lock's state and its two lists, without its turn and its value: the writer's bit, who reads, and who waits.
 ///
@@ -92,23 +92,6 @@ impl Access {
     /// Returns how many read at some moment of the call.
     pub fn readers(&self) -> u64 {
         self.table.shared.peek(STATE) / READER
-    }
-
-    /// Returns a new seat, with nothing: one load.
-    #[inline]
-    pub fn sit(&self) -> Seat
-        ensures { result ≡ entering self.now result.id }
-    {
-        self.sit_and_look().0
-    }
-
-    /// Returns a new seat as [`Access::sit`] does, with what its one load found in the state.
-    #[inline]
-    pub fn sit_and_look(&self) -> (Seat, u64)
-        ensures { result.0 ≡ entering self.now result.0.id }
-    {
-        let (seen, inner) = self.table.shared.load_new_seat::<Keep>(STATE);
-        (Seat { inner }, seen)
     }
 
     /// Reads, if the writer's bit is clear and fewer read than may: a look, and one exchange where it found so. A seat that finds the

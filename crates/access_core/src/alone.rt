@@ -5,7 +5,6 @@ ghost use Rattle.access_core.specs.Accesses.{IsOf};
 
 use crate::access::Access;
 use crate::seat::Seat;
-use words_access::never_beside;
 
 impl Access {
     /// A seat that writes, and another that reads, are absurd: no run comes here, and what would follow may be anything.
@@ -15,8 +14,6 @@ impl Access {
         requires reads { reader.reads ≡ true }
         ensures { ⊥ }
     {
-        let Seat { inner } = writer;
-        let Seat { inner: other } = reader;
-        never_beside(&self.table.shared, inner, other);
+        writer.never_beside(reader, &self.table.shared);
     }
 }

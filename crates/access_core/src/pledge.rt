@@ -34,9 +34,8 @@ impl Access {
         ensures table { (result.badge.table_id ≡ seat.table) × (result.badge.id ≡ seat.id) }
         ensures view { (v : SeatView) × (result.badge.views ≡ v ∷ []) × (v.has_lists ≡ false) × (seated seat.table seat.id v ≡ seat) }
     {
-        let Seat { inner } = seat;
         Pledge {
-            badge: inner.into_badge(),
+            badge: seat.into_badge(),
             seal: (),
         }
     }
@@ -48,8 +47,6 @@ impl Access {
         ensures { (v : SeatView) → pledge.badge.views ≡ v ∷ [] → result ≡ seated pledge.badge.table_id pledge.badge.id v }
     {
         let Pledge { badge, seal: () } = pledge;
-        Seat {
-            inner: badge.into_seat(),
-        }
+        Seat::of_badge(badge)
     }
 }

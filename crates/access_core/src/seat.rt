@@ -1,21 +1,27 @@
 //! What a party steps with.
 
-ghost use Rattle.std.specs.Prelude.{◌≡◌};
-ghost use Rattle.access_core.specs.Accesses.{IsIdle};
+ghost use Rattle.std.specs.Prelude.{◌≡◌, true, false, [], ◌∷◌};
+ghost use Rattle.access_core.specs.Accesses.{IsIdle, IsOf, entering, seated};
+ghost use Rattle.words_access.specs.declared.view.View.{View as SeatView};
 
+use crate::access::Access;
+use crate::list_steps::Listing;
 use crate::lists::Lists;
-use atomic_table::Seat as TableSeat;
+use atomic_table::{Badge, Seat as TableSeat};
 use std::marker::Model;
-use words_access::View;
+use words_access::steps::STATE;
+use words_access::{Keep, View, never_beside};
 
 /// A party's place at a lock's state, with which it steps there. It has no bytes, and borrows nothing.
 ///
 /// Contracts see: the table and which of its seats it is, whether it has set the writer's bit, reads, and writes, whether it owes the readers
 /// or the writer a notification or a look, in which list it has an entry and of which number, whether it has not looked since it
 /// joined, or found its right free, and what its last look found. It has no `Drop`: only [`Seat::rise`] ends it, once it has no right, stands
-/// in no list, and owes nothing.
+/// in no list, and owes nothing. This file alone makes one and takes one apart.
 pub struct Seat {
     pub(crate) inner: TableSeat<Lists, View>,
+    // Nobody else can name it, nor so let the seat go.
+    seal: (),
 }
 
 impl Model for Seat {
@@ -33,12 +39,68 @@ impl Model for Seat {
     ghost invariant = { λ s. (s.inner.me.1 ≡ []) × (s.inner.me.0.has_lists ≡ false) };
 }
 
+impl Access {
+    /// Returns a new seat, with nothing: one load.
+    #[inline]
+    pub fn sit(&self) -> Seat
+        ensures { result ≡ entering self.now result.id }
+    {
+        self.sit_and_look().0
+    }
+
+    /// Returns a new seat as [`Access::sit`] does, with what its one load found in the state.
+    #[inline]
+    pub fn sit_and_look(&self) -> (Seat, u64)
+        ensures { result.0 ≡ entering self.now result.0.id }
+    {
+        let (seen, inner) = self.table.shared.load_new_seat::<Keep>(STATE);
+        (Seat { inner, seal: () }, seen)
+    }
+}
+
 impl Seat {
     /// Ends a seat that has no right and no entry in a list, and owes nothing.
     pub fn rise(self)
         requires { IsIdle self }
     {
-        let Self { inner } = self;
+        let Self { inner, seal: () } = self;
         drop(inner);
+    }
+
+    // Two seats, of which one writes and the other reads, are absurd.
+    pub(crate) fn never_beside(self, reader: Seat, shared: &Listing)
+        requires table { (self.table ≡ shared.now.table_id) × (reader.table ≡ shared.now.table_id) × (shared.now.table_id.words ≡ 2) }
+        requires writes { self.writes ≡ true }
+        requires reads { reader.reads ≡ true }
+        ensures { ⊥ }
+    {
+        let Self { inner, seal: () } = self;
+        let Self {
+            inner: other,
+            seal: (),
+        } = reader;
+        never_beside(shared, inner, other);
+    }
+
+    // What stands for the seat while its view is lent on.
+    #[inline(always)]
+    pub(crate) fn into_badge(self) -> Badge<View>
+        ensures table { (result.table_id ≡ self.table) × (result.id ≡ self.id) }
+        ensures view { (v : SeatView) × (result.views ≡ v ∷ []) × (v.has_lists ≡ false) × (seated self.table self.id v ≡ self) }
+    {
+        let Self { inner, seal: () } = self;
+        inner.into_badge()
+    }
+
+    // The seat again.
+    #[inline(always)]
+    pub(crate) fn of_badge(badge: Badge<View>) -> Seat
+        requires { (v : SeatView) × (badge.views ≡ v ∷ []) × (v.has_lists ≡ false) }
+        ensures { (v : SeatView) → badge.views ≡ v ∷ [] → result ≡ seated badge.table_id badge.id v }
+    {
+        Seat {
+            inner: badge.into_seat(),
+            seal: (),
+        }
     }
 }

@@ -1,17 +1,14 @@
 //! A barrier without its runtime: its words, its list and its inner lock.
 
 ghost use Rattle.std.specs.Prelude.{◌≡◌, IfOk};
-ghost use Rattle.barrier_core.specs.Barriers.{entering};
 
 use crate::arrivals::Arrivals;
 use crate::list::Entries;
-use crate::seat::{Course, Seat};
 use atomic_table::Table;
 use mutex_core::Words;
 use std::alloc::{AllocError, Global};
 use std::marker::Model;
-use words_barrier::steps::WORD;
-use words_barrier::{BarrierRule, Looks, View};
+use words_barrier::{BarrierRule, View};
 
 /// A barrier without its runtime: how many generations are finished, and who waits; how many arrivals make a generation, and how many
 /// generations may be finished; and the inner lock, in which the count of arrivals lies.
@@ -84,16 +81,6 @@ impl RawBarrier {
         ensures { result ≡ self.now.size }
     {
         self.size
-    }
-
-    /// Returns a new seat, which has nothing, of a party that is here in its program, and how many generations it has found finished: one
-    /// load.
-    #[inline]
-    pub fn sit(&self, course: Course) -> (Seat, u64)
-        ensures { result.0 ≡ entering self.now result.1 course }
-    {
-        let (finished, inner) = self.table.shared.load_new_seat::<Looks>(WORD);
-        (Seat { inner, course }, finished)
     }
 }
 

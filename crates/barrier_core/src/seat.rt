@@ -3,16 +3,18 @@
 ghost use Rattle.std.specs.Prelude.{◌≡◌, false, []};
 ghost use Rattle.lock_program.specs.declared.end.Next.TheVariants.{Do};
 ghost use Rattle.sync_program.specs.Barrier.{next_of};
-ghost use Rattle.barrier_core.specs.Barriers.{IsIdle, goes, with_begun};
+ghost use Rattle.barrier_core.specs.Barriers.{IsIdle, entering, goes, with_begun};
 ghost use Rattle.barrier_core.specs.Courses.{IsOutside, IsStart, IsUndone, outside};
 
 use crate::list::Entries;
+use crate::raw::RawBarrier;
 use crate::standing::Standing;
 use atomic_table::Seat as TableSeat;
 use lock_program::{End, Next};
 use std::marker::Model;
 use sync_program::barrier::{BarrierCall, Found, Left, Place, Position, decide};
-use words_barrier::View;
+use words_barrier::steps::WORD;
+use words_barrier::{Looks, View};
 
 /// Where a party is in its program. It has no bytes, and borrows nothing. A party has it alone until it first looks with the inner lock,
 /// and then with its seat.
@@ -84,10 +86,12 @@ impl Course {
 /// Contracts see: the barrier's table, whether the seat has finished a generation and owes all of the list a notification, whether it has an
 /// entry in the list and of which number, whether it has not looked since it joined, how many generations its last look found
 /// finished, and where its party is in its program. It has no `Drop`: only [`Seat::rise`] ends it, once it is outside every call, stands
-/// in no list and owes nothing, or [`Seat::into_course`], which keeps the course.
+/// in no list and owes nothing, or [`Seat::into_course`], which keeps the course. This file alone makes one and takes one apart.
 pub struct Seat {
     pub(crate) inner: TableSeat<Entries, View>,
     pub(crate) course: Course,
+    // Nobody else can name it, nor so let the seat go.
+    seal: (),
 }
 
 impl Model for Seat {
@@ -104,6 +108,23 @@ impl Model for Seat {
     ghost view = { λ s. seated s.inner.table_id s.inner.me.0 s.course };
 
     ghost invariant = { λ s. (s.inner.me.1 ≡ []) × (s.inner.me.0.has_list ≡ false) × (s.inner.me.0.list ≡ nobody) };
+}
+
+impl RawBarrier {
+    /// Returns a new seat, which has nothing, of a party that is here in its program, and how many generations it has found finished: one
+    /// load.
+    #[inline]
+    pub fn sit(&self, course: Course) -> (Seat, u64)
+        ensures { result.0 ≡ entering self.now result.1 course }
+    {
+        let (finished, inner) = self.table.shared.load_new_seat::<Looks>(WORD);
+        let seat = Seat {
+            inner,
+            course,
+            seal: (),
+        };
+        (seat, finished)
+    }
 }
 
 impl Seat {
@@ -130,7 +151,11 @@ impl Seat {
         requires { IsIdle self }
         ensures { result ≡ self.course }
     {
-        let Self { inner, course } = self;
+        let Self {
+            inner,
+            course,
+            seal: (),
+        } = self;
         drop(inner);
         course
     }

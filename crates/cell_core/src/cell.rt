@@ -1,7 +1,7 @@
 //! A once-cell without its runtime: its words, its lists and its value, and each single action on them.
 
 ghost use Rattle.std.specs.Prelude.{◌≡◌, ◌+◌, true, false, IfNone, IfOk, IfSome};
-ghost use Rattle.cell_core.specs.Cells.{IsAt, IsOf, IsToNotify, OnState, entering, goes, with_seen, with_full, with_claim, with_miss, with_late, with_filled, with_emptied, with_ease};
+ghost use Rattle.cell_core.specs.Cells.{IsAt, IsOf, IsToNotify, OnState, goes, with_seen, with_full, with_claim, with_miss, with_late, with_filled, with_emptied, with_ease};
 ghost use Rattle.cell_core.specs.Courses.{IsOutside};
 ghost use Rattle.sync_program.specs.declared.once_cell.Action.TheVariants as act;
 ghost use Rattle.sync_program.specs.declared.once_cell.Found.TheVariants as finds;
@@ -19,7 +19,7 @@ use sync_program::once_cell::{Found, Place};
 use words_cell::steps::{
     EMPTY, ENTRIES, FULL, LIST, MAKING, WORD, claim, empty, fill, look, peek, take,
 };
-use words_cell::{CellRule, Keep, View};
+use words_cell::{CellRule, View};
 
 /// A cell's words and lists.
 pub(crate) struct Words {
@@ -220,14 +220,6 @@ impl<T> RawCell<T> {
         drop(words);
         drop(source);
         stored.into_inner()
-    }
-
-    /// Returns a new seat, with nothing: one load.
-    #[inline]
-    pub fn sit(&self) -> Seat
-        ensures { result ≡ entering self.now }
-    {
-        Seat::new(self.words.table.shared.load_new_seat::<Keep>(WORD).1)
     }
 
     /// Looks at the cell, by a seat that doesn't wait to make: one load.

@@ -3,27 +3,29 @@
 ghost use Rattle.std.specs.Prelude.{◌≡◌, [], false, true};
 ghost use Rattle.lock_program.specs.declared.end.Next.TheVariants.{Do};
 ghost use Rattle.sync_program.specs.OnceCell.{action_of};
-ghost use Rattle.cell_core.specs.Cells.{IsIdle, goes, seated, with_begun};
-ghost use Rattle.cell_core.specs.Courses.{IsOutside, IsStart, NeedsRight, outside};
+ghost use Rattle.cell_core.specs.Cells.{IsIdle, entering, goes, with_begun};
+ghost use Rattle.cell_core.specs.Courses.{IsOutside, IsStart, NeedsRight};
 
+use crate::cell::RawCell;
 use crate::course::Course;
 use crate::lists::Lists;
 use atomic_table::Seat as TableSeat;
 use lock_program::{End, Next};
 use std::marker::Model;
 use sync_program::once_cell::{CellCall, Found, Left, Place, Position, decide};
-use words_cell::View;
+use words_cell::steps::WORD;
+use words_cell::{Keep, View};
 
 /// A party's place at a cell, with which it steps on the cell's words. It has no bytes, and borrows nothing.
 ///
 /// Contracts see: the cell's table, whether the seat has the right to make, whether it owes a notification of one that would make the value,
 /// of all of them, and of all that wait for it, in which list it has an entry and of which number, whether it has not looked since it
 /// joined, or found the cell full, what its last look found, and where its call is in the program. It has no `Drop`: only
-/// [`Seat::rise`] ends it, once it is outside every call, makes nothing, stands in no list, and owes nothing.
+/// [`Seat::rise`] ends it, once it is outside every call, makes nothing, stands in no list, and owes nothing. This file alone makes one and takes one apart.
 pub struct Seat {
     pub(crate) inner: TableSeat<Lists, View>,
-    // Where it is in its program: no bytes.
-    pub(crate) course: Course,
+    // Where it is in its program: no bytes. Nobody else can name it, nor so let the seat go.
+    course: Course,
 }
 
 impl Model for Seat {
@@ -41,19 +43,20 @@ impl Model for Seat {
     ghost invariant = { λ s. (s.inner.me.1 ≡ []) × (s.inner.me.0.has_lists ≡ false) };
 }
 
-impl Seat {
-    // A seat outside every call, with nothing.
-    #[inline(always)]
-    pub(crate) fn new(inner: TableSeat<Lists, View>) -> Seat
-        requires { (inner.me.1 ≡ []) × (inner.me.0.has_lists ≡ false) }
-        ensures { result ≡ seated inner.table_id inner.me.0 outside }
+impl<T> RawCell<T> {
+    /// Returns a new seat, with nothing: one load.
+    #[inline]
+    pub fn sit(&self) -> Seat
+        ensures { result ≡ entering self.now }
     {
         Seat {
-            inner,
+            inner: self.words.table.shared.load_new_seat::<Keep>(WORD).1,
             course: Course::of(&Next::End(End::GivenBack, Left::Outside(Position::Out))),
         }
     }
+}
 
+impl Seat {
     /// Begins a call, at this place.
     #[inline(always)]
     pub fn begin(&mut self, call: CellCall<()>, at: Place<()>)

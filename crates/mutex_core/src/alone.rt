@@ -3,10 +3,8 @@
 ghost use Rattle.std.specs.Prelude.{◌≡◌};
 ghost use Rattle.mutex_core.specs.Outcomes.{IsHeldOf};
 
-use crate::seat::Seat;
 use crate::turn::Held;
 use crate::words::Words;
-use words_mutex::never_two;
 
 impl<T> Words<T> {
     /// Two parties never both hold the lock: no run comes here, and what would follow may be anything.
@@ -22,11 +20,6 @@ impl<T> Words<T> {
         } = other;
         drop(hold.park());
         drop(right.park());
-        let Seat { inner, course: _ } = seat;
-        let Seat {
-            inner: second,
-            course: _,
-        } = twin;
-        never_two(&self.table.shared, inner, second);
+        seat.never_two(twin, &self.table.shared);
     }
 }

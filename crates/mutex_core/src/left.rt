@@ -8,7 +8,7 @@ ghost use Rattle.lock_program.specs.declared.mutex.Found.TheVariants as finds;
 ghost use Rattle.mutex_core.specs.Locks.{IsAt, IsOf, goes, with_got, with_held, with_look};
 ghost use Rattle.mutex_core.specs.Outcomes.{IsRightOf};
 ghost use Rattle.mutex_core.specs.declared.cell.Cell.{Cell};
-ghost use Rattle.words_mutex.specs.Seats.{saw_held_of};
+ghost use Rattle.words_mutex.specs.Seats.{cleared_of, paid_of, saw_held_of};
 ghost use Rattle.words_mutex.specs.Steps.{IsHeld};
 ghost use Rattle.words_base.specs.Tries.{OnAlone, OnTaking};
 
@@ -20,8 +20,8 @@ use lock_program::mutex::{Found, Place};
 use std::alloc::Global;
 use std::sync::Wait;
 use words_base::{Taking, TakingAlone};
-use words_mutex::steps::{COUNT, HELD, RIGHT_SLOT, WORD, clear, give_paid, grab, lift, look};
-use words_mutex::{Keep, wake_next};
+use words_mutex::steps::{COUNT, HELD, RIGHT_SLOT, clear, give_paid, grab, lift, look};
+use words_mutex::wake_next;
 
 /// A lock is held for good: a step found it held where nobody is left who could give it back.
 #[derive(Drop)]
@@ -39,10 +39,10 @@ impl WasHeld {
     }
 
     // This seat holds it, and is forgotten.
-    fn by<T>(inner: Lister<T>) -> WasHeld
-        requires { inner.me.0.holds ≡ true }
+    fn by<T>(seat: Seat<T>) -> WasHeld
+        requires { seat.holds ≡ true }
     {
-        drop(inner);
+        seat.stay();
         WasHeld { seal: () }
     }
 }
@@ -143,38 +143,39 @@ fn regain<T>(
     ensures same { (place.new.room.room_id ≡ place.old.room.room_id) × (spare.new.room_id ≡ spare.old.room_id) × (spare.new.deed ≡ spare.old.deed) }
     ensures hold { IfOk result (λ hold. hold.room_id ≡ place.old.room.room_id) }
 {
-    let mut inner = shared.load_new_seat::<Keep>(WORD).1;
-    let word = lift(shared, &mut inner);
+    let mut seat = Seat::sit(shared);
+    let word = lift(shared, &mut seat.inner);
     if word % COUNT == HELD {
-        drop(inner);
+        seat.rise();
         return Err(WasHeld::found(word));
     }
-    let hold = take_right(shared, spare, &mut inner);
+    let hold = take_right(shared, spare, &mut seat.inner);
     let (hold, ticket) = spare.reissue(hold, place);
-    let place = inner.slot_mut(shared, RIGHT_SLOT);
+    let place = seat.inner.slot_mut(shared, RIGHT_SLOT);
     drop(place.put_right(ticket.rest()));
-    let found = grab(shared, &mut inner);
+    let found = grab(shared, &mut seat.inner);
     if found % 2 != 0 {
         drop(hold.park());
-        return Err(WasHeld::by(inner));
+        return Err(WasHeld::by(seat));
     }
-    give_all_back(shared, inner, found);
+    give_all_back(shared, &mut seat.inner, found);
+    seat.rise();
     Ok(hold)
 }
 
 // Gives the lock back with the list in hand, and pays for it.
-fn give_all_back<T>(shared: &Listing<T>, inner: Lister<T>, found: u64)
-    requires table { (inner.table_id ≡ shared.now.table_id) × (shared.now.table_id.words ≡ 2) × (shared.now.table_id.slots ≡ 2) }
-    requires holds { (inner.me.0.holds ≡ true) × (inner.me.0.starved ≡ false) × (inner.me.0.listed ≡ false) × (inner.me.0.fresh ≡ false) }
-    requires list { IsHeld cell_entries cell_marked inner.me }
-    requires right { (right : Cell T) × (rest inner.me.1 ≡ (1, right) ∷ []) × HasRightOf inner.me.0.room inner.me.0.deed right }
+fn give_all_back<T>(shared: &Listing<T>, inner: &mut Lister<T>, found: u64)
+    requires table { (inner.old.table_id ≡ shared.now.table_id) × (shared.now.table_id.words ≡ 2) × (shared.now.table_id.slots ≡ 2) }
+    requires holds { (inner.old.me.0.holds ≡ true) × (inner.old.me.0.starved ≡ false) × (inner.old.me.0.listed ≡ false) × (inner.old.me.0.fresh ≡ false) }
+    requires list { IsHeld cell_entries cell_marked inner.old.me }
+    requires right { (right : Cell T) × (rest inner.old.me.1 ≡ (1, right) ∷ []) × HasRightOf inner.old.me.0.room inner.old.me.0.deed right }
+    ensures table { inner.new.table_id ≡ inner.old.table_id }
+    ensures step { inner.new.me ≡ (paid_of (cleared_of inner.old.me.0), []) }
 {
-    let mut inner = inner;
     inner.turn();
-    clear(shared, &mut inner);
-    let (due, word) = notify_in(shared, &mut inner, found);
-    let found = give_paid(shared, &mut inner, word);
+    clear(shared, inner);
+    let (due, word) = notify_in(shared, inner, found);
+    let found = give_paid(shared, inner, word);
     wake_next(shared, found);
     drop(due.pay());
-    drop(inner);
 }

@@ -1,26 +1,29 @@
 //! What a party steps with.
 
-ghost use Rattle.std.specs.Prelude.{◌≡◌, [], false};
+ghost use Rattle.std.specs.Prelude.{◌≡◌, [], true, false};
 ghost use Rattle.mutex_core.specs.Courses.{IsOutside, IsStart, outside};
 ghost use Rattle.mutex_core.specs.Locks.{HasSlots, goes, seated, with_begun};
+ghost use Rattle.words_mutex.specs.Rule.{first_view};
 
 use crate::cell::Cell;
 use crate::course::Course;
+use crate::list_steps::Listing;
 use atomic_table::Seat as TableSeat;
 use lock_program::mutex::{Found, LockCall, Place, decide};
 use lock_program::{End, Next};
 use std::marker::Model;
-use words_mutex::View;
+use words_mutex::steps::WORD;
+use words_mutex::{Keep, View, never_two};
 
 /// A party's place at a lock, with which it steps on the lock's words. It has no bytes, and borrows nothing.
 ///
 /// Contracts see: the lock, whether the seat holds it, whether it is counted as starved, whether it owes a notification or a look, whether it
 /// has an entry in the list, and of which number, and whether it has not looked since it joined. It has no `Drop`: only [`Seat::rise`] ends it, once it has given
-/// back what it has, and owes nothing.
+/// back what it has, and owes nothing. This file alone makes one and takes one apart.
 pub struct Seat<T> {
     pub(crate) inner: TableSeat<Cell<T>, View>,
-    // Where it is in its program.
-    pub(crate) course: Course,
+    // Where it is in its program. Nobody else can name it, nor so let the seat go.
+    course: Course,
 }
 
 impl<T> Model for Seat<T> {
@@ -39,14 +42,14 @@ impl<T> Model for Seat<T> {
 }
 
 impl<T> Seat<T> {
-    // A seat outside every call, with nothing.
+    // A new seat of this table, outside every call, with nothing: one load.
     #[inline(always)]
-    pub(crate) fn new(inner: TableSeat<Cell<T>, View>) -> Seat<T>
-        requires { HasSlots inner.me.0.holds inner.me.1 × (inner.me.0.has_list ≡ false) × (inner.me.0.entries ≡ []) × (inner.me.0.marked ≡ 0) }
-        ensures { result ≡ seated inner.table_id inner.me.0 outside }
+    pub(crate) fn sit(shared: &Listing<T>) -> Seat<T>
+        requires { shared.now.table_id.words ≡ 2 }
+        ensures { result ≡ seated shared.now.table_id (first_view shared.now.key.room_id shared.now.key.deed) outside }
     {
         Seat {
-            inner,
+            inner: shared.load_new_seat::<Keep>(WORD).1,
             course: Course::of(&Next::End(End::GivenBack, Place::Out)),
         }
     }
@@ -77,5 +80,28 @@ impl<T> Seat<T> {
     {
         let Self { inner, course: _ } = self;
         drop(inner);
+    }
+
+    // Leaves the lock held for good.
+    pub(crate) fn stay(self)
+        requires { self.holds ≡ true }
+    {
+        let Self { inner, course: _ } = self;
+        drop(inner);
+    }
+
+    // Two seats never both hold the lock.
+    pub(crate) fn never_two(self, other: Seat<T>, shared: &Listing<T>)
+        requires table { (self.table ≡ shared.now.table_id) × (other.table ≡ shared.now.table_id) × (shared.now.table_id.words ≡ 2) }
+        requires deed { self.right.deed ≡ shared.now.key.deed }
+        requires hold { (self.holds ≡ true) × (other.holds ≡ true) }
+        ensures { ⊥ }
+    {
+        let Self { inner, course: _ } = self;
+        let Self {
+            inner: second,
+            course: _,
+        } = other;
+        never_two(shared, inner, second);
     }
 }

@@ -26,7 +26,7 @@ use words_mutex::steps::{
     ALONE, COUNT, ENTRIES, FREE, HELD, RIGHT_SLOT, WORD, clear, exchange, exchange_alone, lift,
     look, peek, uncount,
 };
-use words_mutex::{Full, Keep, MutexRule, View, tally, tally_listed};
+use words_mutex::{Full, MutexRule, View, tally, tally_listed};
 
 /// The greatest number of seats that are counted as starved at once.
 pub const STARVED_LIMIT: u64 = 1_073_741_823;
@@ -163,7 +163,7 @@ impl<T> Words<T> {
     pub fn sit(&self) -> Seat<T>
         ensures { result ≡ entering self.now }
     {
-        Seat::new(self.table.shared.load_new_seat::<Keep>(WORD).1)
+        Seat::sit(&self.table.shared)
     }
 
     /// Finds a lock held that was left so, without a step.

@@ -3,12 +3,11 @@
 //! An action names its place in the table of `sync_program`, and asks that the seat's call has come to it.
 
 ghost use Rattle.std.specs.Prelude.{◌≡◌, ℕ, ◌+◌, ◌<◌, ◌≤◌, ⊤, true, false, IfOk};
-ghost use Rattle.semaphore_core.specs.Semaphores.{IsAt, IsOf, entering, goes, with_look, with_taken, with_given, with_given_new, with_lowered, with_limit, with_raised, with_paid};
+ghost use Rattle.semaphore_core.specs.Semaphores.{IsAt, IsOf, goes, with_look, with_taken, with_given, with_given_new, with_lowered, with_limit, with_raised, with_paid};
 ghost use Rattle.sync_program.specs.declared.permits.Action.TheVariants as act;
 ghost use Rattle.sync_program.specs.declared.permits.Found.TheVariants as finds;
 ghost use Rattle.words_permits.specs.Tries.{OnTaking, OnRaising};
 
-use crate::list_steps::Listing;
 use crate::queue::Queue;
 use crate::receipts::Given;
 use crate::seat::Seat;
@@ -18,7 +17,7 @@ use std::alloc::{AllocError, Global};
 use std::marker::Model;
 use sync_program::permits::{Found, Place};
 use words_permits::steps::{AVAILABLE, ENTRIES, give, give_new, look, lower, peek, raise, take};
-use words_permits::{Keep, PermitRule, Raising, Sees, Taking, View};
+use words_permits::{PermitRule, Raising, Taking, View};
 
 /// A semaphore without its runtime: its permits, its limit, and who waits.
 ///
@@ -69,25 +68,6 @@ impl RawSemaphore {
             }),
             Err(error) => Err(error),
         }
-    }
-
-    /// Returns a new seat, which has nothing. It costs one load, and takes no memory.
-    #[inline]
-    pub fn sit(&self) -> Seat
-        ensures { result ≡ entering self.now }
-    {
-        let shared: &Listing = &self.table.shared;
-        Seat::new(shared.load_new_seat::<Keep>(AVAILABLE).1)
-    }
-
-    /// Returns a new seat as [`RawSemaphore::sit`] does, with how many permits its one load found available.
-    #[inline]
-    pub fn sit_and_look(&self) -> (Seat, u64)
-        ensures { result.0 ≡ with_look result.1 (entering self.now) }
-    {
-        let shared: &Listing = &self.table.shared;
-        let (found, inner) = shared.load_new_seat::<Sees>(AVAILABLE);
-        (Seat::new(inner), found)
     }
 
     /// Returns how many permits were available at some moment of the call. It waits for nobody.

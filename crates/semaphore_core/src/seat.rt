@@ -2,25 +2,28 @@
 
 ghost use Rattle.std.specs.Prelude.{◌≡◌, false, []};
 ghost use Rattle.semaphore_core.specs.Courses.{IsOutside, IsStart, outside};
-ghost use Rattle.semaphore_core.specs.Semaphores.{goes, seated, with_begun};
+ghost use Rattle.semaphore_core.specs.Semaphores.{entering, goes, seated, with_begun, with_look};
 
 use crate::course::Course;
+use crate::list_steps::Listing;
 use crate::queue::Queue;
+use crate::raw::RawSemaphore;
 use atomic_table::Seat as TableSeat;
 use lock_program::{End, Next};
 use std::marker::Model;
 use sync_program::permits::{Found, Place, Position, SemaphoreCall, decide};
-use words_permits::View;
+use words_permits::steps::AVAILABLE;
+use words_permits::{Keep, Sees, View};
 
 /// A party's place at a semaphore, with which it steps on the semaphore's words. It has no bytes, and borrows nothing.
 ///
 /// Contracts see: the semaphore, how many permits the seat has and how many are under way, what it found last of the available permits and
 /// of the limit, what it has added and forgotten in all, whether it owes a notification and has looked since, its entry in the list, and where
 /// it is in its program (`course`). It has no `Drop`: only [`Seat::rise`] and [`Seat::end`] end it, once it is outside every call, has given
-/// back what it has, and owes nothing.
+/// back what it has, and owes nothing. This file alone makes one and takes one apart.
 pub struct Seat {
     pub(crate) inner: TableSeat<Queue, View>,
-    // Where it is in its program: no bytes.
+    // Where it is in its program: no bytes. Nobody else can name it, nor so let the seat go.
     course: Course,
 }
 
@@ -39,10 +42,31 @@ impl Model for Seat {
     ghost invariant = { λ s. (s.inner.me.1 ≡ []) × (s.inner.me.0.has_list ≡ false) × (s.inner.me.0.waiters ≡ []) × (s.inner.me.0.marked ≡ 0) };
 }
 
+impl RawSemaphore {
+    /// Returns a new seat, which has nothing. It costs one load, and takes no memory.
+    #[inline]
+    pub fn sit(&self) -> Seat
+        ensures { result ≡ entering self.now }
+    {
+        let shared: &Listing = &self.table.shared;
+        Seat::new(shared.load_new_seat::<Keep>(AVAILABLE).1)
+    }
+
+    /// Returns a new seat as [`RawSemaphore::sit`] does, with how many permits its one load found available.
+    #[inline]
+    pub fn sit_and_look(&self) -> (Seat, u64)
+        ensures { result.0 ≡ with_look result.1 (entering self.now) }
+    {
+        let shared: &Listing = &self.table.shared;
+        let (found, inner) = shared.load_new_seat::<Sees>(AVAILABLE);
+        (Seat::new(inner), found)
+    }
+}
+
 impl Seat {
     // A seat outside every call, with nothing.
     #[inline(always)]
-    pub(crate) fn new(inner: TableSeat<Queue, View>) -> Seat
+    fn new(inner: TableSeat<Queue, View>) -> Seat
         requires { (inner.me.1 ≡ []) × (inner.me.0.has_list ≡ false) × (inner.me.0.waiters ≡ []) × (inner.me.0.marked ≡ 0) }
         ensures { result ≡ seated inner.table_id inner.me.0 outside }
     {
