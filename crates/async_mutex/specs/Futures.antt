@@ -15,7 +15,7 @@ use Rattle.lock_program.specs.declared.refusal.Refusal.TheVariants.{Finished}
 use Rattle.lock_program.specs.declared.end.Next.TheVariants.{Do}
 use Rattle.lock_program.specs.declared.mutex.Place.TheVariants as at
 use Rattle.mutex_core.specs.Courses.{pending}
-use Rattle.mutex_core.specs.Locks.{IsOf, Seated}
+use Rattle.mutex_core.specs.Locks.{IsOf, IsSameSeat, Seated}
 use Rattle.mutex_core.specs.Outcomes.{IsGivenUp, IsHeldOf}
 use Rattle.lock_queue.specs.Receipts.{IsKept}
 use Rattle.mutex_core.specs.declared.turn.Held.{Held}
@@ -86,12 +86,18 @@ module _ {O T R : Type 0} (lock_of : O → Mutex T R) where
   OnPolled stage (outcome.Waits q) = WaitsAs stage q
   OnPolled stage (outcome.Refused refusal) = IsGivenUp refusal
 
--- a poll that went so answers that, and leaves this of its party
-abbrev pub IsAnswer : {T G : Type 0} → Outcome T → Turn G → Option (Waiting T) → Type 0
-IsAnswer (outcome.Got held) (Ready got) left = left ≡ None
-IsAnswer (outcome.Waits q) Pending left = left ≡ Some q
-IsAnswer (outcome.Refused r) (Refused refusal) left = (refusal ≡ r) × (left ≡ None)
-IsAnswer _ _ left = ⊥
+-- a poll that went so answers that, by the same seat, and leaves this of its party
+abbrev pub IsAnswer : {T G : Type 0} → (G → ℕ) → Outcome T → Turn G → Option (Waiting T) → Type 0
+IsAnswer seat_of (outcome.Got held) (Ready got) left = (seat_of got ≡ held.seat.id) × (left ≡ None)
+IsAnswer seat_of (outcome.Waits q) Pending left = left ≡ Some q
+IsAnswer seat_of (outcome.Refused r) (Refused refusal) left = (refusal ≡ r) × (left ≡ None)
+IsAnswer seat_of _ _ left = ⊥
+
+-- Whoever waited by this seat goes on by it: the guard has it, or it waits still.
+abbrev pub GoesOnBy : {G : Type 0} → (G → ℕ) → Seated → Turn G → Option Listed → Type 0
+GoesOnBy seat_of seat (Ready got) entry = seat_of got ≡ seat.id
+GoesOnBy seat_of seat Pending entry = IsSomeAnd entry (λ e. IsSameSeat seat e.seat)
+GoesOnBy seat_of seat (Refused refusal) entry = ⊤
 
 -- Ready, what was got is this and the future is over. One that is over is refused as finished and stays so; no other is, and none for
 -- another reason than memory or too many starved waiters.

@@ -15,7 +15,7 @@ use std::sync::Arc;
 
 /// Holds a mutex, and lends its value. Dropping it releases the mutex.
 ///
-/// Its type keeps that its seat holds the lock, with the right to the lock's value. Contracts see the mutex, and the value.
+/// Its type keeps that its seat holds the lock, with the right to the lock's value. Contracts see the mutex, which of its seats holds it, and the value.
 pub struct Guard<T, R: Releases, O: Owns<Value = T, Runtime = R>> {
     pub(crate) owner: O,
     seat: Seat<T>,
@@ -29,7 +29,7 @@ impl<T, R: Releases, O: Owns<Value = T, Runtime = R>> Model for Guard<T, R, O> {
 
     ghost Value = { Guarded T R };
 
-    ghost view = { λ g. record { mutex = O.lock_of g.owner; value = g.hold.value } };
+    ghost view = { λ g. record { mutex = O.lock_of g.owner; seat = g.seat.id; value = g.hold.value } };
 
     ghost invariant = { λ g. Holds (O.lock_of g.owner).words g.seat g.hold };
 }
@@ -38,7 +38,7 @@ impl<T, R: Releases, O: Owns<Value = T, Runtime = R>> Guard<T, R, O> {
     #[inline]
     pub(crate) fn new(owner: O, held: Held<T>) -> Guard<T, R, O>
         requires { IsHeldOf (O.lock_of owner).words held }
-        ensures { result.mutex ≡ O.lock_of owner }
+        ensures { (result.mutex ≡ O.lock_of owner) × (result.seat ≡ held.seat.id) }
     {
         let (seat, hold) = held.into_parts();
         Guard {

@@ -6,6 +6,7 @@ ghost use Rattle.async_mutex.specs.Stages.{IsFor, IsOf, is_finished};
 ghost use Rattle.lock_program.specs.declared.refusal.Refusal.TheVariants as refusals;
 ghost use Rattle.async_mutex.specs.Futures.{GotAt, HasReceipt, IsAnswer, IsTurn, Looks, LooksInVain, OnPolled, OnWaits, WaitsAs, entry_of};
 ghost use Rattle.async_mutex.specs.declared.mutex.Mutex.{Mutex};
+ghost use Rattle.mutex_core.specs.Outcomes.{IsBySeat, WaitsSince};
 
 use crate::guard::Guard;
 use crate::mutex::Mutex;
@@ -84,7 +85,7 @@ pub(crate) fn into_guard<T, R: Wait, O: Owns<Value = T, Runtime = R>>(
     held: Held<T>,
 ) -> Guard<T, R, O>
     requires { GotAt O.lock_of stage held }
-    ensures { IsOf O.lock_of stage result.mutex }
+    ensures { IsOf O.lock_of stage result.mutex × (result.seat ≡ held.seat.id) }
 {
     match stage {
         Stage::Waits(owner) => Guard::new(owner, held),
@@ -105,7 +106,7 @@ pub(crate) fn into_turn<T, R: Wait, O: Owns<Value = T, Runtime = R>>(
     ensures waiting { IfSome waiting.new (WaitsAs O.lock_of stage.new) }
     ensures turn { IsTurn (λ guard. IsOf O.lock_of stage.old guard.mutex) false result (is_finished stage.new) }
     ensures share { is_finished stage.new ≡ false → stage.new ≡ stage.old }
-    ensures answer { IsAnswer outcome result waiting.new }
+    ensures answer { IsAnswer (λ guard. guard.seat) outcome result waiting.new }
 {
     match outcome {
         Outcome::Got(held) => {
@@ -129,6 +130,7 @@ pub(crate) fn first_poll<T, R: Wait + Clock, O: Owns<Value = T, Runtime = R>>(
 ) -> Outcome<T>
     requires { LooksInVain O.lock_of stage.now vain }
     ensures outcome { OnPolled O.lock_of stage.now result }
+    ensures same { IsBySeat vain.seat result }
     ensures receipt { OnWaits result (λ waiting. HasReceipt O.lock_of stage.now cx.new (entry_of (Some waiting))) }
     ensures kept { Keeps cx.old cx.new }
 {
@@ -150,6 +152,8 @@ pub(crate) fn later_poll<T, R: Wait + Clock, O: Owns<Value = T, Runtime = R>>(
 ) -> Outcome<T>
     requires { WaitsAs O.lock_of stage.now waiting }
     ensures outcome { OnPolled O.lock_of stage.now result }
+    ensures same { IsBySeat waiting.seat result }
+    ensures since { WaitsSince waiting.since result }
     ensures receipt { OnWaits result (λ waiting. HasReceipt O.lock_of stage.now cx.new (entry_of (Some waiting))) }
     ensures kept { Keeps cx.old cx.new }
 {

@@ -129,6 +129,24 @@ abbrev pub OnRefused : {G : Type 0} → Turn G → Type 0 → Type 0
 OnRefused (Refused refusal) fact = fact
 OnRefused _ fact = ⊤
 
+-- What was got has the seat of whoever waited; a write that waited for the writer lock has another seat of the state.
+abbrev pub GotBy : Seated ⊎ turn.Seated → Seated → Type 0
+GotBy (inl s) got = got.id ≡ s.id
+GotBy (inr s) got = ⊤
+
+-- It waits by the same seat; a write that waited for the writer lock may have that now, and wait by a seat of the state.
+abbrev pub StaysBy : Seated ⊎ turn.Seated → Seated ⊎ turn.Seated → Type 0
+StaysBy (inl s) (inl t) = t.id ≡ s.id
+StaysBy (inr s) (inr t) = t.id ≡ s.id
+StaysBy (inr s) (inl t) = ⊤
+StaysBy (inl s) (inr t) = ⊥
+
+-- Whoever waited by this seat goes on by it.
+abbrev pub GoesOnBy : {G : Type 0} → (G → Seated) → Seated ⊎ turn.Seated → Turn G → Option Listed → Type 0
+GoesOnBy seat_of was (Ready got) entry = GotBy was (seat_of got)
+GoesOnBy seat_of was Pending entry = IsSomeAnd entry (λ e. StaysBy was e.seat)
+GoesOnBy seat_of was (Refused refusal) entry = ⊤
+
 -- a fact of what waits
 abbrev pub OnWaits : {G W : Type 0} → Outcome G W → (W → Type 0) → Type 0
 OnWaits (outcome.Waits w) fact = fact w

@@ -1,12 +1,12 @@
 //! The future of a read.
 
-ghost use Rattle.std.specs.Prelude.{◌≡◌, false, IfSome, None, Some};
+ghost use Rattle.std.specs.Prelude.{◌≡◌, false, ⊤, IfSome, None, Some};
 ghost use Rattle.futures.specs.Task.{Covers, Keeps};
 ghost use Rattle.async_driver.specs.Turns.{OnPending};
-ghost use Rattle.async_rwlock.specs.Stages.{At, HasReceiptAt, IsOf, IsTurn, Looks, OnPolled, OnRefused, OnWaits, WaitsAt, future, is_finished, reads_entry};
+ghost use Rattle.async_rwlock.specs.Stages.{At, GoesOnBy, HasReceiptAt, IsOf, IsTurn, Looks, OnPolled, OnRefused, OnWaits, WaitsAt, future, is_finished, reads_entry};
 ghost use Rattle.access_core.specs.Accesses.{IsOf as IsSeatAt, IsIdle};
-ghost use Rattle.rwlock_core.specs.Outcomes.{IsReadRefusal};
-ghost use Rattle.rwlock_core.specs.Parties.{IsReaderOf};
+ghost use Rattle.rwlock_core.specs.Outcomes.{IsReadRefusal, OnOutcome};
+ghost use Rattle.rwlock_core.specs.Parties.{IsReaderOf, IsSeatOf};
 
 use crate::owns::Owns;
 use crate::read_guard::ReadGuard;
@@ -69,6 +69,7 @@ impl<T, R: Wait + Clock, O: Owns<Value = T, Runtime = R>> ReadFuture<T, R, O> {
     pub fn poll(&mut self, cx: &mut Context<'_>) -> Turn<ReadGuard<T, R, O>>
         ensures turn { IsTurn IsReadRefusal (λ guard. IsOf O.lock_of self.old.stage guard.lock) (is_finished self.old.stage) result (is_finished self.new.stage) }
         ensures share { is_finished self.new.stage ≡ false → self.new.stage ≡ self.old.stage }
+        ensures same { IfSome self.old.waiting (λ e. GoesOnBy (λ guard. guard.seat) e.seat result self.new.waiting) }
         ensures refused { OnRefused result (self.new.waiting ≡ None) }
         ensures receipt { OnPending result (HasReceiptAt O.lock_of self.old.stage cx.new self.new.waiting) }
         ensures registered { OnPending result (Covers cx.new (WaitsAt O.lock_of self.old.stage self.new.waiting)) }
@@ -160,6 +161,7 @@ fn later_poll<T, R: Wait + Clock, O: Owns<Value = T, Runtime = R>>(
     waiting: WaitsToRead,
 ) -> Outcome<Reader, WaitsToRead>
     requires { At O.lock_of stage.now (λ raw. IsSeatAt raw.access waiting.seat) }
+    ensures same { OnOutcome result (λ right. IsSeatOf waiting.seat right.seat) (λ w. IsSeatOf waiting.seat w.seat) (λ _. ⊤) }
     ensures outcome { OnPolled (λ right. At O.lock_of stage.now (λ raw. IsReaderOf raw right)) (λ w. At O.lock_of stage.now (λ raw. IsSeatAt raw.access w.seat)) IsReadRefusal result }
     ensures receipt { OnWaits result (λ w. HasReceiptAt O.lock_of stage.now cx.new (reads_entry (Some w)) × Covers cx.new (WaitsAt O.lock_of stage.now (reads_entry (Some w)))) }
     ensures kept { Keeps cx.old cx.new }

@@ -58,7 +58,8 @@ impl<T, R: Releases, O: Owns<Value = T, Runtime = R>> ReadGuard<T, R, O> {
     #[inline]
     pub(crate) fn of_stage(stage: Stage<O>, reader: Reader) -> ReadGuard<T, R, O>
         requires { At O.lock_of stage (λ raw. IsReaderOf raw reader) }
-        ensures { IsOf O.lock_of stage result.lock }
+        ensures lock { IsOf O.lock_of stage result.lock }
+        ensures seat { result.seat ≡ reader.seat }
     {
         match stage {
             Stage::Waits(owner) => ReadGuard::new(owner, reader),

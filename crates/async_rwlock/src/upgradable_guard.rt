@@ -74,7 +74,8 @@ impl<T, R: Releases, O: Owns<Value = T, Runtime = R>> UpgradableGuard<T, R, O> {
     #[inline]
     pub(crate) fn of_stage(stage: Stage<O>, upgradable: Upgradable) -> UpgradableGuard<T, R, O>
         requires { At O.lock_of stage (λ raw. IsUpgradableOf raw upgradable) }
-        ensures { IsOf O.lock_of stage result.lock }
+        ensures lock { IsOf O.lock_of stage result.lock }
+        ensures seat { result.seat ≡ upgradable.seat }
     {
         match stage {
             Stage::Waits(owner) => UpgradableGuard::new(owner, upgradable),

@@ -1,12 +1,12 @@
 //! The future of an upgradable read.
 
-ghost use Rattle.std.specs.Prelude.{◌≡◌, false, IfSome, None, Some};
+ghost use Rattle.std.specs.Prelude.{◌≡◌, false, ⊤, IfSome, None, Some};
 ghost use Rattle.futures.specs.Task.{Covers, Keeps};
 ghost use Rattle.async_driver.specs.Turns.{OnPending};
-ghost use Rattle.async_rwlock.specs.Stages.{At, HasReceiptAt, IsOf, IsTurn, Looks, OnPolled, OnRefused, OnWaits, WaitsAt, future, is_finished, turn_entry};
-ghost use Rattle.mutex_core.specs.Locks.{IsOf as IsTurnOf};
+ghost use Rattle.async_rwlock.specs.Stages.{At, GoesOnBy, HasReceiptAt, IsOf, IsTurn, Looks, OnPolled, OnRefused, OnWaits, WaitsAt, future, is_finished, turn_entry};
+ghost use Rattle.mutex_core.specs.Locks.{IsOf as IsTurnOf, IsSameSeat};
 ghost use Rattle.mutex_core.specs.Outcomes.{IsHeldOf};
-ghost use Rattle.rwlock_core.specs.Outcomes.{IsUpgradableRefusal};
+ghost use Rattle.rwlock_core.specs.Outcomes.{IsUpgradableRefusal, OnOutcome};
 ghost use Rattle.rwlock_core.specs.Parties.{IsTaking, IsUpgradableOf};
 
 use crate::owns::Owns;
@@ -72,6 +72,7 @@ impl<T, R: Wait + Clock, O: Owns<Value = T, Runtime = R>> UpgradableFuture<T, R,
     pub fn poll(&mut self, cx: &mut Context<'_>) -> Turn<UpgradableGuard<T, R, O>>
         ensures turn { IsTurn IsUpgradableRefusal (λ guard. IsOf O.lock_of self.old.stage guard.lock) (is_finished self.old.stage) result (is_finished self.new.stage) }
         ensures share { is_finished self.new.stage ≡ false → self.new.stage ≡ self.old.stage }
+        ensures same { IfSome self.old.waiting (λ e. GoesOnBy (λ guard. guard.seat) e.seat result self.new.waiting) }
         ensures refused { OnRefused result (self.new.waiting ≡ None) }
         ensures receipt { OnPending result (HasReceiptAt O.lock_of self.old.stage cx.new self.new.waiting) }
         ensures registered { OnPending result (Covers cx.new (WaitsAt O.lock_of self.old.stage self.new.waiting)) }
@@ -184,6 +185,7 @@ fn later_poll<T, R: Wait + Clock, O: Owns<Value = T, Runtime = R>>(
     waiting: Waiting<()>,
 ) -> Outcome<Upgradable, Waiting<()>>
     requires { At O.lock_of stage.now (λ raw. IsTurnOf raw.turn waiting.seat) }
+    ensures same { OnOutcome result (λ right. IsSameSeat waiting.seat right.turn.seat) (λ w. IsSameSeat waiting.seat w.seat) (λ _. ⊤) }
     ensures outcome { OnPolled (λ right. At O.lock_of stage.now (λ raw. IsUpgradableOf raw right)) (λ w. At O.lock_of stage.now (λ raw. IsTurnOf raw.turn w.seat)) IsUpgradableRefusal result }
     ensures receipt { OnWaits result (λ w. HasReceiptAt O.lock_of stage.now cx.new (turn_entry (Some w)) × Covers cx.new (WaitsAt O.lock_of stage.now (turn_entry (Some w)))) }
     ensures kept { Keeps cx.old cx.new }

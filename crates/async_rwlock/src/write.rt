@@ -1,12 +1,12 @@
 //! The future of a write.
 
-ghost use Rattle.std.specs.Prelude.{◌≡◌, false, IfSome, None, Some};
+ghost use Rattle.std.specs.Prelude.{◌≡◌, false, ⊤, IfSome, None, Some};
 ghost use Rattle.futures.specs.Task.{Covers, Keeps};
 ghost use Rattle.async_driver.specs.Turns.{OnPending};
-ghost use Rattle.async_rwlock.specs.Stages.{At, HasReceiptAt, IsOf, IsTurn, Looks, OnPolled, OnRefused, OnWaits, WaitsAt, future, is_finished, writes_entry};
+ghost use Rattle.async_rwlock.specs.Stages.{At, GoesOnBy, HasReceiptAt, IsOf, IsTurn, Looks, OnPolled, OnRefused, OnWaits, WaitsAt, future, is_finished, writes_entry};
 ghost use Rattle.mutex_core.specs.Outcomes.{IsHeldOf};
-ghost use Rattle.rwlock_core.specs.Outcomes.{IsWriteRefusal};
-ghost use Rattle.rwlock_core.specs.Parties.{IsTaking, IsWriterOf, WaitsAt as WaitsAtLock};
+ghost use Rattle.rwlock_core.specs.Outcomes.{IsWriteRefusal, OnOutcome};
+ghost use Rattle.rwlock_core.specs.Parties.{IsTaking, IsWriterOf, WaitsAt as WaitsAtLock, WaitsOn, WritesOn};
 
 use crate::owns::Owns;
 use crate::stage::{Look, Stage, no_share};
@@ -72,6 +72,7 @@ impl<T, R: Wait + Clock, O: Owns<Value = T, Runtime = R>> WriteFuture<T, R, O> {
     pub fn poll(&mut self, cx: &mut Context<'_>) -> Turn<WriteGuard<T, R, O>>
         ensures turn { IsTurn IsWriteRefusal (λ guard. IsOf O.lock_of self.old.stage guard.lock) (is_finished self.old.stage) result (is_finished self.new.stage) }
         ensures share { is_finished self.new.stage ≡ false → self.new.stage ≡ self.old.stage }
+        ensures same { IfSome self.old.waiting (λ e. GoesOnBy (λ guard. guard.seat) e.seat result self.new.waiting) }
         ensures refused { OnRefused result (self.new.waiting ≡ None) }
         ensures receipt { OnPending result (HasReceiptAt O.lock_of self.old.stage cx.new self.new.waiting) }
         ensures registered { OnPending result (Covers cx.new (WaitsAt O.lock_of self.old.stage self.new.waiting)) }
@@ -183,6 +184,7 @@ fn later_poll<T, R: Wait + Clock, O: Owns<Value = T, Runtime = R>>(
     waiting: WaitsFor,
 ) -> Outcome<Writer, WaitsFor>
     requires { At O.lock_of stage.now (λ raw. WaitsAtLock raw waiting) }
+    ensures same { OnOutcome result (WritesOn waiting) (WaitsOn waiting) (λ _. ⊤) }
     ensures outcome { OnPolled (λ right. At O.lock_of stage.now (λ raw. IsWriterOf raw right)) (λ w. At O.lock_of stage.now (λ raw. WaitsAtLock raw w)) IsWriteRefusal result }
     ensures receipt { OnWaits result (λ w. HasReceiptAt O.lock_of stage.now cx.new (writes_entry (Some w)) × Covers cx.new (WaitsAt O.lock_of stage.now (writes_entry (Some w)))) }
     ensures kept { Keeps cx.old cx.new }

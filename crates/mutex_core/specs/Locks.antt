@@ -32,10 +32,11 @@ pub record Lock : Type 0 where
 abbrev pub lock_coded : Coded Lock
 lock_coded = code_by (TableId × (RightId × (RoomId × (ℕ × (ℕ × Bool))))) (coded× table_id_coded (coded× right_id_coded (coded× room_id_coded (coded× coded_ℕ (coded× coded_ℕ coded_bool))))) (λ l. (l.table, (l.right, (l.room, (l.source, (l.limit, l.is_left)))))) (λ p. record { table = p.0; right = p.1.0; room = p.1.1.0; source = p.1.1.1.0; limit = p.1.1.1.1.0; is_left = p.1.1.1.1.1 }) (λ _. refl)
 
--- A seat: of which table and right it is, whether it holds the lock, is counted as starved, owes, has an entry, and has not looked since it joined; the
+-- A seat: of which table it is, which number it has there, and of which right, whether it holds the lock, is counted as starved, owes, has an entry, and has not looked since it joined; the
 -- number of its entry; how many were starved when it last got the lock; and where it is in its program.
 pub record Seated : Type 0 where
   pub table : TableId
+  pub id : ℕ
   pub right : RightId
   pub holds : Bool
   pub starved : Bool
@@ -47,14 +48,18 @@ pub record Seated : Type 0 where
   pub course : Course
 
 abbrev pub seated_coded : Coded Seated
-seated_coded = code_by (TableId × (RightId × (Bool × (Bool × (Bool × (Bool × (Bool × (ℕ × (ℕ × Course))))))))) (coded× table_id_coded (coded× right_id_coded (coded× coded_bool (coded× coded_bool (coded× coded_bool (coded× coded_bool (coded× coded_bool (coded× coded_ℕ (coded× coded_ℕ course_coded))))))))) (λ s. (s.table, (s.right, (s.holds, (s.starved, (s.owes, (s.listed, (s.fresh, (s.entry, (s.passed, s.course)))))))))) (λ p. record { table = p.0; right = p.1.0; holds = p.1.1.0; starved = p.1.1.1.0; owes = p.1.1.1.1.0; listed = p.1.1.1.1.1.0; fresh = p.1.1.1.1.1.1.0; entry = p.1.1.1.1.1.1.1.0; passed = p.1.1.1.1.1.1.1.1.0; course = p.1.1.1.1.1.1.1.1.1 }) (λ _. refl)
+seated_coded = code_by (TableId × (ℕ × (RightId × (Bool × (Bool × (Bool × (Bool × (Bool × (ℕ × (ℕ × Course)))))))))) (coded× table_id_coded (coded× coded_ℕ (coded× right_id_coded (coded× coded_bool (coded× coded_bool (coded× coded_bool (coded× coded_bool (coded× coded_bool (coded× coded_ℕ (coded× coded_ℕ course_coded)))))))))) (λ s. (s.table, (s.id, (s.right, (s.holds, (s.starved, (s.owes, (s.listed, (s.fresh, (s.entry, (s.passed, s.course))))))))))) (λ p. record { table = p.0; id = p.1.0; right = p.1.1.0; holds = p.1.1.1.0; starved = p.1.1.1.1.0; owes = p.1.1.1.1.1.0; listed = p.1.1.1.1.1.1.0; fresh = p.1.1.1.1.1.1.1.0; entry = p.1.1.1.1.1.1.1.1.0; passed = p.1.1.1.1.1.1.1.1.1.0; course = p.1.1.1.1.1.1.1.1.1.1 }) (λ _. refl)
 
-abbrev pub seated : TableId → View → Course → Seated
-seated table v course = record { table = table; right = record { room = v.room; deed = v.deed }; holds = v.holds; starved = v.starved; owes = v.owes; listed = v.listed; fresh = v.fresh; entry = v.entry; passed = v.passed; course = course }
+abbrev pub seated : TableId → ℕ → View → Course → Seated
+seated table id v course = record { table = table; id = id; right = record { room = v.room; deed = v.deed }; holds = v.holds; starved = v.starved; owes = v.owes; listed = v.listed; fresh = v.fresh; entry = v.entry; passed = v.passed; course = course }
 
 -- The seat is one of the lock.
 abbrev pub IsOf : Lock → Seated → Type 0
 IsOf lock seat = (seat.table ≡ lock.table) × (seat.right ≡ lock.right)
+
+-- It is the same seat of its lock.
+abbrev pub IsSameSeat : Seated → Seated → Type 0
+IsSameSeat s t = t.id ≡ s.id
 
 -- The slots that are out with a seat: the right's, while it holds the lock.
 abbrev pub HasSlots : {S : Type 0} → Bool → List (ℕ × S) → Type 0
@@ -62,8 +67,8 @@ HasSlots {S} true slots = (right : S) × (slots ≡ (1, right) ∷ [])
 HasSlots false slots = slots ≡ []
 
 -- a seat with nothing
-abbrev pub entering : Lock → Seated
-entering lock = record { table = lock.table; right = lock.right; holds = false; starved = false; owes = false; listed = false; fresh = false; entry = 0; passed = 0; course = outside }
+abbrev pub entering : Lock → ℕ → Seated
+entering lock id = record { table = lock.table; id = id; right = lock.right; holds = false; starved = false; owes = false; listed = false; fresh = false; entry = 0; passed = 0; course = outside }
 
 -- it has got the lock while n were starved
 abbrev pub with_got : Seated → ℕ → Seated

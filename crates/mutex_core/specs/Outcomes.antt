@@ -5,7 +5,7 @@ use Rattle.futures.specs.declared.task.context.Context.{Context}
 use Rattle.lock_place.specs.declared.room.Hold.{Hold}
 use Rattle.lock_program.specs.declared.refusal.Refusal.{Refusal}
 use Rattle.lock_program.specs.declared.refusal.Refusal.TheVariants as refusals
-use Rattle.mutex_core.specs.Locks.{Lock, Seated, IsOf, IsHolding}
+use Rattle.mutex_core.specs.Locks.{Lock, Seated, IsOf, IsSameSeat, IsHolding}
 use Rattle.lock_queue.specs.Receipts.{IsReceipt}
 use Rattle.mutex_core.specs.declared.turn.Held.{Held}
 use Rattle.mutex_core.specs.declared.turn.Outcome.{Outcome}
@@ -35,6 +35,12 @@ abbrev pub IsOutcomeOf : {T : Type 0} → Lock → Context → Outcome T → Typ
 IsOutcomeOf lock cx (Got held) = IsHeldOf lock held
 IsOutcomeOf lock cx (Waits waiting) = IsOf lock waiting.seat × IsReceipt lock.source cx waiting.whose
 IsOutcomeOf lock cx (Refused refusal) = IsGivenUp refusal
+
+-- Whoever has the lock, or waits, does so by this seat.
+abbrev pub IsBySeat : {T : Type 0} → Seated → Outcome T → Type 0
+IsBySeat seat (Got held) = IsSameSeat seat held.seat
+IsBySeat seat (Waits waiting) = IsSameSeat seat waiting.seat
+IsBySeat seat (Refused refusal) = ⊤
 
 -- What was known of when a party first waited is known still.
 abbrev pub IsKept : Option Instant → Option Instant → Type 0

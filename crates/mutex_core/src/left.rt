@@ -110,7 +110,7 @@ impl<T> Words<T> {
 fn find_held<T, R: Wait>(shared: &Listing<T>, rt: &R, inner: &mut Lister<T>)
     requires table { (inner.old.table_id ≡ shared.now.table_id) × (shared.now.table_id.words ≡ 2) }
     requires seen { inner.old.me.0.starved ≡ true → inner.old.me.0.listed ≡ true }
-    ensures table { inner.new.table_id ≡ inner.old.table_id }
+    ensures seat { (inner.new.table_id ≡ inner.old.table_id) × (inner.new.id ≡ inner.old.id) }
     ensures step { inner.new.me ≡ (saw_held_of inner.old.me.0, inner.old.me.1) }
 {
     for _ in rt.forever() {
@@ -169,7 +169,7 @@ fn give_all_back<T>(shared: &Listing<T>, inner: &mut Lister<T>, found: u64)
     requires holds { (inner.old.me.0.holds ≡ true) × (inner.old.me.0.starved ≡ false) × (inner.old.me.0.listed ≡ false) × (inner.old.me.0.fresh ≡ false) }
     requires list { IsHeld cell_entries cell_marked inner.old.me }
     requires right { (right : Cell T) × (rest inner.old.me.1 ≡ (1, right) ∷ []) × HasRightOf inner.old.me.0.room inner.old.me.0.deed right }
-    ensures table { inner.new.table_id ≡ inner.old.table_id }
+    ensures seat { (inner.new.table_id ≡ inner.old.table_id) × (inner.new.id ≡ inner.old.id) }
     ensures step { inner.new.me ≡ (paid_of (cleared_of inner.old.me.0), []) }
 {
     inner.turn();

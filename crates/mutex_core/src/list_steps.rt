@@ -35,7 +35,7 @@ pub(crate) fn join_in<T>(
 ) -> (Result<EntryId, Memory>, u64)
     requires table { inner.old.table_id ≡ shared.now.table_id }
     requires held { IsHeld cell_entries cell_marked inner.old.me }
-    ensures table { inner.new.table_id ≡ inner.old.table_id }
+    ensures seat { (inner.new.table_id ≡ inner.old.table_id) × (inner.new.id ≡ inner.old.id) }
     ensures view { inner.new.me.0 ≡ inner.old.me.0 }
     ensures others { rest inner.new.me.1 ≡ rest inner.old.me.1 }
     ensures ready { MatchResult result.0 (λ id. CanJoin cell_entries cell_marked inner.new.me result.1 id.number) (λ _. CanStay cell_entries cell_marked inner.new.me result.1) }
@@ -56,7 +56,7 @@ pub(crate) fn join_waking_in<T>(
 ) -> (Result<(EntryId, Whose), Memory>, u64)
     requires table { inner.old.table_id ≡ shared.now.table_id }
     requires held { IsHeld cell_entries cell_marked inner.old.me }
-    ensures table { inner.new.table_id ≡ inner.old.table_id }
+    ensures seat { (inner.new.table_id ≡ inner.old.table_id) × (inner.new.id ≡ inner.old.id) }
     ensures view { inner.new.me.0 ≡ inner.old.me.0 }
     ensures others { rest inner.new.me.1 ≡ rest inner.old.me.1 }
     ensures ready { MatchResult result.0 (λ joined. CanJoin cell_entries cell_marked inner.new.me result.1 joined.0.number) (λ _. CanStay cell_entries cell_marked inner.new.me result.1) }
@@ -72,7 +72,7 @@ pub(crate) fn join_waking_in<T>(
 pub(crate) fn notify_in<T>(shared: &Listing<T>, inner: &mut Lister<T>, found: u64) -> (Due, u64)
     requires table { inner.old.table_id ≡ shared.now.table_id }
     requires held { IsHeld cell_entries cell_marked inner.old.me }
-    ensures table { inner.new.table_id ≡ inner.old.table_id }
+    ensures seat { (inner.new.table_id ≡ inner.old.table_id) × (inner.new.id ≡ inner.old.id) }
     ensures view { inner.new.me.0 ≡ inner.old.me.0 }
     ensures others { rest inner.new.me.1 ≡ rest inner.old.me.1 }
     ensures ready { CanPay cell_entries cell_marked inner.new.me result.1 }
@@ -92,7 +92,7 @@ pub(crate) fn leave_in<T>(
     requires table { inner.old.table_id ≡ shared.now.table_id }
     requires held { IsHeld cell_entries cell_marked inner.old.me }
     requires own { inner.old.me.0.entry ≡ id.number }
-    ensures table { inner.new.table_id ≡ inner.old.table_id }
+    ensures seat { (inner.new.table_id ≡ inner.old.table_id) × (inner.new.id ≡ inner.old.id) }
     ensures view { inner.new.me.0 ≡ inner.old.me.0 }
     ensures others { rest inner.new.me.1 ≡ rest inner.old.me.1 }
     ensures ready { CanLeave cell_entries cell_marked inner.new.me result.2 }
@@ -115,7 +115,7 @@ pub(crate) fn ask_in<T>(
     requires table { inner.old.table_id ≡ shared.now.table_id }
     requires held { IsHeld cell_entries cell_marked inner.old.me }
     requires own { inner.old.me.0.entry ≡ id.number }
-    ensures table { inner.new.table_id ≡ inner.old.table_id }
+    ensures seat { (inner.new.table_id ≡ inner.old.table_id) × (inner.new.id ≡ inner.old.id) }
     ensures view { inner.new.me.0 ≡ inner.old.me.0 }
     ensures others { rest inner.new.me.1 ≡ rest inner.old.me.1 }
     ensures ready { ByHeard result.0 (CanHear cell_entries cell_marked inner.new.me result.1) (λ _. CanStay cell_entries cell_marked inner.new.me result.1) }
@@ -137,7 +137,7 @@ pub(crate) fn ask_again_in<T>(
     requires table { inner.old.table_id ≡ shared.now.table_id }
     requires held { IsHeld cell_entries cell_marked inner.old.me }
     requires own { inner.old.me.0.entry ≡ id.number }
-    ensures table { inner.new.table_id ≡ inner.old.table_id }
+    ensures seat { (inner.new.table_id ≡ inner.old.table_id) × (inner.new.id ≡ inner.old.id) }
     ensures view { inner.new.me.0 ≡ inner.old.me.0 }
     ensures others { rest inner.new.me.1 ≡ rest inner.old.me.1 }
     ensures ready { ByHeard result.0 (CanHear cell_entries cell_marked inner.new.me result.1) (λ _. CanStay cell_entries cell_marked inner.new.me result.1) }
@@ -156,7 +156,7 @@ pub(crate) fn entry_in<T>(
 ) -> (Option<(EntryId, Mark)>, u64)
     requires table { inner.old.table_id ≡ shared.now.table_id }
     requires held { IsHeld cell_entries cell_marked inner.old.me }
-    ensures table { inner.new.table_id ≡ inner.old.table_id }
+    ensures seat { (inner.new.table_id ≡ inner.old.table_id) × (inner.new.id ≡ inner.old.id) }
     ensures view { inner.new.me.0 ≡ inner.old.me.0 }
     ensures others { rest inner.new.me.1 ≡ rest inner.old.me.1 }
     ensures ready { CanStay cell_entries cell_marked inner.new.me result.1 }
@@ -177,7 +177,7 @@ pub(crate) fn give_asked<T, K>(
     requires table { (inner.old.table_id ≡ shared.now.table_id) × (shared.now.table_id.words ≡ 2) × (shared.now.table_id.slots ≡ 2) }
     requires list { ByHeard heard (CanHear cell_entries cell_marked inner.old.me word) (λ _. CanStay cell_entries cell_marked inner.old.me word) }
     requires stands { (inner.old.me.0.listed ≡ true) × (inner.old.me.0.fresh ≡ false) }
-    ensures table { inner.new.table_id ≡ inner.old.table_id }
+    ensures seat { (inner.new.table_id ≡ inner.old.table_id) × (inner.new.id ≡ inner.old.id) }
     ensures told { IfNone result ((inner.new.me ≡ (told_of inner.old.me.0, rest inner.old.me.1)) × ByHeard heard ⊤ (λ _. ⊥)) }
     ensures waits { IfSome result (λ kept. (inner.new.me ≡ (back inner.old.me.0, rest inner.old.me.1)) × (heard ≡ heard_as.Waits kept)) }
 {

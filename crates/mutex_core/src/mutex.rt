@@ -9,8 +9,8 @@ ghost use Rattle.lock_program.specs.declared.end.Next.TheVariants.{Do};
 ghost use Rattle.lock_program.specs.declared.mutex.Found.TheVariants as finds;
 ghost use Rattle.lock_program.specs.declared.mutex.Place.TheVariants as at;
 ghost use Rattle.mutex_core.specs.Courses.{IsFirst, IsOutside, notifying_of, pending, refusing, striving_from, waiting_from};
-ghost use Rattle.mutex_core.specs.Locks.{IsOf};
-ghost use Rattle.mutex_core.specs.Outcomes.{IsGivenUp, IsHeldOf, IsKept, IsOutcomeOf, IsRightOf, WaitsSince};
+ghost use Rattle.mutex_core.specs.Locks.{IsOf, IsSameSeat};
+ghost use Rattle.mutex_core.specs.Outcomes.{IsBySeat, IsGivenUp, IsHeldOf, IsKept, IsOutcomeOf, IsRightOf, WaitsSince};
 ghost use Rattle.std.specs.declared.time.Instant.{Instant};
 
 use crate::patience::{first_of, now};
@@ -99,6 +99,7 @@ impl<T> Words<T> {
         requires of { IsOf self.now vain.seat }
         requires course { vain.seat.course ≡ Do (at.Join false) }
         ensures outcome { IsOutcomeOf self.now cx.new result }
+        ensures same { IsBySeat vain.seat result }
         ensures kept { Keeps cx.old cx.new }
     {
         let Vain { seat, is_free } = vain;
@@ -130,7 +131,7 @@ impl<T> Words<T> {
         self.wait(rt, cx, seat, None, true)
     }
 
-    /// Polls a lock that waits. It waits since it first did, over all its polls (`since`).
+    /// Polls a lock that waits. It goes on with the same seat (`same`), and waits since it first did, over all its polls (`since`).
     #[inline]
     pub fn poll_later<R: Wait + Clock>(
         &self,
@@ -140,6 +141,7 @@ impl<T> Words<T> {
     ) -> Outcome<T>
         requires { IsOf self.now waiting.seat }
         ensures outcome { IsOutcomeOf self.now cx.new result }
+        ensures same { IsBySeat waiting.seat result }
         ensures since { WaitsSince waiting.since result }
         ensures kept { Keeps cx.old cx.new }
     {
@@ -201,7 +203,7 @@ impl<T> Words<T> {
         requires of { IsOf self.now seat }
         requires right { IsRightOf self.now hold }
         requires holds { (seat.holds ≡ true) × (seat.starved ≡ false) × (seat.owes ≡ false) × (seat.listed ≡ true) × (seat.fresh ≡ false) × (seat.entry ≡ id.number) × (seat.course ≡ Do at.Leave) }
-        ensures { IsHeldOf self.now result }
+        ensures { IsHeldOf self.now result × IsSameSeat seat result.seat }
     {
         let mut seat = seat;
         self.leave(rt, &mut seat, id, Place::Leave);
@@ -223,6 +225,7 @@ impl<T> Words<T> {
         requires told { told ≡ false → seat.owes ≡ false }
         requires course { seat.course ≡ Do (waiting_from told) }
         ensures outcome { IsOutcomeOf self.now cx.new result }
+        ensures same { IsBySeat seat result }
         ensures since { WaitsSince since result }
         ensures kept { Keeps cx.old cx.new }
     {
@@ -283,6 +286,7 @@ impl<T> Words<T> {
         requires idle { (seat.holds ≡ false) × (seat.starved ≡ false) × (seat.owes ≡ false) × (seat.listed ≡ true) × (seat.fresh ≡ false) × (seat.entry ≡ id.number) }
         requires course { seat.course ≡ Do (at.Count true told) }
         ensures outcome { IsOutcomeOf self.now cx.new result }
+        ensures same { IsBySeat seat result }
         ensures since { (then : Option Instant) → WaitsSince then result }
         ensures kept { Keeps cx.old cx.new }
     {
@@ -305,6 +309,7 @@ impl<T> Words<T> {
         requires idle { (seat.holds ≡ false) × (seat.starved ≡ false) × (seat.owes ≡ false) × (seat.listed ≡ false) × (seat.fresh ≡ false) }
         requires course { seat.course ≡ Do (at.Count false true) }
         ensures outcome { IsOutcomeOf self.now cx.new result }
+        ensures same { IsBySeat seat result }
         ensures since { (then : Option Instant) → WaitsSince then result }
         ensures kept { Keeps cx.old cx.new }
     {
@@ -336,6 +341,7 @@ impl<T> Words<T> {
         requires owing { (seat.holds ≡ false) × (seat.starved ≡ true) × (seat.owes ≡ true) × (seat.listed ≡ false) × (seat.fresh ≡ false) }
         requires course { seat.course ≡ Do (striving_from told) }
         ensures outcome { IsOutcomeOf self.now cx.new result }
+        ensures same { IsBySeat seat result }
         ensures since { (then : Option Instant) → WaitsSince then result }
         ensures kept { Keeps cx.old cx.new }
     {

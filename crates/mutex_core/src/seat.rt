@@ -17,7 +17,7 @@ use words_mutex::{Keep, View, never_two};
 
 /// A party's place at a lock, with which it steps on the lock's words. It has no bytes, and borrows nothing.
 ///
-/// Contracts see: the lock, whether the seat holds it, whether it is counted as starved, whether it owes a notification or a look, whether it
+/// Contracts see: the lock, which of its seats it is, whether the seat holds it, whether it is counted as starved, whether it owes a notification or a look, whether it
 /// has an entry in the list, and of which number, and whether it has not looked since it joined. It has no `Drop`: only [`Seat::rise`] ends it, once it has given
 /// back what it has, and owes nothing. This file alone makes one and takes one apart.
 pub struct Seat<T> {
@@ -36,7 +36,7 @@ impl<T> Model for Seat<T> {
     ghost use Rattle.std.specs.Prelude.{◌≡◌, [], false};
     ghost use Rattle.mutex_core.specs.Locks.{seated, HasSlots};
 
-    ghost view = { λ s. seated s.inner.table_id s.inner.me.0 s.course.next };
+    ghost view = { λ s. seated s.inner.table_id s.inner.id s.inner.me.0 s.course.next };
 
     ghost invariant = { λ s. HasSlots s.inner.me.0.holds s.inner.me.1 × (s.inner.me.0.has_list ≡ false) × (s.inner.me.0.entries ≡ []) × (s.inner.me.0.marked ≡ 0) };
 }
@@ -46,7 +46,7 @@ impl<T> Seat<T> {
     #[inline(always)]
     pub(crate) fn sit(shared: &Listing<T>) -> Seat<T>
         requires { shared.now.table_id.words ≡ 2 }
-        ensures { result ≡ seated shared.now.table_id (first_view shared.now.key.room_id shared.now.key.deed) outside }
+        ensures { result ≡ seated shared.now.table_id result.id (first_view shared.now.key.room_id shared.now.key.deed) outside }
     {
         Seat {
             inner: shared.load_new_seat::<Keep>(WORD).1,

@@ -161,7 +161,7 @@ impl<T> Words<T> {
     /// Returns a new seat, with nothing: one load.
     #[inline]
     pub fn sit(&self) -> Seat<T>
-        ensures { result ≡ entering self.now }
+        ensures { result ≡ entering self.now result.id }
     {
         Seat::sit(&self.table.shared)
     }
@@ -364,7 +364,7 @@ pub(crate) fn take_right<T>(shared: &Listing<T>, spare: &Spare<T>, inner: &mut L
     requires right { (right : Cell T) × (inner.old.me.1 ≡ (1, right) ∷ []) × IsRight spare.now.room_id spare.now.deed right.right }
     requires spare { IsSome spare.now.value }
     ensures hold { result.room_id ≡ spare.now.room_id }
-    ensures seat { (inner.new.table_id ≡ inner.old.table_id) × (inner.new.me.0 ≡ inner.old.me.0) × HasSlots true inner.new.me.1 }
+    ensures seat { (inner.new.table_id ≡ inner.old.table_id) × (inner.new.id ≡ inner.old.id) × (inner.new.me.0 ≡ inner.old.me.0) × HasSlots true inner.new.me.1 }
 {
     let place = inner.slot_mut(shared, RIGHT_SLOT);
     place.put_right(Rested::nothing(spare)).into_hold(spare)
@@ -376,7 +376,7 @@ fn give_back<T>(shared: &Listing<T>, inner: &mut Lister<T>, right: Rested<T>)
     requires table { (inner.old.table_id ≡ shared.now.table_id) × (shared.now.table_id.words ≡ 2) × (shared.now.table_id.slots ≡ 2) }
     requires right { IsRight inner.old.me.0.room inner.old.me.0.deed right }
     requires holds { (inner.old.me.0.holds ≡ true) × HasSlots true inner.old.me.1 }
-    ensures { (inner.new.table_id ≡ inner.old.table_id) × (inner.new.me ≡ (cleared_of inner.old.me.0, [])) }
+    ensures { (inner.new.table_id ≡ inner.old.table_id) × (inner.new.id ≡ inner.old.id) × (inner.new.me ≡ (cleared_of inner.old.me.0, [])) }
 {
     let place = inner.slot_mut(shared, RIGHT_SLOT);
     drop(place.put_right(right));

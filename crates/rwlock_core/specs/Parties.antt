@@ -60,9 +60,30 @@ module _ (raw : RawRwLock) where
 abbrev pub IsSeatOf : Seated → Seated → Type 0
 IsSeatOf s t = (t.table ≡ s.table) × (t.id ≡ s.id)
 
+-- Whoever waited to write goes on by the same seat of the writer lock and, once it has that lock, by the same seat of the state.
+abbrev pub WritesOn : WaitsFor → Writer → Type 0
+WritesOn (Turn w) writer = turn.IsSameSeat w.seat writer.turn.seat
+WritesOn (Readers w held) writer = IsSeatOf w.seat writer.seat × (writer.turn ≡ held)
+
+abbrev pub WaitsOn : WaitsFor → WaitsFor → Type 0
+WaitsOn (Turn w) (Turn v) = turn.IsSameSeat w.seat v.seat
+WaitsOn (Turn w) (Readers v held) = turn.IsSameSeat w.seat held.seat
+WaitsOn (Readers w held) (Readers v still) = IsSeatOf w.seat v.seat × (still ≡ held)
+WaitsOn (Readers w held) (Turn v) = ⊥
+
 abbrev pub IsSameSeat : Seated → Begun → Type 0
 IsSameSeat s (Writes w) = IsSeatOf s w.seat
 IsSameSeat s (Awaits u) = IsSeatOf s u.seat
+
+-- It waits until no reader is inside, with this turn.
+abbrev pub HasTurn : Held Unit → WaitsFor → Type 0
+HasTurn turn (Readers w held) = held ≡ turn
+HasTurn turn (Turn w) = ⊥
+
+-- Who writes that has awaited so.
+abbrev pub WritesAs : Awaited → Held Unit → Writer → Type 0
+WritesAs (awaited.Writes s) turn writer = (writer.seat ≡ s) × (writer.turn ≡ turn)
+WritesAs _ turn writer = ⊥
 
 -- What a write waits for that has awaited so that no reader is inside.
 abbrev pub WaitsAs : Awaited → Held Unit → WaitsFor → Type 0

@@ -2,7 +2,7 @@
 //!
 //! Each action names its place in the table of `sync_program`, and asks that the call has come to it.
 
-ghost use Rattle.std.specs.Prelude.{true, ◌≡◌, ◌≤◌, ◌%◌, ◌/◌, ◌⊎◌, MatchResult};
+ghost use Rattle.std.specs.Prelude.{true, ⊤, ◌≡◌, ◌≤◌, ◌%◌, ◌/◌, ◌⊎◌, MatchResult};
 ghost use Rattle.futures.specs.Task.{Keeps};
 ghost use Rattle.access_core.specs.Accesses.{IsOf, IsIdle, IsReading};
 ghost use Rattle.lock_program.specs.declared.end.End.TheVariants as ends;
@@ -12,6 +12,7 @@ ghost use Rattle.sync_program.specs.declared.rwlock.Place.TheVariants as at;
 ghost use Rattle.rwlock_core.specs.Courses.{next_in};
 ghost use Rattle.rwlock_core.specs.Outcomes.{OnOutcome, IsReadRefusal};
 ghost use Rattle.lock_queue.specs.Receipts.{IsReceipt};
+ghost use Rattle.rwlock_core.specs.Parties.{IsSeatOf};
 
 use crate::course::Course;
 use crate::party::{Outcome, Reader, WaitsToRead};
@@ -80,6 +81,7 @@ impl RawRwLock {
         requires of { IsOf self.now.access seat }
         requires idle { IsIdle seat }
         ensures outcome { OnOutcome result (λ reader. IsOf self.now.access reader.seat) (λ waiting. IsOf self.now.access waiting.seat × IsReceipt self.now.access.source cx.new waiting.whose) IsReadRefusal }
+        ensures same { OnOutcome result (λ reader. IsSeatOf seat reader.seat) (λ waiting. IsSeatOf seat waiting.seat) (λ _. ⊤) }
         ensures kept { Keeps cx.old cx.new }
     {
         let mut seat = seat;
@@ -139,7 +141,7 @@ impl RawRwLock {
         self.read_on(rt, cx, seat, course)
     }
 
-    /// Polls a read that waits.
+    /// Polls a read that waits. It goes on with the same seat (`same`).
     #[inline]
     pub fn poll_reader<R: Wait>(
         &self,
@@ -149,6 +151,7 @@ impl RawRwLock {
     ) -> Outcome<Reader, WaitsToRead>
         requires of { IsOf self.now.access waiting.seat }
         ensures outcome { OnOutcome result (λ reader. IsOf self.now.access reader.seat) (λ waiting. IsOf self.now.access waiting.seat × IsReceipt self.now.access.source cx.new waiting.whose) IsReadRefusal }
+        ensures same { OnOutcome result (λ reader. IsSeatOf waiting.seat reader.seat) (λ still. IsSeatOf waiting.seat still.seat) (λ _. ⊤) }
         ensures kept { Keeps cx.old cx.new }
     {
         let WaitsToRead {
@@ -180,6 +183,7 @@ impl RawRwLock {
         requires idle { IsIdle seat }
         requires course { next_in course ≡ next.Do (at.EnterRead true) }
         ensures outcome { OnOutcome result (λ reader. IsOf self.now.access reader.seat) (λ waiting. IsOf self.now.access waiting.seat × IsReceipt self.now.access.source cx.new waiting.whose) IsReadRefusal }
+        ensures same { OnOutcome result (λ reader. IsSeatOf seat reader.seat) (λ waiting. IsSeatOf seat waiting.seat) (λ _. ⊤) }
         ensures kept { Keeps cx.old cx.new }
     {
         let mut seat = seat;

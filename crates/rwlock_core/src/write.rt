@@ -2,10 +2,10 @@
 //!
 //! Each action names its place in the table of `sync_program`, and asks that the call has come to it.
 
-ghost use Rattle.std.specs.Prelude.{false, ◌≡◌, MatchResult};
+ghost use Rattle.std.specs.Prelude.{false, ⊤, ◌≡◌, MatchResult};
 ghost use Rattle.futures.specs.Task.{Keeps};
 ghost use Rattle.lock_queue.specs.Receipts.{IsReceipt};
-ghost use Rattle.mutex_core.specs.Locks.{IsOf as IsTurnOf};
+ghost use Rattle.mutex_core.specs.Locks.{IsOf as IsTurnOf, IsSameSeat as IsSameTurn};
 ghost use Rattle.mutex_core.specs.Outcomes.{IsHeldOf};
 ghost use Rattle.access_core.specs.Accesses.{IsOf, IsMarking, IsWriting, with_downgrade};
 ghost use Rattle.lock_program.specs.declared.end.End.TheVariants as ends;
@@ -13,7 +13,7 @@ ghost use Rattle.lock_program.specs.declared.end.Next.TheVariants as next;
 ghost use Rattle.sync_program.specs.declared.rwlock.Place.TheVariants as at;
 ghost use Rattle.rwlock_core.specs.Courses.{next_in, without_memory};
 ghost use Rattle.rwlock_core.specs.Outcomes.{OnAwaited, OnOutcome, IsUpgradableRefusal, IsWriteRefusal};
-ghost use Rattle.rwlock_core.specs.Parties.{IsTaking, WaitsAs, IsReaderOf, IsUpgradableOf, IsWriterOf, WaitsAt, HasReceipt};
+ghost use Rattle.rwlock_core.specs.Parties.{HasTurn, IsTaking, WaitsAs, WaitsOn, WritesAs, WritesOn, IsReaderOf, IsUpgradableOf, IsWriterOf, WaitsAt, HasReceipt};
 ghost use Rattle.rwlock_core.specs.Vain.{IsVainUpgradable, IsVainWrite};
 
 use crate::course::Course;
@@ -72,7 +72,7 @@ impl RawRwLock {
     #[inline]
     pub fn upgradable_with<R: Wait>(&self, rt: &R, turn: Turn) -> Outcome<Upgradable, Waiting<()>>
         requires { IsHeldOf self.now.turn turn }
-        ensures { OnOutcome result (IsUpgradableOf self.now) (λ _. ⊥) IsUpgradableRefusal }
+        ensures { OnOutcome result (λ upgradable. IsUpgradableOf self.now upgradable × (upgradable.turn ≡ turn)) (λ _. ⊥) IsUpgradableRefusal }
     {
         let at = Place::Add { trying: false };
         let mut course = Course::with_turn(&turn, at);
@@ -112,7 +112,7 @@ impl RawRwLock {
         }
     }
 
-    /// Polls an upgradable read that waits for the turn.
+    /// Polls an upgradable read that waits for the turn. It goes on with the same seat of the writer lock (`same`).
     #[inline]
     pub fn poll_upgradable_later<R: Wait + Clock>(
         &self,
@@ -122,6 +122,7 @@ impl RawRwLock {
     ) -> Outcome<Upgradable, Waiting<()>>
         requires { IsTurnOf self.now.turn waiting.seat }
         ensures outcome { OnOutcome result (IsUpgradableOf self.now) (λ waiting. IsTurnOf self.now.turn waiting.seat × IsReceipt self.now.turn.source cx.new waiting.whose) IsUpgradableRefusal }
+        ensures same { OnOutcome result (λ upgradable. IsSameTurn waiting.seat upgradable.turn.seat) (λ w. IsSameTurn waiting.seat w.seat) (λ _. ⊤) }
         ensures kept { Keeps cx.old cx.new }
     {
         match self.turn.poll_later(rt, cx, waiting) {
@@ -166,6 +167,7 @@ impl RawRwLock {
     ) -> Outcome<Writer, WaitsFor>
         requires { IsHeldOf self.now.turn turn }
         ensures outcome { OnOutcome result (IsWriterOf self.now) (λ waits. WaitsAt self.now waits × HasReceipt self.now cx.new waits) IsWriteRefusal }
+        ensures same { OnOutcome result (λ writer. writer.turn ≡ turn) (HasTurn turn) (λ _. ⊤) }
         ensures kept { Keeps cx.old cx.new }
     {
         let mut course = Course::with_turn(&turn, Place::Mark);
@@ -194,7 +196,7 @@ impl RawRwLock {
         requires awaited { OnAwaited awaited (λ seat. IsOf self.now.access seat × IsWriting seat) (λ waiting. IsOf self.now.access waiting.seat) (λ seat. IsOf self.now.access seat × IsMarking seat) }
         requires turn { IsHeldOf self.now.turn turn }
         requires course { OnAwaited awaited (λ _. next_in course ≡ next.End ends.Got at.Writing) (λ _. next_in course ≡ next.End ends.Pending (at.AwaitNoReaders false)) (λ _. next_in course ≡ without_memory false) }
-        ensures { OnOutcome result (IsWriterOf self.now) (WaitsAs awaited turn) IsWriteRefusal }
+        ensures { OnOutcome result (λ writer. IsWriterOf self.now writer × WritesAs awaited turn writer) (WaitsAs awaited turn) IsWriteRefusal }
     {
         match awaited {
             Awaited::Writes(seat) => {
@@ -255,7 +257,7 @@ impl RawRwLock {
         }
     }
 
-    /// Polls a write that waits.
+    /// Polls a write that waits. It goes on with the same seats, and gives up no writer lock that it has (`same`).
     #[inline]
     pub fn poll_write_later<R: Wait + Clock>(
         &self,
@@ -265,6 +267,7 @@ impl RawRwLock {
     ) -> Outcome<Writer, WaitsFor>
         requires { WaitsAt self.now waits }
         ensures outcome { OnOutcome result (IsWriterOf self.now) (λ waits. WaitsAt self.now waits × HasReceipt self.now cx.new waits) IsWriteRefusal }
+        ensures same { OnOutcome result (WritesOn waits) (WaitsOn waits) (λ _. ⊤) }
         ensures kept { Keeps cx.old cx.new }
     {
         match waits {

@@ -34,7 +34,7 @@ pub fn tally_listed<T, S: Content, R: Wait>(
     requires table { (inner.old.table_id ≡ shared.now.table_id) × (shared.now.table_id.words ≡ 2) }
     requires limit { limit ≤ 1073741823 }
     requires waits { (inner.old.me.0.starved ≡ false) × (inner.old.me.0.listed ≡ true) × (inner.old.me.0.fresh ≡ false) }
-    ensures table { inner.new.table_id ≡ inner.old.table_id }
+    ensures seat { (inner.new.table_id ≡ inner.old.table_id) × (inner.new.id ≡ inner.old.id) }
     ensures counted { OnOk result (inner.new.me ≡ (counted_listed_of inner.old.me.0, inner.old.me.1)) }
     ensures not { OnErr result (inner.new.me ≡ inner.old.me) }
     ensures limit { IfErr result (λ full. limit ≤ full.starved) }
@@ -62,7 +62,7 @@ pub fn tally<T, S: Content, R: Wait>(
     requires table { (inner.old.table_id ≡ shared.now.table_id) × (shared.now.table_id.words ≡ 2) }
     requires limit { limit ≤ 1073741823 }
     requires waits { inner.old.me.0.starved ≡ false }
-    ensures table { inner.new.table_id ≡ inner.old.table_id }
+    ensures seat { (inner.new.table_id ≡ inner.old.table_id) × (inner.new.id ≡ inner.old.id) }
     ensures counted { OnOk result (inner.new.me ≡ (counted_unlisted_of inner.old.me.0, inner.old.me.1)) }
     ensures not { OnErr result (inner.new.me ≡ inner.old.me) }
     ensures limit { IfErr result (λ full. limit ≤ full.starved) }

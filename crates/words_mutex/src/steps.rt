@@ -65,7 +65,7 @@ pub const NOTIFICATION: u64 = 8;
 pub fn look<T, S: Content>(shared: &Ruled<T, S>, inner: &mut TableSeat<S, View>) -> u64
     requires table { (inner.old.table_id ≡ shared.now.table_id) × (shared.now.table_id.words ≡ 2) }
     requires seen { inner.old.me.0.starved ≡ true → inner.old.me.0.listed ≡ true }
-    ensures table { inner.new.table_id ≡ inner.old.table_id }
+    ensures seat { (inner.new.table_id ≡ inner.old.table_id) × (inner.new.id ≡ inner.old.id) }
     ensures step { Looked inner.old.me result inner.new.me }
 {
     shared.load::<Looks>(inner, WORD)
@@ -75,7 +75,7 @@ pub fn look<T, S: Content>(shared: &Ruled<T, S>, inner: &mut TableSeat<S, View>)
 #[inline]
 pub fn read<T, S: Content>(shared: &Ruled<T, S>, inner: &mut TableSeat<S, View>) -> u64
     requires table { (inner.old.table_id ≡ shared.now.table_id) × (shared.now.table_id.words ≡ 2) }
-    ensures table { inner.new.table_id ≡ inner.old.table_id }
+    ensures seat { (inner.new.table_id ≡ inner.old.table_id) × (inner.new.id ≡ inner.old.id) }
     ensures same { inner.new.me ≡ inner.old.me }
 {
     shared.load::<Keep>(inner, WORD)
@@ -86,7 +86,7 @@ pub fn read<T, S: Content>(shared: &Ruled<T, S>, inner: &mut TableSeat<S, View>)
 pub fn exchange<T, S: Content>(shared: &Ruled<T, S>, inner: &mut TableSeat<S, View>) -> u64
     requires table { (inner.old.table_id ≡ shared.now.table_id) × (shared.now.table_id.words ≡ 2) }
     requires seen { inner.old.me.0.starved ≡ true → inner.old.me.0.listed ≡ true }
-    ensures table { inner.new.table_id ≡ inner.old.table_id }
+    ensures seat { (inner.new.table_id ≡ inner.old.table_id) × (inner.new.id ≡ inner.old.id) }
     ensures took { result ≡ 0 → Got S.is_right 0 inner.old.me inner.new.me }
     ensures not { result ≢ 0 → Looked inner.old.me result inner.new.me }
 {
@@ -98,7 +98,7 @@ pub fn exchange<T, S: Content>(shared: &Ruled<T, S>, inner: &mut TableSeat<S, Vi
 pub fn exchange_alone<T, S: Content>(shared: &Ruled<T, S>, inner: &mut TableSeat<S, View>) -> u64
     requires table { (inner.old.table_id ≡ shared.now.table_id) × (shared.now.table_id.words ≡ 2) }
     requires stands { (inner.old.me.0.starved ≡ true) × (inner.old.me.0.listed ≡ true) }
-    ensures table { inner.new.table_id ≡ inner.old.table_id }
+    ensures seat { (inner.new.table_id ≡ inner.old.table_id) × (inner.new.id ≡ inner.old.id) }
     ensures took { result ≡ 2 → Got S.is_right 1 inner.old.me inner.new.me }
     ensures not { result ≢ 2 → Looked inner.old.me result inner.new.me }
     ensures some { result ≢ 0 }
@@ -110,7 +110,7 @@ pub fn exchange_alone<T, S: Content>(shared: &Ruled<T, S>, inner: &mut TableSeat
 #[inline]
 pub fn lift<T, S: Content>(shared: &Ruled<T, S>, inner: &mut TableSeat<S, View>) -> u64
     requires table { (inner.old.table_id ≡ shared.now.table_id) × (shared.now.table_id.words ≡ 2) }
-    ensures table { inner.new.table_id ≡ inner.old.table_id }
+    ensures seat { (inner.new.table_id ≡ inner.old.table_id) × (inner.new.id ≡ inner.old.id) }
     ensures took { result % 2 ≡ 0 → Got S.is_right (result / 2) inner.old.me inner.new.me }
     ensures not { result % 2 ≢ 0 → inner.new.me ≡ inner.old.me }
 {
@@ -127,7 +127,7 @@ pub fn count_listed<T, S: Content>(
     requires table { (inner.old.table_id ≡ shared.now.table_id) × (shared.now.table_id.words ≡ 2) }
     requires few { found / 2 < 1073741823 }
     requires waits { (inner.old.me.0.starved ≡ false) × (inner.old.me.0.listed ≡ true) × (inner.old.me.0.fresh ≡ false) }
-    ensures table { inner.new.table_id ≡ inner.old.table_id }
+    ensures seat { (inner.new.table_id ≡ inner.old.table_id) × (inner.new.id ≡ inner.old.id) }
     ensures counts { result ≡ found → inner.new.me ≡ (counted_listed_of inner.old.me.0, inner.old.me.1) }
     ensures not { result ≢ found → inner.new.me ≡ inner.old.me }
 {
@@ -144,7 +144,7 @@ pub fn count_unlisted<T, S: Content>(
     requires table { (inner.old.table_id ≡ shared.now.table_id) × (shared.now.table_id.words ≡ 2) }
     requires few { found / 2 < 1073741823 }
     requires waits { inner.old.me.0.starved ≡ false }
-    ensures table { inner.new.table_id ≡ inner.old.table_id }
+    ensures seat { (inner.new.table_id ≡ inner.old.table_id) × (inner.new.id ≡ inner.old.id) }
     ensures counts { result ≡ found → inner.new.me ≡ (counted_unlisted_of inner.old.me.0, inner.old.me.1) }
     ensures not { result ≢ found → inner.new.me ≡ inner.old.me }
 {
@@ -156,7 +156,7 @@ pub fn count_unlisted<T, S: Content>(
 pub fn uncount<T, S: Content>(shared: &Ruled<T, S>, inner: &mut TableSeat<S, View>)
     requires table { (inner.old.table_id ≡ shared.now.table_id) × (shared.now.table_id.words ≡ 2) }
     requires starved { inner.old.me.0.starved ≡ true }
-    ensures table { inner.new.table_id ≡ inner.old.table_id }
+    ensures seat { (inner.new.table_id ≡ inner.old.table_id) × (inner.new.id ≡ inner.old.id) }
     ensures step { inner.new.me ≡ (uncounted_of inner.old.me.0, inner.old.me.1) }
 {
     shared.fetch_sub::<Uncounts>(inner, WORD, COUNT);
@@ -167,7 +167,7 @@ pub fn uncount<T, S: Content>(shared: &Ruled<T, S>, inner: &mut TableSeat<S, Vie
 pub fn clear<T, S: Content>(shared: &Ruled<T, S>, inner: &mut TableSeat<S, View>)
     requires table { (inner.old.table_id ≡ shared.now.table_id) × (shared.now.table_id.words ≡ 2) × (shared.now.table_id.slots ≡ 2) }
     requires right { HasRight S.is_right inner.old.me }
-    ensures table { inner.new.table_id ≡ inner.old.table_id }
+    ensures seat { (inner.new.table_id ≡ inner.old.table_id) × (inner.new.id ≡ inner.old.id) }
     ensures step { inner.new.me ≡ (cleared_of inner.old.me.0, rest inner.old.me.1) }
 {
     shared.fetch_sub::<Clears>(inner, WORD, HELD);
@@ -178,7 +178,7 @@ pub fn clear<T, S: Content>(shared: &Ruled<T, S>, inner: &mut TableSeat<S, View>
 pub fn peek<T, S: Content>(shared: &Ruled<T, S>, inner: &mut TableSeat<S, View>) -> u64
     requires table { (inner.old.table_id ≡ shared.now.table_id) × (shared.now.table_id.words ≡ 2) }
     requires calm { inner.old.me.0.starved ≡ false }
-    ensures table { inner.new.table_id ≡ inner.old.table_id }
+    ensures seat { (inner.new.table_id ≡ inner.old.table_id) × (inner.new.id ≡ inner.old.id) }
     ensures step { inner.new.me ≡ (peeking result inner.old.me.0, inner.old.me.1) }
 {
     shared.load::<Peeks>(inner, LIST)
@@ -188,7 +188,7 @@ pub fn peek<T, S: Content>(shared: &Ruled<T, S>, inner: &mut TableSeat<S, View>)
 #[inline]
 pub fn grab<T, S: Content>(shared: &Ruled<T, S>, inner: &mut TableSeat<S, View>) -> u64
     requires table { (inner.old.table_id ≡ shared.now.table_id) × (shared.now.table_id.words ≡ 2) }
-    ensures table { inner.new.table_id ≡ inner.old.table_id }
+    ensures seat { (inner.new.table_id ≡ inner.old.table_id) × (inner.new.id ≡ inner.old.id) }
     ensures took { result % 2 ≡ 0 → IsHeld S.entries S.marked inner.new.me × IsSame inner.old.me.0 inner.new.me.0 × (rest inner.new.me.1 ≡ inner.old.me.1) }
     ensures not { result % 2 ≢ 0 → inner.new.me ≡ inner.old.me }
 {
@@ -199,7 +199,7 @@ pub fn grab<T, S: Content>(shared: &Ruled<T, S>, inner: &mut TableSeat<S, View>)
 #[inline]
 pub fn grab_asleep<T, S: Content>(shared: &Ruled<T, S>, inner: &mut TableSeat<S, View>) -> u64
     requires table { (inner.old.table_id ≡ shared.now.table_id) × (shared.now.table_id.words ≡ 2) }
-    ensures table { inner.new.table_id ≡ inner.old.table_id }
+    ensures seat { (inner.new.table_id ≡ inner.old.table_id) × (inner.new.id ≡ inner.old.id) }
     ensures took { result % 2 ≡ 0 → IsHeld S.entries S.marked inner.new.me × IsSame inner.old.me.0 inner.new.me.0 × (rest inner.new.me.1 ≡ inner.old.me.1) }
     ensures not { result % 2 ≢ 0 → inner.new.me ≡ inner.old.me }
 {
@@ -217,7 +217,7 @@ pub fn give_joined<T, S: Content, N: Numbered>(
     requires table { (inner.old.table_id ≡ shared.now.table_id) × (shared.now.table_id.words ≡ 2) × (shared.now.table_id.slots ≡ 2) }
     requires list { CanJoin S.entries S.marked inner.old.me new (N.number entry.now) }
     requires stands { (inner.old.me.0.listed ≡ false) × (inner.old.me.0.starved ≡ true → inner.old.me.0.owes ≡ true) }
-    ensures table { inner.new.table_id ≡ inner.old.table_id }
+    ensures seat { (inner.new.table_id ≡ inner.old.table_id) × (inner.new.id ≡ inner.old.id) }
     ensures step { inner.new.me ≡ (joined_of (N.number entry.now) inner.old.me.0, rest inner.old.me.1) }
 {
     let _ = entry;
@@ -234,7 +234,7 @@ pub fn give_told<T, S: Content>(
     requires table { (inner.old.table_id ≡ shared.now.table_id) × (shared.now.table_id.words ≡ 2) × (shared.now.table_id.slots ≡ 2) }
     requires list { CanHear S.entries S.marked inner.old.me new }
     requires stands { (inner.old.me.0.listed ≡ true) × (inner.old.me.0.fresh ≡ false) }
-    ensures table { inner.new.table_id ≡ inner.old.table_id }
+    ensures seat { (inner.new.table_id ≡ inner.old.table_id) × (inner.new.id ≡ inner.old.id) }
     ensures step { inner.new.me ≡ (told_of inner.old.me.0, rest inner.old.me.1) }
 {
     shared.swap::<Told>(inner, LIST, new)
@@ -250,7 +250,7 @@ pub fn give_paid<T, S: Content>(
     requires table { (inner.old.table_id ≡ shared.now.table_id) × (shared.now.table_id.words ≡ 2) × (shared.now.table_id.slots ≡ 2) }
     requires list { CanPay S.entries S.marked inner.old.me new }
     requires stands { inner.old.me.0.starved ≡ true → (inner.old.me.0.listed ≡ true) × (inner.old.me.0.fresh ≡ false) }
-    ensures table { inner.new.table_id ≡ inner.old.table_id }
+    ensures seat { (inner.new.table_id ≡ inner.old.table_id) × (inner.new.id ≡ inner.old.id) }
     ensures step { inner.new.me ≡ (paid_of inner.old.me.0, rest inner.old.me.1) }
 {
     shared.swap::<Paid>(inner, LIST, new)
@@ -266,7 +266,7 @@ pub fn give_gone<T, S: Content>(
     requires table { (inner.old.table_id ≡ shared.now.table_id) × (shared.now.table_id.words ≡ 2) × (shared.now.table_id.slots ≡ 2) }
     requires list { CanLeave S.entries S.marked inner.old.me new }
     requires stands { (inner.old.me.0.listed ≡ true) × (inner.old.me.0.fresh ≡ false) × (inner.old.me.0.starved ≡ false) }
-    ensures table { inner.new.table_id ≡ inner.old.table_id }
+    ensures seat { (inner.new.table_id ≡ inner.old.table_id) × (inner.new.id ≡ inner.old.id) }
     ensures step { inner.new.me ≡ (gone_of inner.old.me.0, rest inner.old.me.1) }
 {
     shared.swap::<Gone>(inner, LIST, new)
@@ -281,7 +281,7 @@ pub fn give_same<T, S: Content>(
 ) -> u64
     requires table { (inner.old.table_id ≡ shared.now.table_id) × (shared.now.table_id.words ≡ 2) × (shared.now.table_id.slots ≡ 2) }
     requires list { CanStay S.entries S.marked inner.old.me new }
-    ensures table { inner.new.table_id ≡ inner.old.table_id }
+    ensures seat { (inner.new.table_id ≡ inner.old.table_id) × (inner.new.id ≡ inner.old.id) }
     ensures step { inner.new.me ≡ (back inner.old.me.0, rest inner.old.me.1) }
 {
     shared.swap::<Same>(inner, LIST, new)
