@@ -1,6 +1,6 @@
 -- A vault is made over a value in place: nothing was lent yet, and its desk is empty. Assumes `Logic`.
 use Rattle.std.proofs.Common.{ℕ, [], ◌∷◌}
-use mathlib.Core.Bool.{Bool, true, false}
+use mathlib.Core.Bool.{Bool, true}
 use seplogic.Ra.Ura.{Ura}
 use base.Fraction.{full_share}
 use base.Logic.{SProp, ent, sep, ex, via}

@@ -1,5 +1,5 @@
 -- The parts of a round's token, and the numbers of those who read and write.
-use Rattle.std.proofs.Common.{◌≡◌, ◌≢◌, ℕ, zero, suc, ◌+◌, ◌<◌, ◌≤◌, Bool, true, false, List, [], ◌∷◌, ◌++◌, set, sym, refl, ap, ◌∙◌, subst, arith}
+use Rattle.std.proofs.Common.{◌≡◌, ℕ, zero, suc, ◌+◌, Bool, true, false, List, [], ◌∷◌, ◌++◌, set, sym, refl, ap, ◌∙◌, subst, arith}
 use mathlib.Core.Option.{some, some-injective, some-ne-none}
 use mathlib.Mathlib.Data.Part.{◌∈◌}
 use lib.ListN.{get_elem?}
@@ -8,7 +8,7 @@ use base.Fraction.{full_share, op}
 use base.Fml.{Share}
 use base.Algebras.{pcs, shares}
 use Rattle.words_base.specs.Sums.{weight, number}
-use Rattle.access_vault.specs.Vault.{Cell, emptied, is_one, is_more, cell_reads, cell_writes, pick, Fills}
+use Rattle.access_vault.specs.Vault.{Round, Cell, emptied, is_one, cell_reads, pick, Fills}
 
 pub pick_case : {A B Z : Type 0} (b : Bool) → pick b A B → (b ≡ true → A → Z) → (b ≡ false → B → Z) → Z
 pick_case true x f g = f refl x
@@ -31,7 +31,7 @@ turned : (e e1 e2 p f : Share) → e ∈ op e1 e2 → f ∈ op e p → (g : Shar
 turned e e1 e2 p f m n = let u = op_assoc_left (pcs shares) {a = e1} {b = e2} {c = p} {ab = e} {d = f} m n in
     op_assoc_right (pcs shares) {a = e1} {b = p} {c = e2} {bc = u.0} {d = f} ((mem-op_comm (pcs shares) {a = e2} {b = p} {c = u.0}).0 u.1) u.2
 
-module _ {V : Type 0} (a : ℕ) where
+module _ {V : Type 0} (a : Round) where
   -- the part e2 is given to one more who reads
   pub fills_more : (e e1 e2 : Share) (l : List (Cell V)) (x : Cell V) → Fills a e l → e ∈ op e1 e2 → is_one x.kind ≡ true → x.round ≡ a → x.part ≡ e2 → Fills a e1 (l ++ x ∷ [])
   fills_more e e1 e2 [] x f m one here part = pick_true _ _ (is_one x.kind) one (here, (e, subst (λ (p : Share). e ∈ op e1 p) (sym part) m, f))

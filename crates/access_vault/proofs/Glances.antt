@@ -16,7 +16,7 @@ use denote.SharingLaws.{within_shr_laws, contraction, shortens}
 use denote.Steps.{nothing}
 use denote.Struct.Lending.{Lends}
 use Rattle.lock_place.specs.Held.{age, seen_at}
-use Rattle.access_vault.specs.Vault.{pledge, reading}
+use Rattle.access_vault.specs.Vault.{pledge, reading, round_of}
 use Rattle.access_vault.specs.Kept.{VaultId, rights, views, glance_with, glance_owns, glance_shares}
 
 -- A `&` to a glance shares the value while the age lasts.
@@ -50,7 +50,7 @@ module _ {M : Type 1} {𝓤 : Ura M} (𝓛 : Logic 𝓤) (R : RattleType) (L : R
   α = age z.room
 
   abbrev Acc : X → Fml
-  Acc u = pledge R z.room views rights z.table z.desk u.0 (reading id v u.1.0 u.1.1)
+  Acc u = pledge R z.room views rights z.table z.desk u.0 (reading id v u.1.0 (round_of R u.1.1 x))
 
   abbrev Pg : Fml
   Pg = glance_owns R z id v x

@@ -1,5 +1,5 @@
 -- What a vault lends against a seat, and takes back: ghost steps, with the table's invariant and the vault's own open. Assumes `Logic`.
-use Rattle.std.proofs.Common.{◌≡◌, ◌≢◌, ℕ, zero, suc, ◌+◌, ◌<◌, ◌≤◌, List, [], ◌∷◌, ◌++◌, length, get_or, set, sym, refl, ap, ◌∙◌, subst, arith, ⊎_elim}
+use Rattle.std.proofs.Common.{◌≡◌, ℕ, zero, suc, ◌+◌, ◌<◌, List, [], ◌∷◌, ◌++◌, length, set, sym, refl, ap, ◌∙◌, arith, ⊎_elim}
 use mathlib.Core.Bool.{Bool, true, false}
 use mathlib.Core.Logic.{◌⊎◌, inl, inr, dite}
 use mathlib.Core.Option.{some, some-injective, some-ne-none}
@@ -11,15 +11,13 @@ use base.Fraction.{full_share}
 use base.Share.{three_quarters}
 use base.Stored.{Coded}
 use base.Logic.{SProp, ent, sep, ex, guard, upd, emp, via, upd_i, id⊢, emp∗, snd∗}
-use base.Fml.{Lft, Share, Fml, ftrue, fsep, fex, fbor, flent, flft, fobs, fnamed, finv}
-use base.Several.{Apart, invs, bodies}
+use base.Fml.{Lft, Share, Fml, ftrue, fbor, flft, fobs, fnamed, finv}
+use base.Several.{Apart, bodies}
 use mathlib.Core.HLevel.{⊥_prop}
 use mathlib.Core.Logic.Or
 use mathlib.Core.List.{mem-cons, not-mem-nil}
 use types.Logic.{Logic, sem}
 use types.Kit.{‵, raw, ◌⊛◌, some, given, ◌$◌, ◌∵◌, !, qed, by, move, keep, drop, split, split3, join, fsplit, fsplit3, fjoin, fjoin3, fpick, fpack, pick, learn, show, check, frame, assume, suffices, settle, done, use0, use1, use2, use3, rewrite}
-use types.Kit as Kit
-use types.Kit.{later, updating, await, now}
 use denote.RattleType.{RattleType, RowLaws}
 use denote.SharingLaws.{contraction}
 use denote.Steps.{nothing}
@@ -28,10 +26,10 @@ use Rattle.atomic_table.specs.Seated.{TableId, seen, roster, inner, standing}
 use denote.RawPtr.{Ptr}
 use Rattle.atomic_table.proofs.Lists.{set_again}
 use Rattle.atomic_table.proofs.Roster.{Moved, moves, Joined, joins, apart}
-use Rattle.lock_place.specs.Held.{RoomId, age, held, seen_at}
+use Rattle.lock_place.specs.Held.{RoomId, age, seen_at}
 use Rattle.words_base.specs.Sums.{weight, number}
 use Rattle.words_base.proofs.Sums as word
-use Rattle.access_vault.specs.Vault.{fact, Cell, cell_coded, reading, writing, emptied, is_one, is_more, cell_reads, cell_writes, Fills, Rights, Excludes, seat, pledged, pledges, waits, sight, stock, desk, pledge, calm_with, calm, busy, mode, vault_at, either_way, vault}
+use Rattle.access_vault.specs.Vault.{Round, round_of, Cell, cell_coded, reading, writing, emptied, is_one, is_more, cell_reads, cell_writes, Fills, Rights, Excludes, seat, pledged, pledges, waits, sight, stock, desk, pledge, calm_with, calm, vault_at, either_way, vault}
 use Rattle.access_vault.proofs.Fills.{fills_more, fills_less, fills_all, whole_fills, number-more}
 
 module _ {M : Type 1} {𝓤 : Ura M} (𝓛 : Logic 𝓤) (R : RattleType) (L : RowLaws R) (z : RoomId) {V : Type 0} (cv : Coded V) (k : Rights V) (t : TableId) (δ : ℕ) where
@@ -145,17 +143,27 @@ module _ {M : Type 1} {𝓤 : Ura M} (𝓛 : Logic 𝓤) (R : RattleType) (L : R
   sight_twice a x = contraction 𝓛 (seen_at R z x) (L x z.block z.offset) (a ∷ age z)
 
   -- the vault is put together again
-  pub calm_vault : (l : List C) (u : ℕ × (Share × R.Denot)) → number cell_writes l ≡ 0 → Fills u.0 u.1.0 l → ⟦ D l ⟧ ∗ ⟦ P l ⟧ ∗ ⟦ Stock u.0 u.1.0 u.1.1 ⟧ ⊢ Vault
-  calm_vault l u zero_writers f = qed 𝓛 (‵ (D l) ∷ ‵ (P l) ∷ ‵ (Stock u.0 u.1.0 u.1.1) ∷ []) ∵ move ! (2 ∷ []) $ nothing ! $ fpack ! ((number cell_writes l ≡ 0) × Fills u.0 u.1.0 l) (λ _. ftrue) (zero_writers, f) $ fjoin ! $
+  pub calm_vault : (l : List C) (u : ℕ × (Share × R.Denot)) → number cell_writes l ≡ 0 → Fills (round_of R u.0 u.1.1) u.1.0 l → ⟦ D l ⟧ ∗ ⟦ P l ⟧ ∗ ⟦ Stock u.0 u.1.0 u.1.1 ⟧ ⊢ Vault
+  calm_vault l u zero_writers f = qed 𝓛 (‵ (D l) ∷ ‵ (P l) ∷ ‵ (Stock u.0 u.1.0 u.1.1) ∷ []) ∵ move ! (2 ∷ []) $ nothing ! $ fpack ! ((number cell_writes l ≡ 0) × Fills (round_of R u.0 u.1.1) u.1.0 l) (λ _. ftrue) (zero_writers, f) $ fjoin ! $
       fpack ! (ℕ × (Share × R.Denot)) (calm_with R z cv k t δ l) u $ move ! (1 ∷ 2 ∷ 0 ∷ []) $ fjoin3 ! $ fpack ! Bool (vault_at R z cv k t δ l) true $ fpack ! (List C) (either_way R z cv k t δ) l $ done !
 
   busy_vault : (l : List C) → number cell_writes l ≡ 1 → number cell_reads l ≡ 0 → ⟦ D l ⟧ ∗ ⟦ P l ⟧ ⊢ Vault
   busy_vault l one_writer zero_readers = qed 𝓛 (‵ (D l) ∷ ‵ (P l) ∷ []) ∵ nothing ! $ fpack ! ((number cell_writes l ≡ 1) × (number cell_reads l ≡ 0)) (λ _. ftrue) (one_writer, zero_readers) $
       move ! (1 ∷ 2 ∷ 0 ∷ []) $ fjoin3 ! $ fpack ! Bool (vault_at R z cv k t δ l) false $ fpack ! (List C) (either_way R z cv k t δ) l $ done !
 
+  -- an account that goes with what was lent stands in the desk
+  abbrev Stands : List C → ℕ → C → Pr
+  Stands l j x = guard 𝓤 (get_elem? l j ≡ some x) (⟦ D l ⟧ ∗ ⟦ G j x ⟧)
+
+  stands : (l : List C) (j : ℕ) (x : C) → ⟦ D l ⟧ ∗ ⟦ G j x ⟧ ⊢ upd 𝓤 (Stands l j x)
+  stands l j x = let Z : Pr = Stands l j x in qed 𝓛 (‵ (D l) ∷ ‵ (G j x) ∷ []) ∵
+      use2 𝓛 (given (get_elem? l j ≡ some x) (raw (base.Logic.all 𝓤 (Moved 𝓛 cc δ 0 l j j)))) (moves 𝓛 cc δ l 0 j j x (omega arith)) $ learn ! (λ at.
+      use1 𝓛 (raw (Moved 𝓛 cc δ 0 l j j x)) (base.Logic.all_e 𝓤 (Moved 𝓛 cc δ 0 l j j) x) $ settle 𝓛 Z (‵ (D (set l j x)) ⊛ ‵ (G j x)) $ split ! $
+      rewrite ! 0 (λ (m : List C). ‵ (D m)) (set_again l j x at) refl $ suffices ! _ (upd_i 𝓤 Z) $ check ! at $ done !)
+
   -- what a reader gets: an account of its pledge, a part of the round's token, and the sight of the value
   abbrev Lent : ℕ → V → ℕ × (Share × (ℕ × R.Denot)) → Pr
-  Lent id v u = ⟦ G u.0 (reading id v u.1.0 u.1.1.0) ⟧ ∗ ⟦ Tok u.1.1.0 u.1.0 ⟧ ∗ ⟦ Sight u.1.1.0 u.1.1.1 ⟧
+  Lent id v u = ⟦ G u.0 (reading id v u.1.0 (round_of R u.1.1.0 u.1.1.1)) ⟧ ∗ ⟦ Tok u.1.1.0 u.1.0 ⟧ ∗ ⟦ Sight u.1.1.0 u.1.1.1 ⟧
 
   abbrev Reader : ℕ → V → Pr
   Reader id v = ex 𝓤 (Lent id v)
@@ -164,7 +172,7 @@ module _ {M : Type 1} {𝓤 : Ura M} (𝓛 : Logic 𝓤) (R : RattleType) (L : R
   calm_read : (l : List C) (id : ℕ) (v : V) → k.reads v ≡ true → ⟦ D l ⟧ ∗ ⟦ P l ⟧ ∗ ⟦ calm R z cv k t δ l ⟧ ∗ ⟦ S id v ⟧ ⊢ upd 𝓤 (Vault ∗ Reader id v)
   calm_read l id v right = let Z : Pr = Vault ∗ Reader id v in
       qed 𝓛 (‵ (D l) ∷ ‵ (P l) ∷ ‵ (calm R z cv k t δ l) ∷ ‵ (S id v) ∷ []) ∵ move ! (2 ∷ []) $ fpick ! (λ u. let a : ℕ = u.0 in let e : Share = u.1.0 in let y : R.Denot = u.1.1 in
-      fsplit ! $ fpick ! (λ h. drop ! $ let x : C = reading id v (Share.right e) a in let l' : List C = l ++ x ∷ [] in
+      fsplit ! $ fpick ! (λ h. drop ! $ let x : C = reading id v (Share.right e) (round_of R a y) in let l' : List C = l ++ x ∷ [] in
       fsplit ! $ use1 𝓛 (‵ (Tok a (Share.left e)) ⊛ ‵ (Tok a (Share.right e))) (𝓛.lfts.lft_split (a ∷ []) e) $ split ! $
       -- left, right, rest, D, P, S
       move ! (2 ∷ []) $ fsplit ! $ use1 𝓛 (‵ (Sight a y) ⊛ ‵ (Sight a y)) (sight_twice a y) $ split ! $
@@ -174,39 +182,65 @@ module _ {M : Type 1} {𝓤 : Ura M} (𝓛 : Logic 𝓤) (R : RattleType) (L : R
       move ! (8 ∷ []) $ nothing ! $ fpack ! (k.reads v ≡ true) (λ _. ftrue) right $ fjoin ! $ move ! (8 ∷ 0 ∷ []) $ use2 𝓛 (‵ (P l')) (pledges_add l x) $
       -- P', D', G, sight, sight, rest, left, right
       suffices ! _ (upd_i 𝓤 Z) $ move ! (3 ∷ 5 ∷ []) $ fjoin ! $ move ! (5 ∷ 0 ∷ []) $ fjoin ! $
-      move ! (2 ∷ 1 ∷ 0 ∷ []) $ use3 𝓛 (raw Vault) (calm_vault l' (a, (Share.left e, y)) (let n = number-more cell_writes l x in let z₀ = h.0 in omega arith) (fills_more a e (Share.left e) (Share.right e) l x h.1 (Share.halves e) refl refl refl)) $
+      move ! (2 ∷ 1 ∷ 0 ∷ []) $ use3 𝓛 (raw Vault) (calm_vault l' (a, (Share.left e, y)) (let n = number-more cell_writes l x in let z₀ = h.0 in omega arith) (fills_more (round_of R a y) e (Share.left e) (Share.right e) l x h.1 (Share.halves e) refl refl refl)) $
       -- vault, G, sight, right
       frame ! $ show ! (Lent id v) (j, (Share.right e, (a, y))) $ move ! (0 ∷ 2 ∷ 1 ∷ []) $ done !)))
 
   -- a reader gives back its part, and has its seat again
-  module _ (id : ℕ) (v : V) (e : Share) (a : ℕ) (j : ℕ) where
+  module _ (id : ℕ) (v : V) (e : Share) (r : Round) (j : ℕ) where
     abbrev x₀ : C
-    x₀ = reading id v e a
+    x₀ = reading id v e r
 
     abbrev Z₀ : Pr
     Z₀ = Vault ∗ ⟦ S id v ⟧
 
-    back : (l : List C) (b : Bool) → ⟦ vault_at R z cv k t δ l b ⟧ ∗ ⟦ G j x₀ ⟧ ∗ ⟦ Tok a e ⟧ ⊢ upd 𝓤 Z₀
-    back l true = qed 𝓛 (‵ (vault_at R z cv k t δ l true) ∷ ‵ (G j x₀) ∷ ‵ (Tok a e) ∷ []) ∵ fsplit3 ! $ move ! (0 ∷ 3 ∷ []) $
+    back : (l : List C) (b : Bool) → ⟦ vault_at R z cv k t δ l b ⟧ ∗ ⟦ G j x₀ ⟧ ∗ ⟦ Tok r.0 e ⟧ ⊢ upd 𝓤 Z₀
+    back l true = qed 𝓛 (‵ (vault_at R z cv k t δ l true) ∷ ‵ (G j x₀) ∷ ‵ (Tok r.0 e) ∷ []) ∵ fsplit3 ! $ move ! (0 ∷ 3 ∷ []) $
         -- D, G, P, calm, Tok
         use2 𝓛 (given (get_elem? l j ≡ some x₀) (raw (base.Logic.all 𝓤 (Moved 𝓛 cc δ 0 l j j)))) (moves 𝓛 cc δ l 0 j j x₀ (omega arith)) $ learn ! (λ at.
         use1 𝓛 (raw (Moved 𝓛 cc δ 0 l j j (emptied x₀))) (base.Logic.all_e 𝓤 (Moved 𝓛 cc δ 0 l j j) (emptied x₀)) $ settle 𝓛 Z₀ (‵ (D (set l j (emptied x₀))) ⊛ ‵ (G j (emptied x₀))) $ split ! $
         -- D', G', P, calm, Tok
         move ! (2 ∷ []) $ use1 𝓛 (‵ (Of x₀ 1) ⊛ ‵ (P (set l j (emptied x₀)))) (pledges_take l j x₀ at) $ split ! $ fsplit ! $ drop ! $
         -- S, P', D', G', calm, Tok
-        move ! (4 ∷ []) $ fpick ! (λ u. fsplit ! $ fpick ! (λ h. drop ! $ let r = fills_less u.0 u.1.0 l j x₀ at refl h.1 in
+        move ! (4 ∷ []) $ fpick ! (λ u. fsplit ! $ fpick ! (λ h. drop ! $ let less = fills_less (round_of R u.0 u.1.1) u.1.0 l j x₀ at refl h.1 in
         -- stock, S, P', D', G', Tok
-        fsplit ! $ move ! (0 ∷ 6 ∷ []) $ rewrite ! 1 (λ (c : ℕ). ‵ (Tok c e)) r.0 refl $ use2 𝓛 (‵ (Tok u.0 r.1.0)) (𝓛.lfts.lft_glue (u.0 ∷ []) r.1.0 u.1.0 e r.1.1) $
+        fsplit ! $ move ! (0 ∷ 6 ∷ []) $ rewrite ! 1 (λ (c : Round). ‵ (Tok c.0 e)) less.0 refl $ use2 𝓛 (‵ (Tok u.0 less.1.0)) (𝓛.lfts.lft_glue (u.0 ∷ []) less.1.0 u.1.0 e less.1.1) $
         -- Tok, rest, S, P', D', G'
         fjoin ! $ move ! (3 ∷ 2 ∷ 0 ∷ []) $
-        use3 𝓛 (raw Vault) (calm_vault (set l j (emptied x₀)) (u.0, (r.1.0, u.1.1)) (let n = word.number-set cell_writes l j x₀ (emptied x₀) at in let z₀ = h.0 in omega arith) r.1.2) $
+        use3 𝓛 (raw Vault) (calm_vault (set l j (emptied x₀)) (u.0, (less.1.0, u.1.1)) (let n = word.number-set cell_writes l j x₀ (emptied x₀) at in let z₀ = h.0 in omega arith) less.1.2) $
         suffices ! _ (upd_i 𝓤 Z₀) $ keep ! (0 ∷ 1 ∷ []) $ done !)))
-    back l false = qed 𝓛 (‵ (vault_at R z cv k t δ l false) ∷ ‵ (G j x₀) ∷ ‵ (Tok a e) ∷ []) ∵ fsplit3 ! $ move ! (0 ∷ 3 ∷ []) $
+    back l false = qed 𝓛 (‵ (vault_at R z cv k t δ l false) ∷ ‵ (G j x₀) ∷ ‵ (Tok r.0 e) ∷ []) ∵ fsplit3 ! $ move ! (0 ∷ 3 ∷ []) $
         use2 𝓛 (given (get_elem? l j ≡ some x₀) (raw (base.Logic.all 𝓤 (Moved 𝓛 cc δ 0 l j j)))) (moves 𝓛 cc δ l 0 j j x₀ (omega arith)) $ learn ! (λ at. drop ! $ move ! (1 ∷ []) $
         fpick ! (λ h. let n = word.number-at cell_reads l j x₀ at in let z₀ = h.1 in absurd (omega arith)))
 
-    pub read_back : Vault ∗ ⟦ G j x₀ ⟧ ∗ ⟦ Tok a e ⟧ ⊢ upd 𝓤 Z₀
-    read_back = qed 𝓛 (‵ (vault R z cv k t δ) ∷ ‵ (G j x₀) ∷ ‵ (Tok a e) ∷ []) ∵ fpick ! (λ l. fpick ! (λ b. by ! (back l b)))
+    pub read_back : Vault ∗ ⟦ G j x₀ ⟧ ∗ ⟦ Tok r.0 e ⟧ ⊢ upd 𝓤 Z₀
+    read_back = qed 𝓛 (‵ (vault R z cv k t δ) ∷ ‵ (G j x₀) ∷ ‵ (Tok r.0 e) ∷ []) ∵ fpick ! (λ l. fpick ! (λ b. by ! (back l b)))
+
+  -- two pledges to read are of one round: nobody writes, and the vault is shared for that round alone
+  module _ (j j' : ℕ) (x x' : C) where
+    abbrev pub Pair : Pr
+    Pair = ⟦ G j x ⟧ ∗ ⟦ G j' x' ⟧
+
+    abbrev pub Alike : Pr
+    Alike = guard 𝓤 (x.round ≡ x'.round) Pair
+
+    alike_in : cell_reads x ≡ true → cell_reads x' ≡ true → (l : List C) (b : Bool) → ⟦ vault_at R z cv k t δ l b ⟧ ∗ Pair ⊢ upd 𝓤 (Vault ∗ Alike)
+    alike_in one other l true = let Z : Pr = Vault ∗ Alike in qed 𝓛 (‵ (vault_at R z cv k t δ l true) ∷ ‵ (G j x) ∷ ‵ (G j' x') ∷ []) ∵ fsplit3 ! $ move ! (0 ∷ 3 ∷ []) $
+        -- D, G, P, calm, G'
+        use2 𝓛 (raw (upd 𝓤 (Stands l j x))) (stands l j x) $ settle 𝓛 Z (given (get_elem? l j ≡ some x) (‵ (D l) ⊛ ‵ (G j x))) $ learn ! (λ here. split ! $ move ! (0 ∷ 4 ∷ []) $
+        use2 𝓛 (raw (upd 𝓤 (Stands l j' x'))) (stands l j' x') $ settle 𝓛 Z (given (get_elem? l j' ≡ some x') (‵ (D l) ⊛ ‵ (G j' x'))) $ learn ! (λ there. split ! $
+        -- D, G', G, P, calm
+        move ! (4 ∷ []) $ fpick ! (λ u. fsplit ! $ fpick ! (λ h. drop ! $ let r : Round = round_of R u.0 u.1.1 in
+        let same : x.round ≡ x'.round = (fills_less r u.1.0 l j x here one h.1).0 ∙ sym (fills_less r u.1.0 l j' x' there other h.1).0 in
+        -- stock, D, G', G, P
+        move ! (1 ∷ 4 ∷ 0 ∷ []) $ use3 𝓛 (raw Vault) (calm_vault l u h.0 h.1) $ suffices ! _ (upd_i 𝓤 Z) $ frame ! $ check ! same $ move ! (1 ∷ 0 ∷ []) $ done !))))
+    alike_in one other l false = qed 𝓛 (‵ (vault_at R z cv k t δ l false) ∷ ‵ (G j x) ∷ ‵ (G j' x') ∷ []) ∵ fsplit3 ! $ move ! (0 ∷ 3 ∷ []) $
+        use2 𝓛 (raw (upd 𝓤 (Stands l j x))) (stands l j x) $ settle 𝓛 (Vault ∗ Alike) (given (get_elem? l j ≡ some x) (‵ (D l) ⊛ ‵ (G j x))) $ learn ! (λ here. split ! $
+        -- D, G, P, busy, G'
+        move ! (3 ∷ []) $ fpick ! (λ h. let n = word.number-at cell_reads l j x here in let w : weight (cell_reads x) ≡ 1 = ap weight one in let z₀ = h.1 in absurd (omega arith)))
+
+    pub alike : cell_reads x ≡ true → cell_reads x' ≡ true → Vault ∗ Pair ⊢ upd 𝓤 (Vault ∗ Alike)
+    alike one other = qed 𝓛 (‵ (vault R z cv k t δ) ∷ ‵ (G j x) ∷ ‵ (G j' x') ∷ []) ∵ fpick ! (λ l. fpick ! (λ b. by ! (alike_in one other l b)))
 
   -- what a writer gets: an account of its pledge, and all that the vault has
   abbrev Taken : ℕ → V → ℕ × (ℕ × R.Denot) → Pr
@@ -219,7 +253,7 @@ module _ {M : Type 1} {𝓤 : Ura M} (𝓛 : Logic 𝓤) (R : RattleType) (L : R
   calm_write : (l : List C) (id : ℕ) (v : V) → k.writes v ≡ true → number cell_reads l ≡ 0 → ⟦ D l ⟧ ∗ ⟦ P l ⟧ ∗ ⟦ calm R z cv k t δ l ⟧ ∗ ⟦ S id v ⟧ ⊢ upd 𝓤 (Vault ∗ Writer id v)
   calm_write l id v right zero_readers = let Z : Pr = Vault ∗ Writer id v in let x : C = writing id v in let l' : List C = l ++ x ∷ [] in
       qed 𝓛 (‵ (D l) ∷ ‵ (P l) ∷ ‵ (calm R z cv k t δ l) ∷ ‵ (S id v) ∷ []) ∵ move ! (2 ∷ []) $ fpick ! (λ u. fsplit ! $ fpick ! (λ h. drop ! $
-      rewrite ! 0 (λ (e : Share). ‵ (Stock u.0 e u.1.1)) (fills_all u.0 u.1.0 l zero_readers h.1) refl $
+      rewrite ! 0 (λ (e : Share). ‵ (Stock u.0 e u.1.1)) (fills_all (round_of R u.0 u.1.1) u.1.0 l zero_readers h.1) refl $
       -- stock, D, P, S
       move ! (1 ∷ []) $ use1 𝓛 (raw (upd 𝓤 (ex 𝓤 (Joined 𝓛 cc δ 0 l x)))) (joins 𝓛 cc δ l 0 x) $ settle 𝓛 Z (some (λ (j : ℕ). ‵ (D l') ⊛ ‵ (G j x))) $ pick ! (λ j. split ! $
       -- D', G, stock, P, S
@@ -247,7 +281,7 @@ module _ {M : Type 1} {𝓤 : Ura M} (𝓛 : Logic 𝓤) (R : RattleType) (L : R
         -- S, P', D', G', busy, stock
         move ! (4 ∷ []) $ fpick ! (λ h. drop ! $ move ! (2 ∷ 1 ∷ 4 ∷ []) $
         use3 𝓛 (raw Vault) (calm_vault (set l j (emptied w₀)) (a, (full_share, y)) (let n = word.number-set cell_writes l j w₀ (emptied w₀) at in let z₁ = h.0 in omega arith)
-        (whole_fills a (set l j (emptied w₀)) (let n = word.number-set cell_reads l j w₀ (emptied w₀) at in let z₁ = h.1 in omega arith))) $
+        (whole_fills (round_of R a y) (set l j (emptied w₀)) (let n = word.number-set cell_reads l j w₀ (emptied w₀) at in let z₁ = h.1 in omega arith))) $
         suffices ! _ (upd_i 𝓤 Y₀) $ keep ! (0 ∷ 1 ∷ []) $ done !))
     given_back l true = qed 𝓛 (‵ (vault_at R z cv k t δ l true) ∷ ‵ (G j w₀) ∷ ‵ (Stock a full_share y) ∷ []) ∵ fsplit3 ! $ move ! (0 ∷ 3 ∷ []) $
         use2 𝓛 (given (get_elem? l j ≡ some w₀) (raw (base.Logic.all 𝓤 (Moved 𝓛 cc δ 0 l j j)))) (moves 𝓛 cc δ l 0 j j w₀ (omega arith)) $ learn ! (λ at. drop ! $ move ! (1 ∷ []) $
@@ -337,8 +371,11 @@ module _ {M : Type 1} {𝓤 : Ura M} (𝓛 : Logic 𝓤) (R : RattleType) (L : R
     vault_open : (K Q : Pr) → Vault ∗ K ⊢ upd 𝓤 (Vault ∗ Q) → A.named m Vm ∗ K ⊢ H.⇛ Q
     vault_open K Q law = let W : Pr = ⟦ Vm ⟧ ∗ Q in qed 𝓛 (‵ (fnamed m Vm) ∷ raw K ∷ []) ∵ suffices ! _ (𝓛.invs.inv_acc Vm Q) $ use1 𝓛 (‵ (finv Vm)) (𝓛.invs.named_inv m Vm) $ frame ! $ assume ! (‵ Vm) $ by ! law
 
-    pub reads_no_more : (id : ℕ) (v : V) (e : Share) (a j : ℕ) → A.named m Vm ∗ (⟦ G j (reading id v e a) ⟧ ∗ ⟦ Tok a e ⟧) ⊢ H.⇛ ⟦ S id v ⟧
-    reads_no_more id v e a j = vault_open (⟦ G j (reading id v e a) ⟧ ∗ ⟦ Tok a e ⟧) ⟦ S id v ⟧ (read_back id v e a j)
+    pub reads_no_more : (id : ℕ) (v : V) (e : Share) (r : Round) (j : ℕ) → A.named m Vm ∗ (⟦ G j (reading id v e r) ⟧ ∗ ⟦ Tok r.0 e ⟧) ⊢ H.⇛ ⟦ S id v ⟧
+    reads_no_more id v e r j = vault_open (⟦ G j (reading id v e r) ⟧ ∗ ⟦ Tok r.0 e ⟧) ⟦ S id v ⟧ (read_back id v e r j)
+
+    pub alike_now : (j j' : ℕ) (x x' : C) → cell_reads x ≡ true → cell_reads x' ≡ true → A.named m Vm ∗ Pair j j' x x' ⊢ H.⇛ (Alike j j' x x')
+    alike_now j j' x x' one other = vault_open (Pair j j' x x') (Alike j j' x x') (alike j j' x x' one other)
 
     pub writes_no_more : (id : ℕ) (v : V) (a j : ℕ) (y : R.Denot) → A.named m Vm ∗ (⟦ G j (writing id v) ⟧ ∗ ⟦ Stock a full_share y ⟧) ⊢ H.⇛ ⟦ S id v ⟧
     writes_no_more id v a j y = vault_open (⟦ G j (writing id v) ⟧ ∗ ⟦ Stock a full_share y ⟧) ⟦ S id v ⟧ (write_back id v a y j)

@@ -17,7 +17,7 @@ use Rattle.atomic_table.specs.Table.{State}
 use Rattle.words_access.specs.Rule.{Ruled}
 use Rattle.access_core.specs.Contents.{readers_of, writer_of}
 use Rattle.access_core.specs.declared.lists.Lists.{Lists}
-use Rattle.access_vault.specs.Vault.{fact, Rights, reading, writing, sight, desk, pledge, vault}
+use Rattle.access_vault.specs.Vault.{fact, Rights, reading, writing, round_of, sight, desk, pledge, vault}
 
 -- Which vault it is: where its value lies and in which age, the table whose seats it takes in pledge, and its desk.
 pub record VaultId : Type 0 where
@@ -79,7 +79,7 @@ module _ (R : RattleType) (z : VaultId) where
 
   module _ (id : ℕ) (v : View) where
     abbrev pub glance_with : R.Denot → ℕ × (Share × ℕ) → Fml
-    glance_with x u = fsep (pledge R z.room views rights z.table z.desk u.0 (reading id v u.1.0 u.1.1)) (fsep (flft (u.1.1 ∷ []) u.1.0) (sight R z.room u.1.1 x))
+    glance_with x u = fsep (pledge R z.room views rights z.table z.desk u.0 (reading id v u.1.0 (round_of R u.1.1 x))) (fsep (flft (u.1.1 ∷ []) u.1.0) (sight R z.room u.1.1 x))
 
     abbrev pub glance_owns : R.Denot → Fml
     glance_owns x = fex (ℕ × (Share × ℕ)) (glance_with x)

@@ -1,42 +1,52 @@
 -- What a vault keeps under its invariant. A vault lends its value for reading or for writing against a seat of a table, which it keeps in pledge meanwhile. Its desk is a list of cells, one for each pledge that there ever was.
 -- While nobody writes, the value is shared for a round: a lifetime of its own, whose token is cut among those who read. Who writes has the whole token, ends the round, and begins another one before it gives the value back.
-use Rattle.core.specs.Prelude.{◌≡◌, ◌≢◌, ℕ, zero, suc, ◌<◌, ◌≤◌, List, [], ◌∷◌}
+use Rattle.core.specs.Prelude.{◌≡◌, ◌≢◌, ℕ, zero, suc, List, [], ◌∷◌}
 use mathlib.Core.Bool.{Bool, true, false}
 use mathlib.Core.Option.{some}
 use mathlib.Mathlib.Data.Part.{◌∈◌}
 use lib.ListN.{get_elem?}
 use base.Fraction.{full_share, op}
 use base.Share.{three_quarters}
-use base.Stored.{Gv, Coded, coded×, coded_ℕ, coded_bool, coded_via}
+use base.Stored.{Gv, gnil, Coded, coded×, coded_ℕ, coded_via}
 use base.SetCodes.{coded_share}
-use base.Fml.{Lft, Share, Fml, ftrue, fsep, fex, fbor, flent, flft, fobs}
+use base.Fml.{Share, Fml, ftrue, fsep, fex, fbor, flent, flft, fobs}
 use denote.RattleType.{RattleType}
 use Rattle.atomic_table.specs.Table.{State}
-use Rattle.atomic_table.specs.Seated.{TableId, seen, roster}
+use Rattle.atomic_table.specs.Seated.{TableId, itself, seen, roster}
 use Rattle.lock_place.specs.Held.{RoomId, age, held, seen_at}
-use Rattle.words_base.specs.Sums.{weight, number}
+use Rattle.words_base.specs.Sums.{number}
 
 abbrev pub fact : Type 0 → Fml
 fact φ = fex φ (λ _. ftrue)
 
--- a pledge: its kind (0 where it is over, 1 to read, 2 to write), the seat's number and view, and the part of the token that was given for it
+-- a round: its lifetime, and the code of the value that is shared for it. So two pledges of one round are for one value.
+abbrev pub Round : Type 0
+Round = ℕ × Gv
+
+abbrev pub round_coded : Coded Round
+round_coded = coded× coded_ℕ itself
+
+abbrev pub round_of : (R : RattleType) → ℕ → R.Denot → Round
+round_of R a x = (a, R.coded.code x)
+
+-- a pledge: its kind (0 where it is over, 1 to read, 2 to write), the seat's number and view, the part of a token that was given for it, and that token's round
 pub record Cell (V : Type 0) : Type 0 where
   pub kind : ℕ
   pub seat : ℕ
   pub view : V
   pub part : Share
-  pub round : ℕ
+  pub round : Round
 
 abbrev pub cell_coded : {V : Type 0} → Coded V → Coded (Cell V)
-cell_coded {V} c = coded_via (coded× coded_ℕ (coded× coded_ℕ (coded× c (coded× coded_share coded_ℕ))))
+cell_coded {V} c = coded_via (coded× coded_ℕ (coded× coded_ℕ (coded× c (coded× coded_share round_coded))))
     (λ (x : Cell V). (x.kind, (x.seat, (x.view, (x.part, x.round)))))
     (λ x y e i. record { kind = (e i).0; seat = (e i).1.0; view = (e i).1.1.0; part = (e i).1.1.1.0; round = (e i).1.1.1.1 })
 
-abbrev pub reading : {V : Type 0} → ℕ → V → Share → ℕ → Cell V
-reading id v e a = record { kind = 1; seat = id; view = v; part = e; round = a }
+abbrev pub reading : {V : Type 0} → ℕ → V → Share → Round → Cell V
+reading id v e r = record { kind = 1; seat = id; view = v; part = e; round = r }
 
 abbrev pub writing : {V : Type 0} → ℕ → V → Cell V
-writing id v = record { kind = 2; seat = id; view = v; part = full_share; round = 0 }
+writing id v = record { kind = 2; seat = id; view = v; part = full_share; round = (0, gnil) }
 
 abbrev pub emptied : {V : Type 0} → Cell V → Cell V
 emptied x = record x { kind = 0 }
@@ -62,7 +72,7 @@ pick true A B = A
 pick false A B = B
 
 -- with the parts of those who read, this part of the token of the round a is the whole
-abbrev pub Fills : {V : Type 0} → ℕ → Share → List (Cell V) → Type 0
+abbrev pub Fills : {V : Type 0} → Round → Share → List (Cell V) → Type 0
 Fills a e [] = e ≡ full_share
 Fills a e (x ∷ xs) = pick (is_one x.kind) ((x.round ≡ a) × ((f : Share) × (f ∈ op e x.part) × Fills a f xs)) (Fills a e xs)
 
@@ -110,7 +120,7 @@ module _ (R : RattleType) (z : RoomId) where
 
     -- nobody writes
     abbrev pub calm_with : List (Cell V) → ℕ × (Share × R.Denot) → Fml
-    calm_with l u = fsep (fact ((number cell_writes l ≡ 0) × Fills u.0 u.1.0 l)) (stock u.0 u.1.0 u.1.1)
+    calm_with l u = fsep (fact ((number cell_writes l ≡ 0) × Fills (round_of R u.0 u.1.1) u.1.0 l)) (stock u.0 u.1.0 u.1.1)
 
     abbrev pub calm : List (Cell V) → Fml
     calm l = fex (ℕ × (Share × R.Denot)) (calm_with l)

@@ -148,6 +148,16 @@ impl<T> Glance<T> {
         let _ = badge;
         let Glance { marker: _ } = self;
     }
+
+    /// Two rights to read of one vault show the same value, since nobody writes while they are lent. Nothing is done: both are as they were.
+    pub fn agrees(&mut self, other: &mut Glance<T>, vault: &Vault<T>)
+        requires { (self.old.vault_id ≡ vault.now.vault_id) × (other.old.vault_id ≡ vault.now.vault_id) }
+        ensures same { (self.new ≡ self.old) × (other.new ≡ other.old) }
+        ensures value { self.new.value ≡ other.new.value }
+    {
+        let _ = other;
+        let _ = vault;
+    }
 }
 
 impl<T> Grip<T> {
