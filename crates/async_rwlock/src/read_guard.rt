@@ -84,6 +84,24 @@ impl<T, R: Releases, O: Owns<Value = T, Runtime = R>> ReadGuard<T, R, O> {
     }
 }
 
+impl<T, R: Releases, O: Owns<Value = T, Runtime = R>> ReadGuard<T, R, O> {
+    /// Two readers of one lock read the same value, since nobody writes beside them. Nothing is done: both guards are as they were (`same`).
+    ///
+    /// The Rust crate has no such call.
+    ///
+    /// ```
+    /// RwLockReadGuard::agrees(&mut first, &mut second);
+    /// ```
+    pub fn agrees<P: Owns<Value = T, Runtime = R>>(guard: &mut Self, other: &mut ReadGuard<T, R, P>)
+        requires { guard.old.lock ≡ other.old.lock }
+        ensures same { (guard.new ≡ guard.old) × (other.new ≡ other.old) }
+        ensures value { guard.new.value ≡ other.new.value }
+    {
+        let lock = guard.owner.lock();
+        guard.glance.agrees(&mut other.glance, &lock.vault);
+    }
+}
+
 impl<T, R: Releases, O: Owns<Value = T, Runtime = R>> Deref for ReadGuard<T, R, O> {
     type Target = T;
 

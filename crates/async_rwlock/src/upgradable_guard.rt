@@ -192,6 +192,25 @@ impl<T, R: Releases, O: Owns<Value = T, Runtime = R>> UpgradableGuard<T, R, O> {
     }
 }
 
+impl<T, R: Releases, O: Owns<Value = T, Runtime = R>> UpgradableGuard<T, R, O> {
+    /// Who may upgrade and a reader of the same lock read the same value, as two readers do ([`ReadGuard::agrees`]).
+    ///
+    /// ```
+    /// RwLockUpgradableReadGuard::agrees(&mut upgradable, &mut reader);
+    /// ```
+    pub fn agrees<P: Owns<Value = T, Runtime = R>>(
+        guard: &mut Self,
+        reader: &mut ReadGuard<T, R, P>,
+    )
+        requires { guard.old.lock ≡ reader.old.lock }
+        ensures same { (guard.new ≡ guard.old) × (reader.new ≡ reader.old) }
+        ensures value { guard.new.value ≡ reader.new.value }
+    {
+        let lock = guard.owner.lock();
+        guard.glance.agrees(&mut reader.glance, &lock.vault);
+    }
+}
+
 impl<T, R: Releases, O: Owns<Value = T, Runtime = R>> Deref for UpgradableGuard<T, R, O> {
     type Target = T;
 

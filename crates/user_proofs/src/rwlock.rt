@@ -1,7 +1,7 @@
 //! What a user can prove of the values that guards lend, and of the locks that guards and futures are of.
 //!
-//! While a guard reads nobody writes, so that two reads agree; and what the writer writes it reads again. Each function's contract is
-//! about values or locks, and no file of proofs stands beside it.
+//! While a guard reads nobody writes, so that two reads agree, by one guard or by two; and what the writer writes it reads again.
+//! Each function's contract is about values or locks, and no file of proofs stands beside it.
 
 ghost use Rattle.std.specs.Prelude.{◌≡◌, true, false, IfOk, IfSome};
 ghost use Rattle.std.specs.Arc.{arc_value};
@@ -187,4 +187,22 @@ pub fn is_written_beside_a_reader<R: Releases>(lock: &RwLock<u64, R>) -> bool
     };
     RwLockWriteGuard::never_beside(writer, reader);
     true
+}
+
+/// What two readers of a cache find: the same.
+pub fn found_by_two<R: Releases>(cache: &RwLock<u64, R>) -> Option<(u64, u64)>
+    ensures { IfSome result (λ found. found.0 ≡ found.1) }
+{
+    let (mut first, mut second) = (cache.try_read()?, cache.try_read()?);
+    RwLockReadGuard::agrees(&mut first, &mut second);
+    Some((*first, *second))
+}
+
+/// As [`found_by_two`], where one of the two may upgrade.
+pub fn found_beside_upgradable<R: Releases>(cache: &RwLock<u64, R>) -> Option<(u64, u64)>
+    ensures { IfSome result (λ found. found.0 ≡ found.1) }
+{
+    let (mut upgradable, mut reader) = (cache.try_upgradable_read()?, cache.try_read()?);
+    RwLockUpgradableReadGuard::agrees(&mut upgradable, &mut reader);
+    Some((*upgradable, *reader))
 }
