@@ -308,6 +308,7 @@ impl Row {
     }
 
     /// The item that has this key leaves the row.
+    #[inline(never)]
     pub fn remove(&mut self, key: usize)
         requires { is_in key self.old.items ≡ true }
         ensures items { self.new.items ≡ without key self.old.items }

@@ -270,22 +270,38 @@ fn leave(ranks: &mut Ranks, key: usize)
     }
 }
 
-// The entry in this slot carries that now, and what it carried before is dropped.
+// The entry in this slot carries that now, and what it carried before is dropped. A new entry carried nothing: then no drop is called.
+#[inline(always)]
 fn put<W: Drop>(chain: &mut Chain<Load<W>>, key: usize, weight: u64, waker: Option<W>)
     requires listed { is_in key chain.old.entries ≡ true }
     requires counts { chain.old.visits + 1 < 2 ^ 64 }
     ensures entries { chain.new.entries ≡ rewritten key (with_waker (Some (load weight waker))) chain.old.entries }
     ensures room { chain.new.room ≡ chain.old.room }
 {
-    drop(chain.set_waker(key, Some(Load { weight, waker })));
+    match chain.set_waker(key, Some(Load { weight, waker })) {
+        Some(was) => drop(was),
+        None => {}
+    }
 }
 
 // What was kept to wake an entry with.
 fn waker_of<W>(load: Option<Load<W>>) -> Option<W>
     ensures { result ≡ waker_in load }
 {
+    // It is taken apart to the waker itself: an option within an option would be moved by bytes that lie askew.
     match load {
-        Some(Load { weight: _, waker }) => waker,
+        Some(
+            Load {
+                weight: _,
+                waker: Some(waker),
+            },
+        ) => Some(waker),
+        Some(
+            Load {
+                weight: _,
+                waker: None,
+            },
+        ) => None,
         None => None,
     }
 }
@@ -303,10 +319,7 @@ fn take_waker<W>(chain: &mut Chain<Load<W>>, key: usize) -> Option<W>
         weight,
         waker: None,
     };
-    match chain.set_waker(key, Some(light)) {
-        Some(Load { weight: _, waker }) => waker,
-        None => None,
-    }
+    waker_of(chain.set_waker(key, Some(light)))
 }
 
 impl<W: Drop> WeightedEvent<W> {
@@ -539,6 +552,7 @@ impl<W: Drop> WeightedEvent<W> {
     /// The entry that has this id, if one has, leaves the list without asking. It is
     /// [`WeightedEvent::remove`] for a caller to whom the list was out of sight: any id is fine. The answer
     /// says whether the entry was notified, with what was kept to wake it.
+    #[inline(always)]
     pub fn withdraw(&mut self, id: EntryId) -> (bool, Option<W>)
         ensures answer { result.0 ≡ is_marked_at (has_id id) self.old.entries }
         ensures waker { result.1 ≡ kept_at id self.old.entries }
