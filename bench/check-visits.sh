@@ -23,7 +23,7 @@ UNCOUNTED = {
 # what a list may do without counting: look at one entry by its id, look at a place, search for a waker, rank all entries
 ALLOWED = {
     "event": {"len", "is_empty", "entry", "in_order", "contains", "is_notified", "is_waiting", "waker_mut", "poll_entry", "ask", "next_waker", "withdraw", "notify", "notify_additional"},
-    "weighted": {"len", "entry", "contains", "is_notified", "poll_entry", "ask", "next_waker", "withdraw", "fit", "remove", "find", "take_waker", "search", "bring_in", "settle", "reserve"},
+    "weighted": {"len", "entry", "contains", "is_notified", "is_laden", "waker_mut", "poll_entry", "ask", "next_waker", "withdraw", "fit", "remove", "find", "take_waker", "search", "bring_in", "settle", "reserve"},
 }
 # of these the calls that promise their visits may use the ones that reach no slot
 HARMLESS = {"laws", "len", "contains"}

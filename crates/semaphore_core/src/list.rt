@@ -2,7 +2,7 @@
 
 ghost use Rattle.std.specs.Prelude.{◌≡◌, ⊤, true, false, IfOk, OnErr, MatchBool};
 ghost use Rattle.futures.specs.Task.{Keeps};
-ghost use Rattle.lock_event.specs.Lists.{is_marked_at};
+ghost use Rattle.lock_event.specs.Lists.{is_marked_at, is_waiting_at};
 ghost use Rattle.lock_event.specs.Slots.{has_id};
 ghost use Rattle.lock_queue.specs.Asking.{ByHeard};
 ghost use Rattle.semaphore_core.specs.Entries.{HasJoined, HasLeft, IsGone, IsSame, IsTold};
@@ -36,11 +36,32 @@ pub(crate) fn join_waking(
     ensures kept { Keeps cx.old cx.new }
 {
     let id = event.listen(permits)?;
+    if let Some(slot) = event.waker_mut(id) {
+        let _: Poll<()> = cx.register(source, slot);
+        return Ok((id, Whose::of(slot)));
+    }
+    Ok((id, keep(event, id, source, cx)))
+}
+
+// The same, of an entry that has joined and whose waker can't be written where it lies.
+#[cold]
+#[inline(never)]
+fn keep(
+    event: &mut WeightedEvent<Waker>,
+    id: EntryId,
+    source: &Source,
+    cx: &mut Context<'_>,
+) -> Whose
+    requires { is_waiting_at (has_id id) event.old.entries ≡ true }
+    ensures same { IsSame event.old.entries event.new.entries }
+    ensures keeps { KeepsAt id result event.new.entries × IsReceipt source.now.id cx.new result }
+    ensures kept { Keeps cx.old cx.new }
+{
     let mut made = None;
     let _: Poll<()> = cx.register(source, &mut made);
     let whose = Whose::of(&made);
     match event.ask(id, made) {
-        Asked::Waiting { .. } => Ok((id, whose)),
+        Asked::Waiting { .. } => whose,
         Asked::Notified { .. } => unreachable!(),
         Asked::Unlisted { .. } => unreachable!(),
     }
@@ -65,6 +86,26 @@ pub(crate) fn remove(event: &mut WeightedEvent<Waker>, id: EntryId) -> (bool, Op
 // An entry asks for its notification. One that waits keeps a waker of the task of `cx`, which registers with `source`.
 #[inline(always)]
 pub(crate) fn ask(
+    event: &mut WeightedEvent<Waker>,
+    id: EntryId,
+    source: &Source,
+    cx: &mut Context<'_>,
+) -> Heard<Whose>
+    ensures answer { ByHeard result ⊤ (λ _. is_marked_at (has_id id) event.old.entries ≡ false) }
+    ensures asked { ByHeard result (IsGone event.old.entries event.new.entries id.number) (λ _. IsSame event.old.entries event.new.entries) }
+    ensures waits { ByHeard result (cx.new ≡ cx.old) (λ whose. KeepsAt id whose event.new.entries × IsReceipt source.now.id cx.new whose) }
+    ensures kept { Keeps cx.old cx.new }
+{
+    if let Some(slot) = event.waker_mut(id) {
+        let _: Poll<()> = cx.register(source, slot);
+        return Heard::Waits(Whose::of(slot));
+    }
+    ask_apart(event, id, source, cx)
+}
+
+// The same, of an entry that was told, or whose waker can't be written where it lies.
+#[inline(never)]
+fn ask_apart(
     event: &mut WeightedEvent<Waker>,
     id: EntryId,
     source: &Source,

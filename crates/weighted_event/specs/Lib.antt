@@ -3,3 +3,4 @@ pub mod Rows
 pub mod Weights
 pub mod Loads
 pub mod Ranks
+pub mod LoadLends

@@ -1,11 +1,13 @@
 //! A list whose entries have weights, of which at most one is notified at a time.
 
 ghost use Rattle.std.specs.Prelude.{◌≡◌, ℕ, ◌+◌, ◌<◌, ◌≤◌, ◌^◌, [], length, true, false, IsTrue, IfOk, OnOk, OnErr, IsOk, IfSome, Some, None, slice_get};
-ghost use Rattle.lock_event.specs.Lists.{joined, marked_count, with_key, is_marked_at, without, is_marked, IsListed, is_listed};
+ghost use Rattle.lock_event.specs.Lists.{joined, marked_count, with_key, is_marked_at, is_waiting_at, without, is_marked, IsListed, is_listed};
 ghost use Rattle.lock_event.specs.Slots.{has_id};
 ghost use Rattle.lock_event.specs.Chains.{is_in, at_slot, rewritten, with_waker};
 ghost use Rattle.weighted_event.specs.Weights.{fitted, is_wanted};
-ghost use Rattle.std.specs.Prelude.{◌*◌, max, ⊤};
+ghost use Rattle.std.specs.Prelude.{◌*◌, max, ⊤, is_some};
+ghost use Rattle.std.specs.Borrow.{sem};
+ghost use Rattle.weighted_event.specs.LoadLends.{LendsBeside};
 ghost use Rattle.weighted_event.specs.Rows.{is_in as is_ranked};
 ghost use Rattle.lock_event.specs.Chains.{AreApart};
 ghost use Rattle.weighted_event.specs.Ranks.{ranked, left_ranks, joined_ranks, AreAlike, IsRanked, IsReady, OnRanked};
@@ -306,6 +308,31 @@ fn waker_of<W>(load: Option<Load<W>>) -> Option<W>
     }
 }
 
+// Whether an entry stands in this slot that waits and carries a load.
+fn is_laden<W>(chain: &Chain<Load<W>>, key: usize) -> bool
+    ensures listed { result ≡ true → is_in key chain.now.entries ≡ true }
+    ensures laden { result ≡ true → IfSome (at_slot key chain.now.entries) (λ e. (is_marked e.mark ≡ false) × (is_some e.key.waker ≡ true)) }
+{
+    if !chain.contains(key) {
+        return false;
+    }
+    let entry = chain.at(key);
+    !entry.mark.is_marked() && entry.key.waker.is_some()
+}
+
+// What a load keeps beside its weight, to write there.
+#[inline(always)]
+fn beside<W>(load: &mut Option<Load<W>>) -> &mut Option<W>
+    requires { is_some load.old ≡ true }
+    ensures* writes_back { sem 𝓛 (LendsBeside W.row load.entry result) }
+    ensures waker { result.now ≡ waker_in load.old }
+{
+    match load {
+        Some(load) => &mut load.waker,
+        None => unreachable!(),
+    }
+}
+
 // The waker of the entry in this slot.
 fn take_waker<W>(chain: &mut Chain<Load<W>>, key: usize) -> Option<W>
     requires listed { is_in key chain.old.entries ≡ true }
@@ -323,6 +350,8 @@ fn take_waker<W>(chain: &mut Chain<Load<W>>, key: usize) -> Option<W>
 }
 
 impl<W: Drop> WeightedEvent<W> {
+    ghost use Rattle.weighted_event.specs.LoadLends.{LendsWakerOf};
+
     /// The empty list. It takes no memory yet: it has room for no entry (`room`).
     pub fn new(alloc: Global) -> WeightedEvent<W>
         ensures entries { result.entries ≡ [] }
@@ -546,6 +575,23 @@ impl<W: Drop> WeightedEvent<W> {
             .set_waker(id.number, Some(Load { weight, waker }));
         Asked::Waiting {
             kept: waker_of(kept),
+        }
+    }
+
+    /// What the entry that has this id keeps to be woken with, to write there, if it waits (`waits`, `waker`). It then keeps what was
+    /// last written there, and all else stays (`writes_back`).
+    ///
+    /// Of an entry that waits it is `None` only where the entry carries no weight, and each that has joined carries one.
+    #[inline(always)]
+    pub fn waker_mut(&mut self, id: EntryId) -> Option<&mut Option<W>>
+        ensures* writes_back { sem 𝓛 (LendsWakerOf W.row id self.entry result) }
+        ensures waits { is_some result ≡ true → is_waiting_at (has_id id) self.old.entries ≡ true }
+        ensures waker { IfSome result (λ w. w.now ≡ kept_at id self.old.entries) }
+    {
+        if is_laden(&self.chain, id.number) {
+            Some(beside(self.chain.waker_mut(id.number)))
+        } else {
+            None
         }
     }
 
