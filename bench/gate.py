@@ -25,6 +25,9 @@ import tempfile
 import time
 from collections import defaultdict
 
+sys.path.insert(0, os.path.dirname(os.path.realpath(__file__)))
+from kit import CI  # noqa: E402
+
 KINDS = {'proofs': 'its proof', 'edits': 'its wrong bodies', 'tests': 'its tests, or its run'}
 LOOK = 0.5
 LAST = re.compile(r'(\d+) passed, (\d+) failed')
@@ -87,7 +90,7 @@ def prove(anew, minutes):
     most = int(re.search(r'MemTotal:\s+(\d+)', text_of('/proc/meminfo'))[1]) * 1024 // MEMORY
     jobs = os.environ.get('RT_JOBS') or str(max(1, min(len(os.sched_getaffinity(0)), most)))
     seen = {}
-    passed, failed, status = run(['rt', 'ci', *anew], seen, env={**os.environ, 'RT_JOBS': jobs})
+    passed, failed, status = run([*CI, *anew], seen, env={**os.environ, 'RT_JOBS': jobs})
     took = defaultdict(float)
     for crate, ticks in seen.values():
         took[crate] += ticks / os.sysconf('SC_CLK_TCK')

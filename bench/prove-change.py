@@ -22,6 +22,9 @@ from importlib.machinery import SourceFileLoader
 
 HERE = os.path.dirname(os.path.realpath(__file__))
 sys.dont_write_bytecode = True
+sys.path.insert(0, HERE)
+from kit import CI  # noqa: E402
+
 listed = SourceFileLoader('run_tests', f'{HERE}/run-tests.py').load_module().listed
 
 
@@ -85,7 +88,7 @@ def main():
         return
     steps = [[it] for it in sorted(glob.glob('bench/check-*'))]
     steps += [['bench/run-tests.py', *sorted(run)]] * bool(run)
-    steps += [['rt', 'ci', *sorted(proved)]] * bool(proved)
+    steps += [[*CI, *sorted(proved)]] * bool(proved)
     steps += [['bench/try-edits.py', *sorted(tried)]] * bool(tried)
     failed = [' '.join(it[:1]) for it in steps if subprocess.run(it, check=False).returncode]
     print(f'failed: {" ".join(failed)}' if failed else 'what was planned passed; the gate is .ci/run')

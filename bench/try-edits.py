@@ -39,7 +39,7 @@ from concurrent.futures import ThreadPoolExecutor
 
 HERE = os.path.dirname(os.path.realpath(__file__))
 sys.path.insert(0, HERE)
-from kit import bodies, crates_of, place_library, rt  # noqa: E402
+from kit import Kept, REFUSED as KEPT_AS, bodies, copy_crates, crates_of, place_library, rt  # noqa: E402
 
 REFUSED, AT_LIMIT, SURVIVES, NO_GOAL, BAD, NOT_TRIED = 'refused', 'refused at a limit', 'SURVIVES', 'NO GOAL', 'BAD', 'NOT TRIED'
 PASSES = REFUSED, AT_LIMIT
@@ -327,7 +327,7 @@ def try_crate(crate, edits, kept, keys):
         edit.end(NOT_TRIED, 'the check says nothing of its function')
     for edit in edits:
         if edit.verdict in PASSES:
-            kept.keep_tried(name_of(edit, keys), rt.REFUSED, f'{edit.verdict}\n{edit.said}')
+            kept.keep_tried(name_of(edit, keys), KEPT_AS, f'{edit.verdict}\n{edit.said}')
     refused = sum(it.verdict in PASSES for it in edits)
     lines = [it.line() for it in edits]
     print('\n'.join([*lines, f'{crate.name}: {refused} of {len(edits)} refused, {seconds:.0f} seconds of a processor']), flush=True)
@@ -361,10 +361,10 @@ def main():
     jobs = given.jobs or jobs_for_machine()
     with tempfile.TemporaryDirectory(prefix=f'try-edits-copy-{os.getpid()}-') as room:
         # (a copy, so that nothing in the checkout is touched, or touches it)
-        rt.copy_crates(top, f'{room}/copy')
+        copy_crates(top, f'{room}/copy')
         os.mkdir(f'{room}/copy/.git')
         crates = crates_of(f'{room}/copy')
-        kept = rt.Kept([*crates.values()], given.anew)
+        kept = Kept([*crates.values()], given.anew)
         lacking = [it for it in given.crates if it not in crates]
         if lacking:
             sys.exit(f'no crate is named {lacking[0]}')
