@@ -4,6 +4,9 @@ A file begins with a note, in lines '# ..', of what its stories are about. A sto
 colon, and how it is played, as 'who waits is woken by a drop: both 1'. Below it, set in, stand its rows: 'two poll -> ready 1, 0 available,
 wakes nobody'. A note in lines '# ..' above a heading, or among the rows, is of what comes next.
 
+A story can be told of several cases: a line 'with first / behind' names what its rows have in braces, and each further line 'with read / write'
+is a case, by which the story is played once. A heading that stands above several stories is one test, which plays them all.
+
 tests/NAME/rows.form says how such a text reads: a line 'row ..', with the type of each field in braces; lines 'play WORDS = CODE', in
 which {N} stands for a number and ROWS for the story's; the lines 'use ..' of the module that is made; and 'in NAME', where the types stand in
 another folder. A type is an enum of these folders, whose variants are told in words, with what they carry after them; a number; or 'Woken',
@@ -114,15 +117,26 @@ def stories_of(text):
         headings.append(tuple(line.rsplit(': ', 1)))
 
 
+def cases_of(rows):
+    """Yields the rows of a story for each of its cases: once, as they stand, where it has none."""
+    cases = [[it.strip() for it in row.removeprefix('with ').split('/')] for row in rows if row.startswith('with ')]
+    rows = [row for row in rows if not row.startswith('with ')]
+    for case in cases[1:] or [[]]:
+        yield [re.sub(r'\{(\w+)\}', lambda found: case[cases[0].index(found[1])], row) for row in rows]
+
+
 def tests_of(top, folder, path):
     """Returns the module of tests that a file of stories is."""
     form, text = Form(top, folder), text_of(path)
-    lines = ['//! Stories as text.', '', *form.uses]
-    for number, (headings, rows) in enumerate(stories_of(text)):
+    lines, tests = ['//! Stories as text.', '', *form.uses], {}
+    played = [(headings, rows) for headings, story in stories_of(text) for rows in cases_of(story)]
+    for number, (headings, rows) in enumerate(played):
         name = f'ROWS_{number}'
         lines += ['', f'const {name}: [Row; {len(rows)}] = [', *(f"    ({', '.join(form.fields(row))})," for row in rows), '];']
         for said, how in headings:
-            lines += ['', '#[test]', f"fn {re.sub(r'[^a-z0-9]+', '_', said.lower())}(rt: HostRuntime) {{", f'    {form.played(how, f"&{name}")}', '}']
+            tests.setdefault(re.sub(r'[^a-z0-9]+', '_', said.lower()), []).append(f'    {form.played(how, f"&{name}")}')
+    for name, plays in tests.items():
+        lines += ['', '#[test]', f'fn {name}(rt: HostRuntime) {{', *plays, '}']
     return '\n'.join(lines) + '\n'
 
 
