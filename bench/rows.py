@@ -8,8 +8,8 @@ A story can be told of several cases: a line 'with first / behind' names what it
 is a case, by which the story is played once. A heading that stands above several stories is one test, which plays them all.
 
 tests/NAME/rows.form says how such a text reads: a line 'row ..', with the type of each field in braces; lines 'play WORDS = CODE', in
-which {N} stands for a number and ROWS for the story's; the lines 'use ..' of the module that is made; and 'in NAME', where the types stand in
-another folder. A type is an enum of these folders, whose variants are told in words, with what they carry after them; a number; or 'Woken',
+which {N} stands for a number and ROWS for the story's; the lines 'use ..' of the module that is made; and 'in NAME', where types stand in
+another folder, or in this file of a crate. A type is an enum of these folders, whose variants are told in words, with what they carry after them; a number; or 'Woken',
 the names of all who were woken, or 'nobody'.
 
 A file NAME.text has rows of scripts: a line '== NAME', the script, a line that ends in '=>', and what it prints. NAME.scripts stands for such a
@@ -50,9 +50,10 @@ class Form:
     def __init__(self, top, folder):
         lines = text_of(f'{folder}/rows.form').split('\n')
         of = lambda word: [line[len(word) + 1 :] for line in lines if line.startswith(f'{word} ')]
-        folders = [folder, *(f'{os.path.dirname(folder)}/{it}' for it in of('in'))]
+        files = [it for it in of('in') if it.endswith('.rt')]
+        folders = [folder, *(f'{os.path.dirname(folder)}/{it}' for it in of('in') if it not in files)]
         texts = [text_of(it) for at in folders for it in sorted(glob.glob(f'{at}/*.rattle'))]
-        self.enums = enums_of([*texts, text_of(f'{top}/{REASONS}')])
+        self.enums = enums_of([*texts, *(text_of(f'{top}/{it}') for it in [REASONS, *files])])
         self.woken = '[{}]' if any(f'type {WOKEN} = [' in it for it in texts) else '({})'
         self.uses = [f'use {it}' for it in of('use')]
         self.plays = [tuple(it.split(' = ', 1)) for it in of('play')]
