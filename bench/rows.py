@@ -4,16 +4,20 @@ A file begins with a note, in lines '# ..', of what its stories are about. A sto
 colon, and how it is played, as 'who waits is woken by a drop: both 1'. Below it, set in, stand its rows: 'two poll -> ready 1, 0 available,
 wakes nobody'. A note in lines '# ..' above a heading, or among the rows, is of what comes next.
 
+A story can be told of several cases: a line 'with first / behind' names what its rows have in braces, and each further line 'with read / write'
+is a case, by which the story is played once. A heading that stands above several stories is one test, which plays them all.
+
 tests/NAME/rows.form says how such a text reads: a line 'row ..', with the type of each field in braces; lines 'play WORDS = CODE', in
-which {N} stands for a number and ROWS for the story's; the lines 'use ..' of the module that is made; and 'in NAME', where the types stand in
-another folder. A type is an enum of these folders, whose variants are told in words, with what they carry after them; a number; or 'Woken',
-the names of all who were woken, or 'nobody'.
+which {N} stands for a number and ROWS for the story's; the lines 'use ..' of the module that is made; and 'in NAME', where types stand in
+another folder, or in this file of a crate. A type is an enum of these folders, whose variants are told in words, with what they carry after them; a number; a 'bool', yes or no; an 'Option'
+of one of these, which may be none; 'Text', in quotes; or 'Woken', the names of all who were woken, or 'nobody'.
 
 A file NAME.text has rows of scripts: a line '== NAME', the script, a line that ends in '=>', and what it prints. NAME.scripts stands for such a
 text of the scripts of the folder that it names, in the order of their names.
 """
 
 import glob
+import json
 import os
 import re
 
@@ -47,9 +51,10 @@ class Form:
     def __init__(self, top, folder):
         lines = text_of(f'{folder}/rows.form').split('\n')
         of = lambda word: [line[len(word) + 1 :] for line in lines if line.startswith(f'{word} ')]
-        folders = [folder, *(f'{os.path.dirname(folder)}/{it}' for it in of('in'))]
+        files = [it for it in of('in') if it.endswith('.rt')]
+        folders = [folder, *(f'{os.path.dirname(folder)}/{it}' for it in of('in') if it not in files)]
         texts = [text_of(it) for at in folders for it in sorted(glob.glob(f'{at}/*.rattle'))]
-        self.enums = enums_of([*texts, text_of(f'{top}/{REASONS}')])
+        self.enums = enums_of([*texts, *(text_of(f'{top}/{it}') for it in [REASONS, *files])])
         self.woken = '[{}]' if any(f'type {WOKEN} = [' in it for it in texts) else '({})'
         self.uses = [f'use {it}' for it in of('use')]
         self.plays = [tuple(it.split(' = ', 1)) for it in of('play')]
@@ -65,6 +70,15 @@ class Form:
             woken = set() if words == ['nobody'] else {word.capitalize() for word in words if word != 'and'}
             assert woken <= set(names), words
             return self.woken.format(', '.join(str(it in woken).lower() for it in names)), []
+        if kind == 'Text':
+            return json.dumps(' '.join(words)[1:-1]), []
+        if kind.startswith('Option<'):
+            if words[0] == 'none':
+                return 'None', words[1:]
+            value, rest = self.value(kind[7:-1], words)
+            return f'Some({value})', rest
+        if kind == 'bool':
+            return str(('no', 'yes').index(words[0]) == 1).lower(), words[1:]
         if kind not in self.enums:
             return str(int(words[0])), words[1:]
         for many in range(len(words), 0, -1):
@@ -114,15 +128,26 @@ def stories_of(text):
         headings.append(tuple(line.rsplit(': ', 1)))
 
 
+def cases_of(rows):
+    """Yields the rows of a story for each of its cases: once, as they stand, where it has none."""
+    cases = [[it.strip() for it in row.removeprefix('with ').split('/')] for row in rows if row.startswith('with ')]
+    rows = [row for row in rows if not row.startswith('with ')]
+    for case in cases[1:] or [[]]:
+        yield [re.sub(r'\{(\w+)\}', lambda found: case[cases[0].index(found[1])], row) for row in rows]
+
+
 def tests_of(top, folder, path):
     """Returns the module of tests that a file of stories is."""
     form, text = Form(top, folder), text_of(path)
-    lines = ['//! Stories as text.', '', *form.uses]
-    for number, (headings, rows) in enumerate(stories_of(text)):
+    lines, tests = ['//! Stories as text.', '', *form.uses], {}
+    played = [(headings, rows) for headings, story in stories_of(text) for rows in cases_of(story)]
+    for number, (headings, rows) in enumerate(played):
         name = f'ROWS_{number}'
         lines += ['', f'const {name}: [Row; {len(rows)}] = [', *(f"    ({', '.join(form.fields(row))})," for row in rows), '];']
         for said, how in headings:
-            lines += ['', '#[test]', f"fn {re.sub(r'[^a-z0-9]+', '_', said.lower())}(rt: HostRuntime) {{", f'    {form.played(how, f"&{name}")}', '}']
+            tests.setdefault(re.sub(r'[^a-z0-9]+', '_', said.lower()), []).append(f'    {form.played(how, f"&{name}")}')
+    for name, plays in tests.items():
+        lines += ['', '#[test]', f'fn {name}(rt: HostRuntime) {{', *plays, '}']
     return '\n'.join(lines) + '\n'
 
 
