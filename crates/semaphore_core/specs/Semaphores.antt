@@ -65,9 +65,9 @@ IsSameSeat s t = t.id ≡ s.id
 abbrev pub entering : Semaphore → ℕ → Seated
 entering s id = record { table = s.word.table; id = id; permits = 0; under_way = 0; found = 0; limit = 0; added = 0; forgotten = 0; owes = false; seen = false; listed = false; fresh = false; entry = 0; weight = 0; course = outside }
 
--- It has looked, and found a: fewer than it waits for, it is fresh no more.
+-- It has looked, and found a: fewer than it waits for, it is fresh no more; of nothing nobody has to be notified.
 abbrev pub with_look : ℕ → Seated → Seated
-with_look a s = record s { found = a; seen = true; fresh = s.fresh && leb s.weight a }
+with_look a s = record s { found = a; seen = true; fresh = s.fresh && leb s.weight a; owes = s.owes && leb 1 a }
 
 -- It has k permits more, and left a: of nothing nobody has to be notified.
 abbrev pub with_taken : ℕ → ℕ → Seated → Seated

@@ -191,7 +191,7 @@ impl RawSemaphore {
         ensures course { IsHolding permits seat.new.course }
     {
         let available = self.load(seat, Place::Load(permits));
-        self.fit(rt, seat, available, Place::HandOn { permits, available });
+        self.fit_found(rt, seat, available, Place::HandOn { permits, available });
     }
 
     // Goes on with a party that was told, and is out of the list: it takes its permits and hands on what is left, or joins again.
@@ -244,7 +244,7 @@ impl RawSemaphore {
         requires of { IsOf self.now seat }
         requires course { seat.course ≡ Do (places.Join permits (Some available)) }
         requires told { (seat.permits ≡ 0) × (seat.under_way ≡ 0) × (seat.listed ≡ false) × (seat.fresh ≡ false) }
-        requires found { (available ≡ seat.found) × (seat.seen ≡ true) × (available < permits) }
+        requires found { (available ≡ seat.found) × (seat.seen ≡ true) × (available < permits) × (available ≡ 0 → seat.owes ≡ false) }
         ensures outcome { IfOk result (OnOutcome self.now permits cx.new) }
         ensures same { IfOk result (IsBySeat seat) × IfErr result (IsSameSeat seat) }
         ensures again { IfErr result (λ told. IsOf self.now told × (told.permits ≡ 0) × (told.under_way ≡ 0) × (told.listed ≡ false) × (told.fresh ≡ false) × (told.course ≡ Do (places.Take permits false true))) }
@@ -256,7 +256,7 @@ impl RawSemaphore {
         let join = Place::Join { permits, told };
         let Ok(id) = self.join(rt, &mut seat, permits, join) else {
             let at = Place::RefuseFit { permits, available };
-            self.fit(rt, &mut seat, available, at);
+            self.fit_found(rt, &mut seat, available, at);
             seat.rise();
             return Ok(Outcome::Refused(Refusal::Memory));
         };
@@ -271,7 +271,7 @@ impl RawSemaphore {
             return Err(seat);
         };
         let at = Place::PassOn { permits, available };
-        self.fit(rt, &mut seat, available, at);
+        self.fit_found(rt, &mut seat, available, at);
         Ok(Outcome::Waits(Waiting { seat, id, whose }))
     }
 
@@ -285,7 +285,7 @@ impl RawSemaphore {
         ensures of { IsOf self.now seat.new }
         ensures same { IsSameSeat seat.old seat.new × (seat.new.under_way ≡ 0) × (seat.new.listed ≡ true) × (seat.new.entry ≡ seat.old.entry) × (seat.new.weight ≡ permits) × (seat.new.seen ≡ true) }
         ensures got { IfOk result (λ left. (seat.new.permits ≡ permits) × (left ≡ seat.new.found) × (left ≡ 0 → seat.new.owes ≡ false)) }
-        ensures short { IfErr result (λ a. (seat.new.permits ≡ 0) × (a ≡ seat.new.found) × (seat.new.fresh ≡ false)) }
+        ensures short { IfErr result (λ a. (seat.new.permits ≡ 0) × (a ≡ seat.new.found) × (seat.new.fresh ≡ false) × (a ≡ 0 → seat.new.owes ≡ false)) }
         ensures leaves { IfOk result (λ left. seat.new.course ≡ Do (places.Remove permits (told_more true left))) }
         ensures asks { IfErr result (λ a. seat.new.course ≡ Do (places.Ask permits (Some a))) }
     {
@@ -342,7 +342,7 @@ impl RawSemaphore {
         seat.begin(SemaphoreCall::Drop, Place::CancelRemove);
         if self.remove(rt, &mut seat, id, Place::CancelRemove) {
             let available = self.load(&mut seat, Place::CancelLoad);
-            self.fit(rt, &mut seat, available, Place::FitGivenBack(available));
+            self.fit_found(rt, &mut seat, available, Place::FitGivenBack(available));
         }
         seat.rise();
     }
