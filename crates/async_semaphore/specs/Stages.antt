@@ -11,7 +11,7 @@ use Rattle.lock_program.specs.declared.refusal.Refusal.{Refusal}
 use Rattle.lock_program.specs.declared.refusal.Refusal.TheVariants.{Memory, Finished}
 use Rattle.semaphore_core.specs.Outcomes.{WaitsFor, IsJoining, IsLooking}
 use Rattle.lock_queue.specs.Receipts.{IsReceipt}
-use Rattle.semaphore_core.specs.Semaphores.{Seated, Holds}
+use Rattle.semaphore_core.specs.Semaphores.{Seated, IsSameSeat, Holds}
 use Rattle.semaphore_core.specs.declared.turn.Outcome.{Outcome}
 use Rattle.semaphore_core.specs.declared.turn.Outcome.TheVariants as outcome
 use Rattle.semaphore_core.specs.declared.turn.Tried.{Tried}
@@ -93,6 +93,18 @@ abbrev pub OnPolled : {O R : Type 0} → (O → Semaphore R) → Stage O → ℕ
 OnPolled semaphore_of stage k cx (outcome.Got seat) = GotAt semaphore_of stage k seat
 OnPolled semaphore_of stage k cx (outcome.Waits w) = WaitsAs semaphore_of stage k w × HasReceiptAt semaphore_of stage k cx (Some w)
 OnPolled semaphore_of stage k cx (outcome.Refused refusal) = refusal ≡ Memory
+
+-- the seat of a first look
+abbrev pub seat_of : Tried → Seated
+seat_of (tried.Got seat) = seat
+seat_of (tried.Short seat) = seat
+seat_of (tried.Changed seat) = seat
+
+-- Whoever waited by this seat goes on by it: the guard has it, or it waits still.
+abbrev pub GoesOnBy : {R : Type 0} → Seated → Turn (Held R) → Option Waiting → Type 0
+GoesOnBy seat (Ready guard) waiting = IsSameSeat seat guard.seat
+GoesOnBy seat Pending waiting = IsSomeAnd waiting (λ w. IsSameSeat seat w.seat)
+GoesOnBy seat (Refused refusal) waiting = ⊤
 
 -- Ready, what was got is this and the future is over. One that is over is refused as finished and stays so; no other is, and none for
 -- another reason than memory.

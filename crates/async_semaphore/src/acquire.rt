@@ -1,9 +1,9 @@
 //! The future of permits.
 
-ghost use Rattle.std.specs.Prelude.{◌≡◌, true, false, IsNone, None};
+ghost use Rattle.std.specs.Prelude.{◌≡◌, true, false, IfSome, IsNone, None};
 ghost use Rattle.futures.specs.Task.{Covers, Keeps};
 ghost use Rattle.async_driver.specs.Turns.{OnPending};
-ghost use Rattle.async_semaphore.specs.Stages.{Gives, HasReceiptAt, IsTurn, OnRefused, OnTriedAt, WaitsAt, future, is_finished};
+ghost use Rattle.async_semaphore.specs.Stages.{Gives, GoesOnBy, HasReceiptAt, IsTurn, OnRefused, OnTriedAt, WaitsAt, future, is_finished};
 
 use crate::guard::PermitGuard;
 use crate::owns::Owns;
@@ -76,12 +76,14 @@ impl<R: Wait + Clock, O: Owns<Runtime = R>> AcquireFuture<R, O> {
     ///
     /// Pending, it has an entry for its permits in the semaphore's list, which keeps a waker of the task that polls
     /// (`receipt`). The task has registered with the semaphore's source (`registered`), and keeps what it had registered before
-    /// (`kept`).
+    /// (`kept`). It waits by one seat, from the poll that joined the list to the guard (`same`): so it gets its permits by no other way,
+    /// and keeps its wait.
     #[inline(always)]
     pub fn poll(&mut self, cx: &mut Context<'_>) -> Turn<PermitGuard<R, O>>
         ensures turn { IsTurn (Gives O.semaphore_of self.old.stage self.old.permits) (is_finished self.old.stage) result (is_finished self.new.stage) }
         ensures permits { self.new.permits ≡ self.old.permits }
         ensures share { is_finished self.new.stage ≡ false → self.new.stage ≡ self.old.stage }
+        ensures same { IfSome self.old.waiting (λ w. GoesOnBy w.seat result self.new.waiting) }
         ensures refused { OnRefused result (IsNone self.new.waiting) }
         ensures receipt { OnPending result (HasReceiptAt O.semaphore_of self.old.stage self.old.permits cx.new self.new.waiting) }
         ensures registered { OnPending result (Covers cx.new (WaitsAt O.semaphore_of self.old.stage)) }

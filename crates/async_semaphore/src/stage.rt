@@ -2,9 +2,9 @@
 
 ghost use Rattle.std.specs.Prelude.{◌≡◌, false, IfNone, IfSome};
 ghost use Rattle.futures.specs.Task.{Keeps};
-ghost use Rattle.async_semaphore.specs.Stages.{Gives, GotAt, HasNoShare, IsFor, OnPolled, OnTriedAt, WaitsAs, is_finished};
+ghost use Rattle.async_semaphore.specs.Stages.{Gives, GotAt, HasNoShare, IsFor, OnPolled, OnTriedAt, WaitsAs, is_finished, seat_of};
 ghost use Rattle.async_semaphore.specs.declared.semaphore.Semaphore.{Semaphore};
-ghost use Rattle.semaphore_core.specs.Outcomes.{WaitsFor};
+ghost use Rattle.semaphore_core.specs.Outcomes.{IsBySeat, WaitsFor};
 
 use crate::guard::PermitGuard;
 use crate::owns::Owns;
@@ -57,7 +57,7 @@ pub(crate) fn into_guard<R: Wait, O: Owns<Runtime = R>>(
     permits: u64,
 ) -> PermitGuard<R, O>
     requires { GotAt O.semaphore_of stage permits seat }
-    ensures { Gives O.semaphore_of stage permits result }
+    ensures { Gives O.semaphore_of stage permits result × (result.seat ≡ seat) }
 {
     match stage {
         Stage::Waits(owner) => PermitGuard::new(owner, seat, permits),
@@ -76,6 +76,7 @@ pub(crate) fn poll_first<R: Wait + Clock, O: Owns<Runtime = R>>(
 ) -> Outcome
     requires tried { OnTriedAt O.semaphore_of stage.now permits tried }
     ensures polled { OnPolled O.semaphore_of stage.now permits cx.new result }
+    ensures same { IsBySeat (seat_of tried) result }
     ensures kept { Keeps cx.old cx.new }
 {
     let Stage::Waits(owner) = stage else {
@@ -104,15 +105,15 @@ pub(crate) fn poll_waiting<R: Wait + Clock, O: Owns<Runtime = R>>(
 ) -> Outcome
     requires { WaitsAs O.semaphore_of stage.now permits waiting }
     ensures polled { OnPolled O.semaphore_of stage.now permits cx.new result }
+    ensures same { IsBySeat waiting.seat result }
     ensures kept { Keeps cx.old cx.new }
 {
     let Stage::Waits(owner) = stage else {
         unreachable!()
     };
     let semaphore = owner.semaphore();
-    semaphore
-        .raw
-        .poll_waiting(&semaphore.rt, cx, permits, waiting)
+    let raw = &semaphore.raw;
+    raw.poll_waiting(&semaphore.rt, cx, permits, waiting)
 }
 
 /// What a dropped future gives back.

@@ -1,11 +1,11 @@
 -- How a try and a poll went.
-use Rattle.std.specs.Prelude.{◌≡◌, ℕ, true, false, None}
+use Rattle.std.specs.Prelude.{◌≡◌, ⊤, ℕ, true, false, None}
 use Rattle.futures.specs.declared.task.context.Context.{Context}
 use Rattle.lock_program.specs.declared.end.Next.TheVariants.{Do}
 use Rattle.lock_program.specs.declared.refusal.Refusal.TheVariants.{Memory}
 use Rattle.lock_queue.specs.Receipts.{IsReceipt}
 use Rattle.semaphore_core.specs.Courses.{vain}
-use Rattle.semaphore_core.specs.Semaphores.{Semaphore, Seated, Has, Holds, IsShort}
+use Rattle.semaphore_core.specs.Semaphores.{Semaphore, Seated, IsSameSeat, Has, Holds, IsShort}
 use Rattle.semaphore_core.specs.declared.turn.Notifies.{Notifies}
 use Rattle.semaphore_core.specs.declared.turn.Outcome.{Outcome}
 use Rattle.semaphore_core.specs.declared.turn.Outcome.TheVariants as outcome
@@ -79,3 +79,9 @@ abbrev pub OnOutcome : Semaphore → ℕ → Context → Outcome → Type 0
 OnOutcome s k cx (outcome.Got seat) = Holds s k seat
 OnOutcome s k cx (outcome.Waits waiting) = WaitsFor s k waiting × IsReceipt s.source cx waiting.whose
 OnOutcome s k cx (outcome.Refused refusal) = refusal ≡ Memory
+
+-- Whoever has the permits, or waits, does so by this seat.
+abbrev pub IsBySeat : Seated → Outcome → Type 0
+IsBySeat seat (outcome.Got got) = IsSameSeat seat got
+IsBySeat seat (outcome.Waits waiting) = IsSameSeat seat waiting.seat
+IsBySeat seat (outcome.Refused refusal) = ⊤

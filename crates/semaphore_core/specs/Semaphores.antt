@@ -23,11 +23,12 @@ pub record Semaphore : Type 0 where
 abbrev pub semaphore_coded : Coded Semaphore
 semaphore_coded = code_by (TableId × (ℕ × ℕ)) (coded× table_id_coded (coded× coded_ℕ coded_ℕ)) (λ s. (s.word.table, (s.word.start, s.source))) (λ p. record { word = record { table = p.0; start = p.1.0 }; source = p.1.1 }) (λ _. refl)
 
--- A seat: of which semaphore it is; the permits that it has and those that it has under way, what it found last of the available permits and of the
+-- A seat: of which semaphore it is, and which number it has there; the permits that it has and those that it has under way, what it found last of the available permits and of the
 -- limit, and what it has added and forgotten in all; whether it owes a notification, and has looked since; and whether it has an entry, and no look of it
 -- found too few since it joined, the number of that entry, and for how many permits it waits; and where it is in its program.
 pub record Seated : Type 0 where
   pub table : TableId
+  pub id : ℕ
   pub permits : ℕ
   pub under_way : ℕ
   pub found : ℕ
@@ -43,26 +44,30 @@ pub record Seated : Type 0 where
   pub course : Course
 
 abbrev pub seated_coded : Coded Seated
-seated_coded = code_by (TableId × (ℕ × (ℕ × (ℕ × (ℕ × (ℕ × (ℕ × (Bool × (Bool × (Bool × (Bool × (ℕ × (ℕ × Course)))))))))))))
-    (coded× table_id_coded (coded× coded_ℕ (coded× coded_ℕ (coded× coded_ℕ (coded× coded_ℕ (coded× coded_ℕ (coded× coded_ℕ (coded× coded_bool (coded× coded_bool (coded× coded_bool (coded× coded_bool (coded× coded_ℕ (coded× coded_ℕ course_coded)))))))))))))
-    (λ s. (s.table, (s.permits, (s.under_way, (s.found, (s.limit, (s.added, (s.forgotten, (s.owes, (s.seen, (s.listed, (s.fresh, (s.entry, (s.weight, s.course))))))))))))))
-    (λ p. record { table = p.0; permits = p.1.0; under_way = p.1.1.0; found = p.1.1.1.0; limit = p.1.1.1.1.0; added = p.1.1.1.1.1.0; forgotten = p.1.1.1.1.1.1.0; owes = p.1.1.1.1.1.1.1.0; seen = p.1.1.1.1.1.1.1.1.0; listed = p.1.1.1.1.1.1.1.1.1.0; fresh = p.1.1.1.1.1.1.1.1.1.1.0; entry = p.1.1.1.1.1.1.1.1.1.1.1.0; weight = p.1.1.1.1.1.1.1.1.1.1.1.1.0; course = p.1.1.1.1.1.1.1.1.1.1.1.1.1 })
+seated_coded = code_by (TableId × (ℕ × (ℕ × (ℕ × (ℕ × (ℕ × (ℕ × (ℕ × (Bool × (Bool × (Bool × (Bool × (ℕ × (ℕ × Course))))))))))))))
+    (coded× table_id_coded (coded× coded_ℕ (coded× coded_ℕ (coded× coded_ℕ (coded× coded_ℕ (coded× coded_ℕ (coded× coded_ℕ (coded× coded_ℕ (coded× coded_bool (coded× coded_bool (coded× coded_bool (coded× coded_bool (coded× coded_ℕ (coded× coded_ℕ course_coded))))))))))))))
+    (λ s. (s.table, (s.id, (s.permits, (s.under_way, (s.found, (s.limit, (s.added, (s.forgotten, (s.owes, (s.seen, (s.listed, (s.fresh, (s.entry, (s.weight, s.course)))))))))))))))
+    (λ p. record { table = p.0; id = p.1.0; permits = p.1.1.0; under_way = p.1.1.1.0; found = p.1.1.1.1.0; limit = p.1.1.1.1.1.0; added = p.1.1.1.1.1.1.0; forgotten = p.1.1.1.1.1.1.1.0; owes = p.1.1.1.1.1.1.1.1.0; seen = p.1.1.1.1.1.1.1.1.1.0; listed = p.1.1.1.1.1.1.1.1.1.1.0; fresh = p.1.1.1.1.1.1.1.1.1.1.1.0; entry = p.1.1.1.1.1.1.1.1.1.1.1.1.0; weight = p.1.1.1.1.1.1.1.1.1.1.1.1.1.0; course = p.1.1.1.1.1.1.1.1.1.1.1.1.1.1 })
     (λ _. refl)
 
-abbrev pub seated : TableId → View → Course → Seated
-seated table v course = record { table = table; permits = v.permits; under_way = v.under_way; found = v.found; limit = v.limit; added = v.added; forgotten = v.forgotten; owes = v.owes; seen = v.seen; listed = v.listed; fresh = v.fresh; entry = v.entry; weight = v.weight; course = course }
+abbrev pub seated : TableId → ℕ → View → Course → Seated
+seated table id v course = record { table = table; id = id; permits = v.permits; under_way = v.under_way; found = v.found; limit = v.limit; added = v.added; forgotten = v.forgotten; owes = v.owes; seen = v.seen; listed = v.listed; fresh = v.fresh; entry = v.entry; weight = v.weight; course = course }
 
 -- The seat is one of the semaphore.
 abbrev pub IsOf : Semaphore → Seated → Type 0
 IsOf s seat = seat.table ≡ s.word.table
 
--- a seat that has nothing, and has done nothing
-abbrev pub entering : Semaphore → Seated
-entering s = record { table = s.word.table; permits = 0; under_way = 0; found = 0; limit = 0; added = 0; forgotten = 0; owes = false; seen = false; listed = false; fresh = false; entry = 0; weight = 0; course = outside }
+-- It is the same seat of its semaphore.
+abbrev pub IsSameSeat : Seated → Seated → Type 0
+IsSameSeat s t = t.id ≡ s.id
 
--- It has looked, and found a: fewer than it waits for, it is fresh no more.
+-- a seat that has nothing, and has done nothing
+abbrev pub entering : Semaphore → ℕ → Seated
+entering s id = record { table = s.word.table; id = id; permits = 0; under_way = 0; found = 0; limit = 0; added = 0; forgotten = 0; owes = false; seen = false; listed = false; fresh = false; entry = 0; weight = 0; course = outside }
+
+-- It has looked, and found a: fewer than it waits for, it is fresh no more; of nothing nobody has to be notified.
 abbrev pub with_look : ℕ → Seated → Seated
-with_look a s = record s { found = a; seen = true; fresh = s.fresh && leb s.weight a }
+with_look a s = record s { found = a; seen = true; fresh = s.fresh && leb s.weight a; owes = s.owes && leb 1 a }
 
 -- It has k permits more, and left a: of nothing nobody has to be notified.
 abbrev pub with_taken : ℕ → ℕ → Seated → Seated

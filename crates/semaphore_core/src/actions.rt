@@ -211,6 +211,22 @@ impl RawSemaphore {
         }
     }
 
+    // The same as `fit`, of as many as a look found: of nothing nobody has to be notified, and nothing is done.
+    #[inline]
+    pub(crate) fn fit_found<R: Wait>(&self, rt: &R, seat: &mut Seat, available: u64, at: Place)
+        requires of { IsOf self.now seat.old }
+        requires course { IsAt at (act.Fit available) seat.old }
+        requires found { (available ≡ seat.old.found) × (seat.old.seen ≡ true) }
+        requires none { available ≡ 0 → seat.old.owes ≡ false }
+        ensures { seat.new ≡ goes at finds.Done (with_paid seat.old) }
+    {
+        if available > 0 {
+            self.fit(rt, seat, available, at);
+        } else {
+            seat.go(at, Found::Done);
+        }
+    }
+
     // How many stand in the list, and whether the entry of this id is notified.
     fn see<R: Wait>(&self, rt: &R, id: Option<EntryId>) -> (usize, bool) {
         let mut seat = self.sit();

@@ -2,11 +2,11 @@
 //!
 //! Each action names its place in the table of `sync_program`, and asks that the call has come to it.
 
-ghost use Rattle.std.specs.Prelude.{◌≡◌, ℕ, true, IfErr, IfOk, IfSome, MatchBool};
+ghost use Rattle.std.specs.Prelude.{◌≡◌, ℕ, true, IfErr, IfOk, IfSome, MatchBool, MatchResult};
 ghost use Rattle.lock_program.specs.declared.refusal.Refusal.TheVariants as refusals;
 ghost use Rattle.semaphore_core.specs.Courses.{IsStart, outside};
 ghost use Rattle.semaphore_core.specs.Outcomes.{IsJoining, IsLooking, IsTrying, IsVain, OnFirst, OnLooked, OnTried, Owes};
-ghost use Rattle.semaphore_core.specs.Semaphores.{Has, HasAdded, HasUnderWay, Holds, IsAt, IsNew, IsPastLimit, IsShort, with_forgotten};
+ghost use Rattle.semaphore_core.specs.Semaphores.{Has, HasAdded, HasUnderWay, Holds, IsAt, IsNew, IsPastLimit, IsSameSeat, IsShort, with_forgotten};
 ghost use Rattle.lock_program.specs.declared.end.Next.TheVariants.{Do};
 ghost use Rattle.sync_program.specs.Permits.{action_of, next_of};
 ghost use Rattle.sync_program.specs.declared.permits.Action.TheVariants as act;
@@ -105,6 +105,7 @@ impl RawSemaphore {
         requires { IsLooking self.now permits seat }
         ensures got { IfOk result (Holds self.now permits) }
         ensures short { IfErr result (IsJoining self.now permits) }
+        ensures same { MatchResult result (IsSameSeat seat) (IsSameSeat seat) }
     {
         let mut seat = seat;
         let at = Place::Take {
@@ -123,6 +124,7 @@ impl RawSemaphore {
         requires nothing { Has self.now 0 seat.old }
         requires course { IsAt at (act.Take permits) seat.old }
         ensures taken { MatchBool result (Has self.now permits seat.new) (IsShort self.now permits seat.new) }
+        ensures same { IsSameSeat seat.old seat.new }
         ensures course { MatchBool result (seat.new.course ≡ next_of at (finds.Left seat.new.found)) (seat.new.course ≡ next_of at (finds.Short seat.new.found)) }
     {
         for _ in rt.forever() {

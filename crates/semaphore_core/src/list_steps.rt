@@ -38,7 +38,7 @@ pub(crate) fn join_in(
     requires table { inner.old.table_id ≡ shared.now.table_id }
     requires some { 0 < permits }
     requires held { IsHeld queue_waiters queue_marked inner.old.me }
-    ensures table { inner.new.table_id ≡ inner.old.table_id }
+    ensures seat { (inner.new.table_id ≡ inner.old.table_id) × (inner.new.id ≡ inner.old.id) }
     ensures view { inner.new.me.0 ≡ inner.old.me.0 }
     ensures others { rest inner.new.me.1 ≡ rest inner.old.me.1 }
     ensures ready { MatchResult result.0 (λ id. CanJoin queue_waiters queue_marked inner.new.me result.1 (waiter id.number permits)) (λ _. CanStay queue_waiters queue_marked inner.new.me result.1) }
@@ -61,7 +61,7 @@ pub(crate) fn join_waking_in(
     requires table { inner.old.table_id ≡ shared.now.table_id }
     requires some { 0 < permits }
     requires held { IsHeld queue_waiters queue_marked inner.old.me }
-    ensures table { inner.new.table_id ≡ inner.old.table_id }
+    ensures seat { (inner.new.table_id ≡ inner.old.table_id) × (inner.new.id ≡ inner.old.id) }
     ensures view { inner.new.me.0 ≡ inner.old.me.0 }
     ensures others { rest inner.new.me.1 ≡ rest inner.old.me.1 }
     ensures ready { MatchResult result.0 (λ joined. CanJoin queue_waiters queue_marked inner.new.me result.1 (waiter joined.0.number permits)) (λ _. CanStay queue_waiters queue_marked inner.new.me result.1) }
@@ -77,7 +77,7 @@ pub(crate) fn join_waking_in(
 pub(crate) fn fit_in(shared: &Listing, inner: &mut Lister, available: u64, found: u64) -> (Due, u64)
     requires table { inner.old.table_id ≡ shared.now.table_id }
     requires held { IsHeld queue_waiters queue_marked inner.old.me }
-    ensures table { inner.new.table_id ≡ inner.old.table_id }
+    ensures seat { (inner.new.table_id ≡ inner.old.table_id) × (inner.new.id ≡ inner.old.id) }
     ensures view { inner.new.me.0 ≡ inner.old.me.0 }
     ensures others { rest inner.new.me.1 ≡ rest inner.old.me.1 }
     ensures ready { CanPay queue_waiters queue_marked inner.new.me result.1 available }
@@ -96,7 +96,7 @@ pub(crate) fn remove_in(
 ) -> (bool, Option<Waker>, u64)
     requires table { inner.old.table_id ≡ shared.now.table_id }
     requires held { IsHeld queue_waiters queue_marked inner.old.me }
-    ensures table { inner.new.table_id ≡ inner.old.table_id }
+    ensures seat { (inner.new.table_id ≡ inner.old.table_id) × (inner.new.id ≡ inner.old.id) }
     ensures view { inner.new.me.0 ≡ inner.old.me.0 }
     ensures others { rest inner.new.me.1 ≡ rest inner.old.me.1 }
     ensures ready { MatchBool result.0 (CanHear queue_waiters queue_marked inner.new.me result.2 id.number) (CanLeave queue_waiters queue_marked inner.new.me result.2 id.number) }
@@ -117,7 +117,7 @@ pub(crate) fn ask_in(
 ) -> (Heard<Whose>, u64)
     requires table { inner.old.table_id ≡ shared.now.table_id }
     requires held { IsHeld queue_waiters queue_marked inner.old.me }
-    ensures table { inner.new.table_id ≡ inner.old.table_id }
+    ensures seat { (inner.new.table_id ≡ inner.old.table_id) × (inner.new.id ≡ inner.old.id) }
     ensures view { inner.new.me.0 ≡ inner.old.me.0 }
     ensures others { rest inner.new.me.1 ≡ rest inner.old.me.1 }
     ensures ready { ByHeard result.0 (CanHear queue_waiters queue_marked inner.new.me result.1 id.number) (λ _. CanStay queue_waiters queue_marked inner.new.me result.1) }
@@ -138,7 +138,7 @@ pub(crate) fn ask_again_in(
 ) -> (Heard<()>, u64)
     requires table { inner.old.table_id ≡ shared.now.table_id }
     requires held { IsHeld queue_waiters queue_marked inner.old.me }
-    ensures table { inner.new.table_id ≡ inner.old.table_id }
+    ensures seat { (inner.new.table_id ≡ inner.old.table_id) × (inner.new.id ≡ inner.old.id) }
     ensures view { inner.new.me.0 ≡ inner.old.me.0 }
     ensures others { rest inner.new.me.1 ≡ rest inner.old.me.1 }
     ensures ready { ByHeard result.0 (CanHear queue_waiters queue_marked inner.new.me result.1 id.number) (λ _. CanStay queue_waiters queue_marked inner.new.me result.1) }
@@ -160,7 +160,7 @@ pub(crate) fn give_entered(
     requires table { (inner.old.table_id ≡ shared.now.table_id) × (shared.now.table_id.words ≡ 3) × (shared.now.table_id.slots ≡ 1) }
     requires list { CanJoin queue_waiters queue_marked inner.old.me word (waiter id.number permits) }
     requires away { inner.old.me.0.listed ≡ false }
-    ensures table { inner.new.table_id ≡ inner.old.table_id }
+    ensures seat { (inner.new.table_id ≡ inner.old.table_id) × (inner.new.id ≡ inner.old.id) }
     ensures step { inner.new.me ≡ (joined_of (waiter id.number permits) inner.old.me.0, rest inner.old.me.1) }
 {
     let _ = (id, permits);
@@ -178,7 +178,7 @@ pub(crate) fn give_left(
     requires table { (inner.old.table_id ≡ shared.now.table_id) × (shared.now.table_id.words ≡ 3) × (shared.now.table_id.slots ≡ 1) }
     requires list { MatchBool was_notified (CanHear queue_waiters queue_marked inner.old.me word id.number) (CanLeave queue_waiters queue_marked inner.old.me word id.number) }
     requires own { (inner.old.me.0.listed ≡ true) × (inner.old.me.0.entry ≡ id.number) }
-    ensures table { inner.new.table_id ≡ inner.old.table_id }
+    ensures seat { (inner.new.table_id ≡ inner.old.table_id) × (inner.new.id ≡ inner.old.id) }
     ensures step { MatchBool was_notified (inner.new.me ≡ (told_of inner.old.me.0, rest inner.old.me.1)) (inner.new.me ≡ (gone_of inner.old.me.0, rest inner.old.me.1)) }
 {
     let _ = id;
@@ -198,7 +198,7 @@ pub(crate) fn see_in(
 ) -> (usize, bool, u64)
     requires table { inner.old.table_id ≡ shared.now.table_id }
     requires held { IsHeld queue_waiters queue_marked inner.old.me }
-    ensures table { inner.new.table_id ≡ inner.old.table_id }
+    ensures seat { (inner.new.table_id ≡ inner.old.table_id) × (inner.new.id ≡ inner.old.id) }
     ensures view { inner.new.me.0 ≡ inner.old.me.0 }
     ensures others { rest inner.new.me.1 ≡ rest inner.old.me.1 }
     ensures ready { CanStay queue_waiters queue_marked inner.new.me result.2 }
@@ -224,7 +224,7 @@ pub(crate) fn give_asked<K>(
     requires table { (inner.old.table_id ≡ shared.now.table_id) × (shared.now.table_id.words ≡ 3) × (shared.now.table_id.slots ≡ 1) }
     requires list { ByHeard heard (CanHear queue_waiters queue_marked inner.old.me word id.number) (λ _. CanStay queue_waiters queue_marked inner.old.me word) }
     requires own { (inner.old.me.0.listed ≡ true) × (inner.old.me.0.entry ≡ id.number) }
-    ensures table { inner.new.table_id ≡ inner.old.table_id }
+    ensures seat { (inner.new.table_id ≡ inner.old.table_id) × (inner.new.id ≡ inner.old.id) }
     ensures told { IfNone result ((inner.new.me ≡ (told_of inner.old.me.0, rest inner.old.me.1)) × ByHeard heard ⊤ (λ _. ⊥)) }
     ensures waits { IfSome result (λ kept. (inner.new.me ≡ (back inner.old.me.0, rest inner.old.me.1)) × (heard ≡ heard_as.Waits kept)) }
 {

@@ -6,8 +6,8 @@ ghost use Rattle.std.specs.Prelude.{◌≡◌, ◌<◌, true, false, None, IfErr
 ghost use Rattle.futures.specs.Task.{Keeps};
 ghost use Rattle.lock_program.specs.declared.end.Next.TheVariants.{Do};
 ghost use Rattle.semaphore_core.specs.Courses.{IsHolding};
-ghost use Rattle.semaphore_core.specs.Outcomes.{IsJoining, IsLook, OnOutcome, WaitsFor};
-ghost use Rattle.semaphore_core.specs.Semaphores.{Holds, IsAt, IsOf};
+ghost use Rattle.semaphore_core.specs.Outcomes.{IsBySeat, IsJoining, IsLook, OnOutcome, WaitsFor};
+ghost use Rattle.semaphore_core.specs.Semaphores.{Holds, IsAt, IsOf, IsSameSeat};
 ghost use Rattle.sync_program.specs.Permits.{told_more};
 ghost use Rattle.sync_program.specs.declared.permits.Action.TheVariants as act;
 ghost use Rattle.sync_program.specs.declared.permits.Place.TheVariants as places;
@@ -34,6 +34,7 @@ impl RawSemaphore {
     ) -> Outcome
         requires { IsJoining self.now permits seat }
         ensures outcome { OnOutcome self.now permits cx.new result }
+        ensures same { IsBySeat seat result }
         ensures kept { Keeps cx.old cx.new }
     {
         let mut seat = seat;
@@ -71,7 +72,8 @@ impl RawSemaphore {
         self.go_on_told(rt, cx, permits, seat)
     }
 
-    /// A poll of a future for so many permits that waits: it looks, and leaves the list with the permits, or asks.
+    /// A poll of a future for so many permits that waits: it looks, and leaves the list with the permits, or asks. It goes on with the
+    /// same seat (`same`).
     pub fn poll_waiting<R: Wait>(
         &self,
         rt: &R,
@@ -81,6 +83,7 @@ impl RawSemaphore {
     ) -> Outcome
         requires { WaitsFor self.now permits waiting }
         ensures outcome { OnOutcome self.now permits cx.new result }
+        ensures same { IsBySeat waiting.seat result }
         ensures kept { Keeps cx.old cx.new }
     {
         let Waiting {
@@ -114,6 +117,7 @@ impl RawSemaphore {
         requires look { IsLook permits at }
         requires waits { (seat.permits ≡ 0) × (seat.under_way ≡ 0) × (seat.owes ≡ false) × (seat.listed ≡ true) × (seat.entry ≡ id.number) × (seat.weight ≡ permits) }
         ensures outcome { OnOutcome self.now permits cx.new result }
+        ensures same { IsBySeat seat result }
         ensures kept { Keeps cx.old cx.new }
     {
         let mut seat = seat;
@@ -141,6 +145,7 @@ impl RawSemaphore {
         requires course { seat.course ≡ Do (places.Ask permits None) }
         requires waits { (seat.permits ≡ 0) × (seat.under_way ≡ 0) × (seat.owes ≡ false) × (seat.listed ≡ true) × (seat.fresh ≡ false) × (seat.entry ≡ id.number) × (seat.weight ≡ permits) }
         ensures outcome { OnOutcome self.now permits cx.new result }
+        ensures same { IsBySeat seat result }
         ensures kept { Keeps cx.old cx.new }
     {
         let mut seat = seat;
@@ -161,7 +166,7 @@ impl RawSemaphore {
         requires of { IsOf self.now seat }
         requires course { seat.course ≡ Do (places.Remove permits None) }
         requires has { (seat.permits ≡ permits) × (seat.under_way ≡ 0) × (seat.owes ≡ false) × (seat.listed ≡ true) × (seat.entry ≡ id.number) }
-        ensures { Holds self.now permits result }
+        ensures { Holds self.now permits result × IsSameSeat seat result }
     {
         let mut seat = seat;
         let at = Place::Remove {
@@ -181,12 +186,12 @@ impl RawSemaphore {
         requires course { seat.old.course ≡ Do (places.Load permits) }
         requires away { (seat.old.listed ≡ false) × (seat.old.fresh ≡ false) }
         ensures of { IsOf self.now seat.new }
-        ensures same { (seat.new.permits ≡ seat.old.permits) × (seat.new.under_way ≡ seat.old.under_way) × (seat.new.listed ≡ false) × (seat.new.fresh ≡ false) }
+        ensures same { IsSameSeat seat.old seat.new × (seat.new.permits ≡ seat.old.permits) × (seat.new.under_way ≡ seat.old.under_way) × (seat.new.listed ≡ false) × (seat.new.fresh ≡ false) }
         ensures paid { seat.new.owes ≡ false }
         ensures course { IsHolding permits seat.new.course }
     {
         let available = self.load(seat, Place::Load(permits));
-        self.fit(rt, seat, available, Place::HandOn { permits, available });
+        self.fit_found(rt, seat, available, Place::HandOn { permits, available });
     }
 
     // Goes on with a party that was told, and is out of the list: it takes its permits and hands on what is left, or joins again.
@@ -196,6 +201,7 @@ impl RawSemaphore {
         requires course { seat.course ≡ Do (places.Take permits false true) }
         requires told { (seat.permits ≡ 0) × (seat.under_way ≡ 0) × (seat.listed ≡ false) × (seat.fresh ≡ false) }
         ensures outcome { OnOutcome self.now permits cx.new result }
+        ensures same { IsBySeat seat result }
         ensures kept { Keeps cx.old cx.new }
     {
         let mut seat = seat;
@@ -238,8 +244,9 @@ impl RawSemaphore {
         requires of { IsOf self.now seat }
         requires course { seat.course ≡ Do (places.Join permits (Some available)) }
         requires told { (seat.permits ≡ 0) × (seat.under_way ≡ 0) × (seat.listed ≡ false) × (seat.fresh ≡ false) }
-        requires found { (available ≡ seat.found) × (seat.seen ≡ true) × (available < permits) }
+        requires found { (available ≡ seat.found) × (seat.seen ≡ true) × (available < permits) × (available ≡ 0 → seat.owes ≡ false) }
         ensures outcome { IfOk result (OnOutcome self.now permits cx.new) }
+        ensures same { IfOk result (IsBySeat seat) × IfErr result (IsSameSeat seat) }
         ensures again { IfErr result (λ told. IsOf self.now told × (told.permits ≡ 0) × (told.under_way ≡ 0) × (told.listed ≡ false) × (told.fresh ≡ false) × (told.course ≡ Do (places.Take permits false true))) }
         ensures unheard { IfErr result (λ _. cx.new ≡ cx.old) }
         ensures kept { Keeps cx.old cx.new }
@@ -249,7 +256,7 @@ impl RawSemaphore {
         let join = Place::Join { permits, told };
         let Ok(id) = self.join(rt, &mut seat, permits, join) else {
             let at = Place::RefuseFit { permits, available };
-            self.fit(rt, &mut seat, available, at);
+            self.fit_found(rt, &mut seat, available, at);
             seat.rise();
             return Ok(Outcome::Refused(Refusal::Memory));
         };
@@ -264,7 +271,7 @@ impl RawSemaphore {
             return Err(seat);
         };
         let at = Place::PassOn { permits, available };
-        self.fit(rt, &mut seat, available, at);
+        self.fit_found(rt, &mut seat, available, at);
         Ok(Outcome::Waits(Waiting { seat, id, whose }))
     }
 
@@ -276,9 +283,9 @@ impl RawSemaphore {
         requires course { seat.old.course ≡ Do (places.Take permits true true) }
         requires waits { (seat.old.permits ≡ 0) × (seat.old.under_way ≡ 0) × (seat.old.listed ≡ true) × (seat.old.weight ≡ permits) }
         ensures of { IsOf self.now seat.new }
-        ensures same { (seat.new.under_way ≡ 0) × (seat.new.listed ≡ true) × (seat.new.entry ≡ seat.old.entry) × (seat.new.weight ≡ permits) × (seat.new.seen ≡ true) }
+        ensures same { IsSameSeat seat.old seat.new × (seat.new.under_way ≡ 0) × (seat.new.listed ≡ true) × (seat.new.entry ≡ seat.old.entry) × (seat.new.weight ≡ permits) × (seat.new.seen ≡ true) }
         ensures got { IfOk result (λ left. (seat.new.permits ≡ permits) × (left ≡ seat.new.found) × (left ≡ 0 → seat.new.owes ≡ false)) }
-        ensures short { IfErr result (λ a. (seat.new.permits ≡ 0) × (a ≡ seat.new.found) × (seat.new.fresh ≡ false)) }
+        ensures short { IfErr result (λ a. (seat.new.permits ≡ 0) × (a ≡ seat.new.found) × (seat.new.fresh ≡ false) × (a ≡ 0 → seat.new.owes ≡ false)) }
         ensures leaves { IfOk result (λ left. seat.new.course ≡ Do (places.Remove permits (told_more true left))) }
         ensures asks { IfErr result (λ a. seat.new.course ≡ Do (places.Ask permits (Some a))) }
     {
@@ -305,7 +312,7 @@ impl RawSemaphore {
         requires course { seat.course ≡ Do (places.Remove permits (told_more true left)) }
         requires has { (seat.permits ≡ permits) × (seat.under_way ≡ 0) × (seat.listed ≡ true) × (seat.entry ≡ id.number) }
         requires found { (left ≡ seat.found) × (seat.seen ≡ true) × (left ≡ 0 → seat.owes ≡ false) }
-        ensures { Holds self.now permits result }
+        ensures { Holds self.now permits result × IsSameSeat seat result }
     {
         let mut seat = seat;
         let more = some_of(left);
@@ -335,7 +342,7 @@ impl RawSemaphore {
         seat.begin(SemaphoreCall::Drop, Place::CancelRemove);
         if self.remove(rt, &mut seat, id, Place::CancelRemove) {
             let available = self.load(&mut seat, Place::CancelLoad);
-            self.fit(rt, &mut seat, available, Place::FitGivenBack(available));
+            self.fit_found(rt, &mut seat, available, Place::FitGivenBack(available));
         }
         seat.rise();
     }

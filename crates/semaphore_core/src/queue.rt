@@ -1,6 +1,6 @@
 //! What lies in the slot of a semaphore's table.
 
-ghost use Rattle.std.specs.Prelude.{◌≡◌, ◌%◌, [], IfOk, IsSome, OnOk, OnErr, MatchBool, ⊤, true, false};
+ghost use Rattle.std.specs.Prelude.{◌≡◌, ◌%◌, [], IfOk, IsSome, None, OnOk, OnErr, MatchBool, ⊤, true, false};
 ghost use Rattle.futures.specs.Task.{Keeps};
 ghost use Rattle.lock_event.specs.Lists.{is_marked_at};
 ghost use Rattle.lock_event.specs.Slots.{has_id};
@@ -51,13 +51,26 @@ impl Queue {
     }
 
     // Makes the list, if nobody has joined before.
+    #[inline(always)]
     fn make(&mut self, alloc: Global) -> Result<(), Memory>
         ensures same { entries_of self.new ≡ entries_of self.old }
         ensures made { OnOk result (IsSome self.new.entries) }
     {
         if self.entries.is_some() {
-            return Ok(());
+            Ok(())
+        } else {
+            self.make_new(alloc)
         }
+    }
+
+    // Makes the list, which nobody has joined before.
+    #[cold]
+    #[inline(never)]
+    fn make_new(&mut self, alloc: Global) -> Result<(), Memory>
+        requires { self.old.entries ≡ None }
+        ensures same { entries_of self.new ≡ entries_of self.old }
+        ensures made { OnOk result (IsSome self.new.entries) }
+    {
         let Ok(made) = Box::new(alloc, WeightedEvent::new(alloc)) else {
             return Err(Memory);
         };

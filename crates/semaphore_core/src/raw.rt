@@ -76,12 +76,13 @@ impl RawSemaphore {
         self.table.shared.peek(AVAILABLE)
     }
 
-    /// Sees how many permits are available: one step.
+    /// Sees how many permits are available: one step. If none are, the seat owes nothing any more (`ends`).
     #[inline]
     pub fn load(&self, seat: &mut Seat, at: Place) -> u64
         requires of { IsOf self.now seat.old }
         requires course { IsAt at act.Load seat.old }
-        ensures { seat.new ≡ goes at (finds.Available result) (with_look result seat.old) }
+        ensures step { seat.new ≡ goes at (finds.Available result) (with_look result seat.old) }
+        ensures ends { result ≡ 0 → seat.new.owes ≡ false }
     {
         let available = look(&self.table.shared, &mut seat.inner);
         seat.go(at, Found::Available(available));
@@ -89,7 +90,7 @@ impl RawSemaphore {
     }
 
     /// Takes this many permits if as many are available: one look, and one exchange. A seat for whose entry the look found too few is
-    /// fresh no more (`stale`), and one that took the last permit owes nothing (`ends`). Where the word changed meanwhile the call stays at its
+    /// fresh no more (`stale`), and one that took the last permit, or found none, owes nothing (`ends`). Where the word changed meanwhile the call stays at its
     /// place.
     #[inline]
     pub fn take(&self, seat: &mut Seat, permits: u64, at: Place) -> Taking
@@ -97,7 +98,7 @@ impl RawSemaphore {
         requires course { IsAt at (act.Take permits) seat.old }
         ensures step { OnTaking result (λ a. seat.new ≡ goes at (finds.Left a) (with_taken permits a (with_look (a + permits) seat.old))) (λ a. (a < permits) × (seat.new ≡ goes at (finds.Short a) (with_look a seat.old))) (seat.new ≡ with_look seat.new.found seat.old) }
         ensures stale { OnTaking result (λ _. ⊤) (λ _. permits ≤ seat.old.weight → seat.new.fresh ≡ false) ⊤ }
-        ensures ends { OnTaking result (λ a. a ≡ 0 → seat.new.owes ≡ false) (λ _. ⊤) ⊤ }
+        ensures ends { OnTaking result (λ a. a ≡ 0 → seat.new.owes ≡ false) (λ a. a ≡ 0 → seat.new.owes ≡ false) ⊤ }
     {
         let found = look(&self.table.shared, &mut seat.inner);
         self.take_from(seat, found, permits, at)

@@ -17,7 +17,7 @@ use words_permits::{Keep, Sees, View};
 
 /// A party's place at a semaphore, with which it steps on the semaphore's words. It has no bytes, and borrows nothing.
 ///
-/// Contracts see: the semaphore, how many permits the seat has and how many are under way, what it found last of the available permits and
+/// Contracts see: the semaphore, which of its seats it is, how many permits the seat has and how many are under way, what it found last of the available permits and
 /// of the limit, what it has added and forgotten in all, whether it owes a notification and has looked since, its entry in the list, and where
 /// it is in its program (`course`). It has no `Drop`: only [`Seat::rise`] and [`Seat::end`] end it, once it is outside every call, has given
 /// back what it has, and owes nothing. This file alone makes one and takes one apart.
@@ -37,7 +37,7 @@ impl Model for Seat {
     ghost use Rattle.std.specs.Prelude.{◌≡◌, false, []};
     ghost use Rattle.semaphore_core.specs.Semaphores.{seated};
 
-    ghost view = { λ s. seated s.inner.table_id s.inner.me.0 s.course.next };
+    ghost view = { λ s. seated s.inner.table_id s.inner.id s.inner.me.0 s.course.next };
 
     ghost invariant = { λ s. (s.inner.me.1 ≡ []) × (s.inner.me.0.has_list ≡ false) × (s.inner.me.0.waiters ≡ []) × (s.inner.me.0.marked ≡ 0) };
 }
@@ -46,7 +46,7 @@ impl RawSemaphore {
     /// Returns a new seat, which has nothing. It costs one load, and takes no memory.
     #[inline]
     pub fn sit(&self) -> Seat
-        ensures { result ≡ entering self.now }
+        ensures { result ≡ entering self.now result.id }
     {
         let shared: &Listing = &self.table.shared;
         Seat::new(shared.load_new_seat::<Keep>(AVAILABLE).1)
@@ -55,7 +55,7 @@ impl RawSemaphore {
     /// Returns a new seat as [`RawSemaphore::sit`] does, with how many permits its one load found available.
     #[inline]
     pub fn sit_and_look(&self) -> (Seat, u64)
-        ensures { result.0 ≡ with_look result.1 (entering self.now) }
+        ensures { result.0 ≡ with_look result.1 (entering self.now result.0.id) }
     {
         let shared: &Listing = &self.table.shared;
         let (found, inner) = shared.load_new_seat::<Sees>(AVAILABLE);
@@ -68,7 +68,7 @@ impl Seat {
     #[inline(always)]
     fn new(inner: TableSeat<Queue, View>) -> Seat
         requires { (inner.me.1 ≡ []) × (inner.me.0.has_list ≡ false) × (inner.me.0.waiters ≡ []) × (inner.me.0.marked ≡ 0) }
-        ensures { result ≡ seated inner.table_id inner.me.0 outside }
+        ensures { result ≡ seated inner.table_id inner.id inner.me.0 outside }
     {
         Seat {
             inner,
@@ -137,7 +137,7 @@ impl Model for Ended {
     ghost use Rattle.semaphore_core.specs.Courses.{IsOutside};
     ghost use Rattle.semaphore_core.specs.Semaphores.{seated};
 
-    ghost view = { λ e. seated e.inner.table_id e.inner.me.0 e.course.next };
+    ghost view = { λ e. seated e.inner.table_id e.inner.id e.inner.me.0 e.course.next };
 
     ghost invariant = { λ e. IsOutside e.course.next × (e.inner.me.0.permits ≡ 0) × (e.inner.me.0.under_way ≡ 0) × (e.inner.me.0.listed ≡ false) × (e.inner.me.0.owes ≡ false) };
 }

@@ -25,6 +25,10 @@ use Rattle.words_permits.proofs.Owners.{some-set, some-mine, some-snoc, stands-s
 pub newest-is : {S : Type 0} (waiters_of : S → List Waiter) (marked_of : S → ℕ) (me : Me S View) (new : ℕ) (w : Waiter) → CanJoin waiters_of marked_of me new w → newest waiters_of me.1 ≡ w
 newest-is waiters_of marked_of me new w c = ap (newest waiters_of) c.1.1 ∙ (ap (last_or (waiter 0 0)) c.2 ∙ last-snoc (waiter 0 0) me.0.waiters w)
 
+-- nothing is enough for nobody
+of_nothing : (n : ℕ) (l : List Waiter) (marked : ℕ) (views : List View) → ((w : Waiter) → StandsIn l w → 0 < w.weight) → n ≡ 0 → LosesNone views n l marked
+of_nothing n l marked views counts is = inr (inr (λ e stands few. let some = counts e stands in absurd (omega arith)))
+
 abbrev IsSeat : {S : Type 0} → Me S View → Me S View → Type 0
 IsSeat m m' = m' ≡ m
 
@@ -208,12 +212,14 @@ module _ (S : Type 0) (waiters_of : S → List Waiter) (marked_of : S → ℕ) (
     still = first_word me.0 x refl refl refl (refl, refl, refl, (λ _ f. f), refl, refl) still-wakes
 
     pub sees : R (stepped s 0 x id me.1 (looking x me.0) keeps)
-    sees = let w : View = looking x me.0 in first_word w x refl refl refl (refl, refl, refl, (λ _ f. f), refl, refl) (wakes-by x w (omega arith) (λ o. (o.0, inr (omega arith)))
-        (λ e few f. (f.0, and_true me.0.fresh (leb me.0.weight x) (le-leb me.0.weight x (let k = f.0.2 in omega arith)) ∙ f.1)))
+    sees = let w : View = looking x me.0 in first_word w x refl refl refl (refl, refl, refl, (λ _ f. f), refl, refl) (dite (ℕ_discrete x 0)
+        (λ none. of_nothing x r.waiters r.marked (after w) r.sound.0 none)
+        (λ some. wakes-by x w (omega arith) (λ o. (and_true me.0.owes (leb 1 x) (le-leb 1 x (omega arith)) ∙ o.0, inr (omega arith)))
+        (λ e few f. (f.0, and_true me.0.fresh (leb me.0.weight x) (le-leb me.0.weight x (let k = f.0.2 in omega arith)) ∙ f.1))))
 
     pub takes_some : (k n : ℕ) → n + k ≡ x → R (stepped s 0 n id me.1 (having_taken k n me.0) keeps)
     takes_some k n less = let w : View = having_taken k n me.0 in first_word w n (omega arith) refl refl (refl, refl, refl, (λ _ f. f), refl, refl) (dite (ℕ_discrete n 0)
-        (λ none. inr (inr (λ e stands few. let some = r.sound.0 e stands in absurd (omega arith))))
+        (λ none. of_nothing n r.waiters r.marked (after w) r.sound.0 none)
         (λ some. wakes-by n w (omega arith) (λ o. (and_true me.0.owes (leb 1 n) (le-leb 1 n (omega arith)) ∙ o.0, inr (omega arith))) (λ _ _ f. f)))
 
     pub gives_some : (k n : ℕ) → k ≤ me.0.permits → x + k ≡ n → R (stepped s 0 n id me.1 (having_given k n me.0) keeps)

@@ -7,9 +7,9 @@ use Rattle.words_permits.specs.declared.view.View.{View}
 abbrev pub first_view : View
 first_view = record { permits = 0; under_way = 0; found = 0; limit = 0; added = 0; forgotten = 0; owes = false; seen = false; listed = false; fresh = false; entry = 0; weight = 0; has_list = false; waiters = []; marked = 0 }
 
--- A look that found a: fewer than it waits for, it has looked in vain. A duty is of as many.
+-- A look that found a: fewer than it waits for, it has looked in vain. A duty is of as many, and of nothing nobody has to be notified.
 abbrev pub looking : ℕ → View → View
-looking a v = record v { found = a; seen = true; fresh = v.fresh && leb v.weight a }
+looking a v = record v { found = a; seen = true; fresh = v.fresh && leb v.weight a; owes = v.owes && leb 1 a }
 
 -- It has k permits more, and left a: of nothing nobody has to be notified.
 abbrev pub having_taken : ℕ → ℕ → View → View

@@ -50,7 +50,7 @@ pub const NOTIFICATION: u64 = 8;
 #[inline]
 pub fn look<S: Content>(shared: &Ruled<S>, inner: &mut TableSeat<S, View>) -> u64
     requires table { (inner.old.table_id ≡ shared.now.table_id) × (shared.now.table_id.words ≡ 3) }
-    ensures table { inner.new.table_id ≡ inner.old.table_id }
+    ensures seat { (inner.new.table_id ≡ inner.old.table_id) × (inner.new.id ≡ inner.old.id) }
     ensures step { inner.new.me ≡ (looking result inner.old.me.0, inner.old.me.1) }
 {
     shared.load::<Sees>(inner, AVAILABLE)
@@ -66,7 +66,7 @@ pub fn take<S: Content>(
 ) -> u64
     requires table { (inner.old.table_id ≡ shared.now.table_id) × (shared.now.table_id.words ≡ 3) }
     requires fewer { left ≤ found }
-    ensures table { inner.new.table_id ≡ inner.old.table_id }
+    ensures seat { (inner.new.table_id ≡ inner.old.table_id) × (inner.new.id ≡ inner.old.id) }
     ensures took { result ≡ found → inner.new.me ≡ (having_taken (found - left) left inner.old.me.0, inner.old.me.1) }
     ensures not { result ≢ found → inner.new.me ≡ inner.old.me }
 {
@@ -78,7 +78,7 @@ pub fn take<S: Content>(
 pub fn give<S: Content>(shared: &Ruled<S>, inner: &mut TableSeat<S, View>, permits: u64) -> u64
     requires table { (inner.old.table_id ≡ shared.now.table_id) × (shared.now.table_id.words ≡ 3) }
     requires has { permits ≤ inner.old.me.0.permits }
-    ensures table { inner.new.table_id ≡ inner.old.table_id }
+    ensures seat { (inner.new.table_id ≡ inner.old.table_id) × (inner.new.id ≡ inner.old.id) }
     ensures step { inner.new.me ≡ (having_given permits result inner.old.me.0, inner.old.me.1) }
 {
     let found = shared.fetch_add::<GivesStep>(inner, AVAILABLE, permits);
@@ -90,7 +90,7 @@ pub fn give<S: Content>(shared: &Ruled<S>, inner: &mut TableSeat<S, View>, permi
 pub fn give_new<S: Content>(shared: &Ruled<S>, inner: &mut TableSeat<S, View>, permits: u64) -> u64
     requires table { (inner.old.table_id ≡ shared.now.table_id) × (shared.now.table_id.words ≡ 3) }
     requires has { permits ≤ inner.old.me.0.under_way }
-    ensures table { inner.new.table_id ≡ inner.old.table_id }
+    ensures seat { (inner.new.table_id ≡ inner.old.table_id) × (inner.new.id ≡ inner.old.id) }
     ensures step { inner.new.me ≡ (having_given_new permits result inner.old.me.0, inner.old.me.1) }
 {
     let found = shared.fetch_add::<GivesNewStep>(inner, AVAILABLE, permits);
@@ -101,7 +101,7 @@ pub fn give_new<S: Content>(shared: &Ruled<S>, inner: &mut TableSeat<S, View>, p
 /// It is refused only where its look found that the limit would pass its greatest value.
 pub fn raise<S: Content>(shared: &Ruled<S>, inner: &mut TableSeat<S, View>, permits: u64) -> Raising
     requires table { (inner.old.table_id ≡ shared.now.table_id) × (shared.now.table_id.words ≡ 3) }
-    ensures table { inner.new.table_id ≡ inner.old.table_id }
+    ensures seat { (inner.new.table_id ≡ inner.old.table_id) × (inner.new.id ≡ inner.old.id) }
     ensures step { OnRaising result (inner.new.me ≡ (having_raised permits (having_found_limit inner.new.me.0.limit inner.old.me.0), inner.old.me.1)) ((18446744073709551615 < inner.new.me.0.limit + permits) × (inner.new.me ≡ (having_found_limit inner.new.me.0.limit inner.old.me.0, inner.old.me.1))) (inner.new.me ≡ (having_found_limit inner.new.me.0.limit inner.old.me.0, inner.old.me.1)) }
 {
     let found = shared.load::<SeesLimit>(inner, LIMIT);
@@ -121,7 +121,7 @@ pub fn raise<S: Content>(shared: &Ruled<S>, inner: &mut TableSeat<S, View>, perm
 pub fn lower<S: Content>(shared: &Ruled<S>, inner: &mut TableSeat<S, View>, permits: u64)
     requires table { (inner.old.table_id ≡ shared.now.table_id) × (shared.now.table_id.words ≡ 3) }
     requires has { permits ≤ inner.old.me.0.permits }
-    ensures table { inner.new.table_id ≡ inner.old.table_id }
+    ensures seat { (inner.new.table_id ≡ inner.old.table_id) × (inner.new.id ≡ inner.old.id) }
     ensures step { inner.new.me ≡ (having_lowered permits inner.old.me.0, inner.old.me.1) }
 {
     shared.fetch_sub::<LowersStep>(inner, LIMIT, permits);
@@ -131,7 +131,7 @@ pub fn lower<S: Content>(shared: &Ruled<S>, inner: &mut TableSeat<S, View>, perm
 #[inline]
 pub fn peek<S: Content>(shared: &Ruled<S>, inner: &mut TableSeat<S, View>) -> u64
     requires table { (inner.old.table_id ≡ shared.now.table_id) × (shared.now.table_id.words ≡ 3) }
-    ensures table { inner.new.table_id ≡ inner.old.table_id }
+    ensures seat { (inner.new.table_id ≡ inner.old.table_id) × (inner.new.id ≡ inner.old.id) }
     ensures step { inner.new.me ≡ (peeking result inner.old.me.0, inner.old.me.1) }
 {
     shared.load::<Peeks>(inner, LIST)
@@ -141,7 +141,7 @@ pub fn peek<S: Content>(shared: &Ruled<S>, inner: &mut TableSeat<S, View>) -> u6
 #[inline]
 pub fn grab<S: Content>(shared: &Ruled<S>, inner: &mut TableSeat<S, View>) -> u64
     requires table { (inner.old.table_id ≡ shared.now.table_id) × (shared.now.table_id.words ≡ 3) }
-    ensures table { inner.new.table_id ≡ inner.old.table_id }
+    ensures seat { (inner.new.table_id ≡ inner.old.table_id) × (inner.new.id ≡ inner.old.id) }
     ensures took { result % 2 ≡ 0 → IsHeld S.waiters S.marked inner.new.me × IsSame inner.old.me.0 inner.new.me.0 × (rest inner.new.me.1 ≡ inner.old.me.1) }
     ensures not { result % 2 ≢ 0 → inner.new.me ≡ inner.old.me }
 {
@@ -152,7 +152,7 @@ pub fn grab<S: Content>(shared: &Ruled<S>, inner: &mut TableSeat<S, View>) -> u6
 #[inline]
 pub fn grab_asleep<S: Content>(shared: &Ruled<S>, inner: &mut TableSeat<S, View>) -> u64
     requires table { (inner.old.table_id ≡ shared.now.table_id) × (shared.now.table_id.words ≡ 3) }
-    ensures table { inner.new.table_id ≡ inner.old.table_id }
+    ensures seat { (inner.new.table_id ≡ inner.old.table_id) × (inner.new.id ≡ inner.old.id) }
     ensures took { result % 2 ≡ 0 → IsHeld S.waiters S.marked inner.new.me × IsSame inner.old.me.0 inner.new.me.0 × (rest inner.new.me.1 ≡ inner.old.me.1) }
     ensures not { result % 2 ≢ 0 → inner.new.me ≡ inner.old.me }
 {
@@ -165,7 +165,7 @@ pub fn give_joined<S: Content>(shared: &Ruled<S>, inner: &mut TableSeat<S, View>
     requires table { (inner.old.table_id ≡ shared.now.table_id) × (shared.now.table_id.words ≡ 3) × (shared.now.table_id.slots ≡ 1) }
     requires list { (w : Waiter) × CanJoin S.waiters S.marked inner.old.me new w }
     requires away { inner.old.me.0.listed ≡ false }
-    ensures table { inner.new.table_id ≡ inner.old.table_id }
+    ensures seat { (inner.new.table_id ≡ inner.old.table_id) × (inner.new.id ≡ inner.old.id) }
     ensures step { (w : Waiter) → CanJoin S.waiters S.marked inner.old.me new w → inner.new.me ≡ (joined_of w inner.old.me.0, rest inner.old.me.1) }
 {
     shared.swap::<Joined>(inner, LIST, new)
@@ -177,7 +177,7 @@ pub fn give_told<S: Content>(shared: &Ruled<S>, inner: &mut TableSeat<S, View>, 
     requires table { (inner.old.table_id ≡ shared.now.table_id) × (shared.now.table_id.words ≡ 3) × (shared.now.table_id.slots ≡ 1) }
     requires list { CanHear S.waiters S.marked inner.old.me new inner.old.me.0.entry }
     requires stands { inner.old.me.0.listed ≡ true }
-    ensures table { inner.new.table_id ≡ inner.old.table_id }
+    ensures seat { (inner.new.table_id ≡ inner.old.table_id) × (inner.new.id ≡ inner.old.id) }
     ensures step { inner.new.me ≡ (told_of inner.old.me.0, rest inner.old.me.1) }
 {
     shared.swap::<Told>(inner, LIST, new)
@@ -189,7 +189,7 @@ pub fn give_gone<S: Content>(shared: &Ruled<S>, inner: &mut TableSeat<S, View>, 
     requires table { (inner.old.table_id ≡ shared.now.table_id) × (shared.now.table_id.words ≡ 3) × (shared.now.table_id.slots ≡ 1) }
     requires list { CanLeave S.waiters S.marked inner.old.me new inner.old.me.0.entry }
     requires stands { inner.old.me.0.listed ≡ true }
-    ensures table { inner.new.table_id ≡ inner.old.table_id }
+    ensures seat { (inner.new.table_id ≡ inner.old.table_id) × (inner.new.id ≡ inner.old.id) }
     ensures step { inner.new.me ≡ (gone_of inner.old.me.0, rest inner.old.me.1) }
 {
     shared.swap::<Gone>(inner, LIST, new)
@@ -206,7 +206,7 @@ pub fn give_paid<S: Content>(
     requires table { (inner.old.table_id ≡ shared.now.table_id) × (shared.now.table_id.words ≡ 3) × (shared.now.table_id.slots ≡ 1) }
     requires list { CanPay S.waiters S.marked inner.old.me new available }
     requires seen { (available ≡ inner.old.me.0.found) × (inner.old.me.0.seen ≡ true) }
-    ensures table { inner.new.table_id ≡ inner.old.table_id }
+    ensures seat { (inner.new.table_id ≡ inner.old.table_id) × (inner.new.id ≡ inner.old.id) }
     ensures step { inner.new.me ≡ (paid_of inner.old.me.0, rest inner.old.me.1) }
 {
     let _ = available;
@@ -218,7 +218,7 @@ pub fn give_paid<S: Content>(
 pub fn give_same<S: Content>(shared: &Ruled<S>, inner: &mut TableSeat<S, View>, new: u64) -> u64
     requires table { (inner.old.table_id ≡ shared.now.table_id) × (shared.now.table_id.words ≡ 3) × (shared.now.table_id.slots ≡ 1) }
     requires list { CanStay S.waiters S.marked inner.old.me new }
-    ensures table { inner.new.table_id ≡ inner.old.table_id }
+    ensures seat { (inner.new.table_id ≡ inner.old.table_id) × (inner.new.id ≡ inner.old.id) }
     ensures step { inner.new.me ≡ (back inner.old.me.0, rest inner.old.me.1) }
 {
     shared.swap::<Same>(inner, LIST, new)
