@@ -4,22 +4,24 @@ use Rattle.async_barrier.specs.declared.barrier.Barrier.{Barrier}
 use Rattle.async_barrier.specs.declared.result.BarrierWaitResult.{BarrierWaitResult}
 use Rattle.async_driver.specs.declared.turn.Turn.{Turn}
 use Rattle.async_driver.specs.declared.turn.Turn.TheVariants.{Pending, Ready, Refused}
-use Rattle.barrier_core.specs.Barriers.{Barrier as RawBarrier}
-use Rattle.barrier_core.specs.Outcomes.{HasReceipt, IsGivenUp, RestsAt, StaysCounted, counted_in}
+use Rattle.barrier_core.specs.Barriers.{Barrier as RawBarrier, Seated, IsSameSeat}
+use Rattle.barrier_core.specs.Outcomes.{HasReceipt, IsGivenUp, LocksBy, RestsAt, RestsBy, StaysCounted, counted_in}
+use Rattle.barrier_core.specs.declared.turn.Aim.TheVariants as aim
 use Rattle.barrier_core.specs.declared.turn.Resting.{Resting}
 use Rattle.barrier_core.specs.declared.turn.Resting.TheVariants as resting
 use Rattle.futures.specs.declared.task.context.Context.{Context}
 use Rattle.lock_program.specs.declared.refusal.Refusal.{Refusal}
 use Rattle.lock_program.specs.declared.refusal.Refusal.TheVariants.{Finished}
 
--- its barrier, whether it was ready before, and what it has between two polls
+-- its barrier, whether it was ready before, what it has between two polls, and the seat by which it has ended
 pub record Future (R : Type 0) : Type 0 where
   pub barrier : Barrier R
   pub is_over : Bool
   pub waiting : Option Resting
+  pub ended : Option Seated
 
-abbrev pub future : {R : Type 0} → Barrier R → Bool → Option Resting → Future R
-future barrier over waiting = record { barrier = barrier; is_over = over; waiting = waiting }
+abbrev pub future : {R : Type 0} → Barrier R → Bool → Option Resting → Option Seated → Future R
+future barrier over waiting ended = record { barrier = barrier; is_over = over; waiting = waiting; ended = ended }
 
 -- in which generation its arrival was counted, if it was
 abbrev pub counted_of : Option Resting → Option ℕ
@@ -37,16 +39,29 @@ IsInNoList None = ⊤
 IsInNoList (Some (resting.Counted arrival)) = ⊤
 IsInNoList (Some r) = ⊥
 
--- a fact of a refused poll
-abbrev pub OnRefused : Turn BarrierWaitResult → Type 0 → Type 0
-OnRefused (Refused refusal) fact = fact
-OnRefused turn fact = ⊤
-
 -- a fact of a poll after which the future goes on
 abbrev pub OnAgain : Turn BarrierWaitResult → Type 0 → Type 0
 OnAgain (Ready got) fact = ⊤
 OnAgain Pending fact = fact
 OnAgain (Refused refusal) fact = fact
+
+-- An arrival that was counted goes on by this seat, or its wait has ended by it.
+abbrev pub GoesBy : Seated → Turn BarrierWaitResult → Option Resting → Option Seated → Type 0
+GoesBy seat (Ready got) waiting ended = IsSomeAnd ended (IsSameSeat seat)
+GoesBy seat Pending waiting ended = IsSomeAnd waiting (RestsBy seat)
+GoesBy seat (Refused refusal) waiting ended = IsSomeAnd waiting (RestsBy seat)
+
+-- A wait goes on by the seat that it has: of the barrier, once its arrival was counted, and of the inner lock, until then.
+abbrev pub GoesOnBy : Resting → Turn BarrierWaitResult → Option Resting → Option Seated → Type 0
+GoesOnBy (resting.Counted arrival) turn waiting ended = GoesBy arrival.seat turn waiting ended
+GoesOnBy (resting.Locking (aim.Arrive course) lock) turn waiting ended = OnAgain turn (IfSome waiting (LocksBy lock.seat))
+GoesOnBy (resting.Locking (aim.Check arrival) lock) turn waiting ended = GoesBy arrival.seat turn waiting ended
+GoesOnBy (resting.Waiting w) turn waiting ended = GoesBy w.seat turn waiting ended
+
+-- a fact of a refused poll
+abbrev pub OnRefused : Turn BarrierWaitResult → Type 0 → Type 0
+OnRefused (Refused refusal) fact = fact
+OnRefused turn fact = ⊤
 
 -- how a wait may refuse: as finished where it is over, and else as it gives up
 abbrev pub CanRefuse : Bool → Refusal → Type 0

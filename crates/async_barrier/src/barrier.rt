@@ -80,7 +80,7 @@ impl<R: Wait> Barrier<R> {
     /// let result = wait_for(&rt, barrier.wait())?;
     /// ```
     pub fn wait(&self) -> BarrierWait<'_, R>
-        ensures { result ≡ future self.now false None }
+        ensures { result ≡ future self.now false None None }
     {
         BarrierWait::new(self)
     }
@@ -99,7 +99,7 @@ impl<R: Wait + Clock + RandomSource + AllocGlobal> Barrier<R> {
         ensures refused { IfErr result IsGivenUp }
     {
         match self.raw.try_lead(&self.rt) {
-            Ok(Some(led)) => Ok(BarrierWaitResult::new(&self.raw, Verdict::Led(led))),
+            Ok(Some(led)) => Ok(BarrierWaitResult::new(&self.raw, Verdict::Led(led)).0),
             Ok(None) => self.wait_asleep(),
             Err(refusal) => Err(refusal),
         }

@@ -4,7 +4,7 @@
 
 ghost use Rattle.std.specs.Prelude.{◌≡◌};
 
-use barrier_core::{RawBarrier, Verdict};
+use barrier_core::{Ended, RawBarrier, Verdict};
 
 /// How a wait at a barrier has ended.
 ///
@@ -15,18 +15,17 @@ pub struct BarrierWaitResult {
 }
 
 impl BarrierWaitResult {
-    ghost use Rattle.barrier_core.specs.Counts.{IsFoundAt, leads};
+    ghost use Rattle.barrier_core.specs.Counts.{IsFoundAt, leads, seat_by};
 
-    // It is what the evidence tells, which was found at this barrier.
+    // It is what the evidence tells, which was found at this barrier, with the seat that has found it.
     #[inline]
-    pub(crate) fn new(raw: &RawBarrier, verdict: Verdict) -> BarrierWaitResult
+    pub(crate) fn new(raw: &RawBarrier, verdict: Verdict) -> (BarrierWaitResult, Ended)
         requires { IsFoundAt raw.now verdict }
-        ensures { result.is_leader ≡ leads verdict }
+        ensures { (result.0.is_leader ≡ leads verdict) × (result.1 ≡ seat_by verdict) }
     {
         let _ = raw;
-        BarrierWaitResult {
-            is_leader: verdict.told(),
-        }
+        let (is_leader, ended) = verdict.told();
+        (BarrierWaitResult { is_leader }, ended)
     }
 
     /// Returns whether this wait was the arrival that finished its generation. Of each generation exactly one is.

@@ -1,15 +1,15 @@
 //! The future of a barrier.
 
-ghost use Rattle.std.specs.Prelude.{◌≡◌, false, None};
+ghost use Rattle.std.specs.Prelude.{◌≡◌, false, None, IfSome};
 ghost use Rattle.futures.specs.Task.{Covers, Keeps};
 ghost use Rattle.async_driver.specs.Turns.{OnPending};
-ghost use Rattle.async_barrier.specs.Futures.{IsInNoList, IsReceipt, IsTurn, OnAgain, OnRefused, counted_of};
+ghost use Rattle.async_barrier.specs.Futures.{GoesOnBy, IsInNoList, IsReceipt, IsTurn, OnAgain, OnRefused, counted_of};
 ghost use Rattle.barrier_core.specs.Outcomes.{StaysCounted};
 
 use crate::barrier::Barrier;
 use crate::result::BarrierWaitResult;
 use async_driver::{Polled, Turn, put};
-use barrier_core::{Aim, Outcome, Resting};
+use barrier_core::{Aim, Ended, Outcome, Resting};
 use futures::task::Context;
 use lock_program::Refusal;
 use std::fmt;
@@ -20,10 +20,13 @@ use std::time::Clock;
 /// A future of a barrier's wait. Dropping it leaves the list that it waits in, the barrier's or the inner lock's, and forwards an
 /// unused notification. An arrival that was counted stays counted.
 ///
-/// Contracts see its barrier, whether it was ready before (`is_over`), and what it has at the barrier between two polls (`waiting`).
+/// Contracts see its barrier, whether it was ready before (`is_over`), what it has at the barrier between two polls (`waiting`), and the
+/// seat by which it has ended (`ended`).
 pub struct BarrierWait<'a, R: Wait> {
     barrier: &'a Barrier<R>,
     is_over: bool,
+    // The seat that has led or followed, once it was ready.
+    ended: Option<Ended>,
     // `None` before the first poll, and once it was ready, or was refused before its arrival was counted.
     waiting: Option<Resting>,
 }
@@ -35,7 +38,7 @@ impl<'a, R: Wait> Model for BarrierWait<'a, R> {
 
     ghost Value = { Future R };
 
-    ghost view = { λ w. future w.barrier.now w.is_over w.waiting };
+    ghost view = { λ w. future w.barrier.now w.is_over w.waiting w.ended };
 
     ghost invariant = { λ w. IfSome w.waiting (RestsAt w.barrier.now.raw) × (w.is_over ≡ true → w.waiting ≡ None) };
 }
@@ -44,11 +47,12 @@ impl<'a, R: Wait> BarrierWait<'a, R> {
     ghost use Rattle.async_barrier.specs.Futures.{future};
 
     pub(crate) fn new(barrier: &'a Barrier<R>) -> BarrierWait<'a, R>
-        ensures { result ≡ future barrier.now false None }
+        ensures { result ≡ future barrier.now false None None }
     {
         BarrierWait {
             barrier,
             is_over: false,
+            ended: None,
             waiting: None,
         }
     }
@@ -62,7 +66,9 @@ impl<R: Wait + Clock> BarrierWait<'_, R> {
     /// the wait may be polled again: an arrival that wasn't counted begins anew, and one that was stays counted. Once it was
     /// ready it is refused as [`Refusal::Finished`], and nothing changes (`turn`). Refused, it has an entry in no list (`refused`).
     ///
-    /// An arrival that was counted stays counted, in the same generation, while the wait isn't ready (`counted`).
+    /// An arrival that was counted stays counted, in the same generation, while the wait isn't ready (`counted`). It goes on by one seat,
+    /// from the poll that counted it to its end; and one that isn't counted yet, and waits for the inner lock, by one seat of that lock
+    /// (`same`).
     ///
     /// Pending, it has an entry in the barrier's list or in the inner lock's that keeps a waker of the task that polls
     /// (`receipt`). The task has registered with the barrier's source (`registered`), and keeps what it had registered before
@@ -71,6 +77,7 @@ impl<R: Wait + Clock> BarrierWait<'_, R> {
         ensures turn { IsTurn self.old.is_over result self.new.is_over }
         ensures barrier { self.new.barrier ≡ self.old.barrier }
         ensures refused { OnRefused result (IsInNoList self.new.waiting) }
+        ensures same { IfSome self.old.waiting (λ r. GoesOnBy r result self.new.waiting self.new.ended) }
         ensures counted { OnAgain result (StaysCounted (counted_of self.old.waiting) (counted_of self.new.waiting)) }
         ensures receipt { OnPending result (IsReceipt self.old.barrier.raw cx.new self.new.waiting) }
         ensures registered { OnPending result (Covers cx.new (λ s. s ≡ self.old.barrier.raw.inner.source)) }
@@ -86,8 +93,10 @@ impl<R: Wait + Clock> BarrierWait<'_, R> {
         };
         match outcome {
             Outcome::Ready(verdict) => {
+                let (result, ended) = BarrierWaitResult::new(&barrier.raw, verdict);
                 self.is_over = true;
-                Turn::Ready(BarrierWaitResult::new(&barrier.raw, verdict))
+                self.ended = Some(ended);
+                Turn::Ready(result)
             }
             Outcome::Pending(resting) => {
                 put(&mut self.waiting, resting);
@@ -121,6 +130,7 @@ impl<R: Wait> Drop for BarrierWait<'_, R> {
         let Self {
             barrier,
             is_over: _,
+            ended: _,
             waiting,
         } = self;
         if let Some(resting) = waiting {

@@ -1,24 +1,29 @@
 -- What contracts see of a cell's futures, and what their polls answer.
-use Rattle.std.specs.Prelude.{◌≡◌, ⊤, Bool, true, false, Option, Some, None, IsSomeAnd, Result, Ok, Err}
+use Rattle.std.specs.Prelude.{◌≡◌, ⊤, Bool, true, false, Option, Some, None, IfSome, IsSomeAnd, Result, Ok, Err}
 use denote.Ref.{Bor}
 use Rattle.async_driver.specs.declared.turn.Turn.{Turn}
 use Rattle.async_driver.specs.declared.turn.Turn.TheVariants.{Pending, Ready, Refused}
 use Rattle.async_once_cell.specs.Stages.{Future, Listed}
 use Rattle.async_once_cell.specs.declared.makers.Given.{Given}
+use Rattle.cell_core.specs.Cells.{Seated, IsSameSeat}
 use Rattle.lock_program.specs.declared.refusal.Refusal.{Refusal}
 use Rattle.lock_program.specs.declared.refusal.Refusal.TheVariants.{Finished, Memory}
 
--- a wait: its cell, whether it was ready before, and its entry in the cell's list of those that wait
+-- a wait: its cell, whether it was ready before, its entry in the cell's list of those that wait, and the seat by which it has come to its end
 pub record Waiting (C : Type 0) : Type 0 where
   pub cell : C
   pub is_over : Bool
   pub entry : Option Listed
+  pub ended : Option Seated
 
--- an initialisation: its cell, whether it was ready before, its entry in the cell's list of those that would make the value, and its maker
+-- an initialisation: its cell, whether it was ready before, its entry in the cell's list of those that would make the value, the seat by which it waits or
+-- makes, the one by which it has come to its end, and its maker
 pub record Initialising (C M : Type 0) : Type 0 where
   pub cell : C
   pub is_over : Bool
   pub entry : Option Listed
+  pub seat : Option Seated
+  pub ended : Option Seated
   pub maker : Option M
 
 -- a set: as an initialisation, with its value until it is ready
@@ -26,17 +31,19 @@ pub record Setting (C T : Type 0) : Type 0 where
   pub cell : C
   pub is_over : Bool
   pub entry : Option Listed
+  pub seat : Option Seated
+  pub ended : Option Seated
   pub value : Option T
 
 abbrev pub initialising : {C M : Type 0} → Future C M → Initialising C M
-initialising f = record { cell = f.cell; is_over = f.is_over; entry = f.entry; maker = f.maker }
+initialising f = record { cell = f.cell; is_over = f.is_over; entry = f.entry; seat = f.seat; ended = f.ended; maker = f.maker }
 
 abbrev pub value_in : {T : Type 0} → Option (Given T) → Option T
 value_in None = None
 value_in (Some given) = given.value
 
 abbrev pub setting : {C T : Type 0} → Future C (Given T) → Setting C T
-setting f = record { cell = f.cell; is_over = f.is_over; entry = f.entry; value = value_in f.maker }
+setting f = record { cell = f.cell; is_over = f.is_over; entry = f.entry; seat = f.seat; ended = f.ended; value = value_in f.maker }
 
 -- Ready, what was got is this and the future is over. One that is over is refused as finished and stays so; no other is, and none for
 -- another reason than memory.
@@ -46,6 +53,17 @@ IsTurn got was Pending is = (was ≡ false) × (is ≡ false)
 IsTurn got was (Refused Finished) is = (was ≡ true) × (is ≡ true)
 IsTurn got was (Refused Memory) is = (was ≡ false) × (is ≡ false)
 IsTurn got was (Refused _) is = ⊥
+
+-- by which seat its entry stands in a list
+abbrev pub seat_in : Option Listed → Option Seated
+seat_in None = None
+seat_in (Some e) = Some e.seat
+
+-- Whoever waited or made by this seat goes on by it, or has come to its end by it.
+abbrev pub GoesOnBy : {G : Type 0} → Option Seated → Turn G → Option Seated → Option Seated → Type 0
+GoesOnBy was Pending is ended = IfSome was (λ s. IsSomeAnd is (IsSameSeat s))
+GoesOnBy was (Ready got) is ended = IfSome was (λ s. IsSomeAnd ended (IsSameSeat s))
+GoesOnBy was (Refused refusal) is ended = ⊤
 
 -- how a future may refuse: as finished where it is over, and else for memory
 abbrev pub CanRefuse : Bool → Refusal → Type 0

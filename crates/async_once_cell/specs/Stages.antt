@@ -2,9 +2,11 @@
 use Rattle.std.specs.Prelude.{◌≡◌, ℕ, ⊤, Bool, true, false, Option, Some, None, IfSome, IsSomeAnd, is_none, Result, Ok, Err}
 use Rattle.async_once_cell.specs.declared.task.Answer.{Answer}
 use Rattle.async_once_cell.specs.declared.task.Answer.TheVariants as answer
+use Rattle.async_once_cell.specs.declared.task.Party.{Party}
+use Rattle.async_once_cell.specs.declared.task.Party.TheVariants as parties
 use Rattle.async_once_cell.specs.declared.task.Stage.{Stage}
-use Rattle.cell_core.specs.Cells.{Cell, IsOf, Seated}
-use Rattle.cell_core.specs.Outcomes.{RestsAt, RestsSo}
+use Rattle.cell_core.specs.Cells.{Cell, IsOf, IsSameSeat, Seated}
+use Rattle.cell_core.specs.Outcomes.{RestsAt, RestsSo, seat_in}
 use Rattle.cell_core.specs.Purposes.{IsSetting, OnSets}
 use Rattle.lock_queue.specs.Receipts as receipts
 use Rattle.cell_core.specs.declared.maker.Purpose.{Purpose}
@@ -30,19 +32,19 @@ HasReceiptActive cell cx entry = IsSomeAnd entry (λ e. IsOf cell e.seat × (e.s
 abbrev pub HasReceiptPassive : Cell → Context → Option Listed → Type 0
 HasReceiptPassive cell cx entry = IsSomeAnd entry (λ e. IsOf cell e.seat × (e.seat.in_passive ≡ true) × receipts.IsKept cx e.keeps) × Covers cx (λ s. s ≡ cell.source)
 
--- its cell, whether it was ready before, its entry in the cell's list of those that would make the value, and its maker
+-- its cell, whether it was ready before, its entry in the cell's list of those that would make the value, the seat by which it waits or makes, the one by
+-- which it has come to its end, and its maker
 pub record Future (C M : Type 0) : Type 0 where
   pub cell : C
   pub is_over : Bool
   pub entry : Option Listed
+  pub seat : Option Seated
+  pub ended : Option Seated
   pub maker : Option M
 
--- how far a future is that was never polled, and one that was ready
+-- how far a future is that was never polled
 abbrev pub fresh_stage : {M : Type 0} → M → Stage M
-fresh_stage maker = record { maker = Some maker; waiting = None }
-
-abbrev pub over : {M : Type 0} → Stage M
-over = record { maker = None; waiting = None }
+fresh_stage maker = record { maker = Some maker; party = parties.Out }
 
 abbrev pub is_over_in : {M : Type 0} → Stage M → Bool
 is_over_in stage = is_none stage.maker
@@ -55,12 +57,28 @@ abbrev pub entry_of : Option Resting → Option Listed
 entry_of (Some (rests.Waits w)) = Some (record { seat = w.seat; keeps = w.whose })
 entry_of _ = None
 
+-- what rests of its party, and the seat by which that has come to its end
+abbrev pub resting_in : Party → Option Resting
+resting_in parties.Out = None
+resting_in (parties.Rests r) = Some r
+resting_in (parties.Ended e) = None
+
+abbrev pub ended_in : Party → Option Seated
+ended_in parties.Out = None
+ended_in (parties.Rests r) = None
+ended_in (parties.Ended e) = Some e
+
+-- by which seat its party waits or makes
+abbrev pub seat_of : Option Resting → Option Seated
+seat_of None = None
+seat_of (Some r) = Some (seat_in r)
+
 abbrev pub passive_of : Option Waiting → Option Listed
 passive_of None = None
 passive_of (Some w) = Some (record { seat = w.seat; keeps = w.whose })
 
 abbrev pub future : {C M : Type 0} → C → Stage M → Future C M
-future cell stage = record { cell = cell; is_over = is_over_in stage; entry = entry_of stage.waiting; maker = stage.maker }
+future cell stage = record { cell = cell; is_over = is_over_in stage; entry = entry_of (resting_in stage.party); seat = seat_of (resting_in stage.party); ended = ended_in stage.party; maker = stage.maker }
 
 -- what a future keeps between its polls: a maker that was never polled, or one whose party waits, until it was ready
 abbrev pub KeptBy : {M : Type 0} → Purpose → (M → Type 0) → Cell → Option M → Option Resting → Type 0
@@ -70,11 +88,24 @@ KeptBy u new cell (Some m) None = new m
 KeptBy u new cell (Some m) (Some r) = RestsSo u new cell m r
 
 abbrev pub IsKept : {M : Type 0} → Purpose → (M → Type 0) → Cell → Stage M → Type 0
-IsKept u new cell stage = KeptBy u new cell stage.maker stage.waiting
+IsKept u new cell stage = KeptBy u new cell stage.maker (resting_in stage.party)
+
+-- Its first look found the cell full, before its party had a seat: it is over.
+abbrev pub IsFound : {M : Type 0} → Stage M → Stage M → Type 0
+IsFound old new = (is_over_in old ≡ false) × (resting_in old.party ≡ None) × (new ≡ record old { maker = None })
 
 -- what its drop needs: that its party is one of the cell
 abbrev pub CanDrop : {M : Type 0} → Cell → Stage M → Type 0
-CanDrop cell stage = IfSome stage.waiting (RestsAt cell)
+CanDrop cell stage = IfSome (resting_in stage.party) (RestsAt cell)
+
+-- Whoever waited or made by this seat goes on by it, or has come to its end by it.
+abbrev pub GoesOn : {T E M : Type 0} → Option Seated → Answer T E M → Option Seated → Option Seated → Type 0
+GoesOn was answer.Pending is ended = IfSome was (λ s. IsSomeAnd is (IsSameSeat s))
+GoesOn was (answer.Refused refusal) is ended = ⊤
+GoesOn was (answer.Value r) is ended = IfSome was (λ s. IsSomeAnd ended (IsSameSeat s))
+GoesOn was (answer.Back v r) is ended = IfSome was (λ s. IsSomeAnd ended (IsSameSeat s))
+GoesOn was (answer.Kept m r) is ended = IfSome was (λ s. IsSomeAnd ended (IsSameSeat s))
+GoesOn was (answer.Failed f) is ended = IfSome was (λ s. IsSomeAnd ended (IsSameSeat s))
 
 abbrev pub NeedsOf : {M : Type 0} → (M → ℕ → Type 0) → Option M → ℕ → Type 0
 NeedsOf needs None s = ⊥

@@ -68,7 +68,7 @@ impl<'a, T, E, R: Waits, M: Maker<T, E>> Model for Blocked<'a, T, E, R, M> {
 impl<'a, T: Drop, E: Drop, R: Waits, M: Maker<T, E>> Blocked<'a, T, E, R, M> {
     pub(crate) fn new(cell: &'a OnceCell<T, R>, maker: M) -> Blocked<'a, T, E, R, M>
         requires { M.is_new maker }
-        ensures { result ≡ record { cell = cell.now; is_over = false; entry = None; maker = Some maker } }
+        ensures { result ≡ record { cell = cell.now; is_over = false; entry = None; seat = None; ended = None; maker = Some maker } }
     {
         Blocked {
             cell,

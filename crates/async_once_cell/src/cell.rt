@@ -179,7 +179,7 @@ impl<T: Drop, R: Waits> OnceCell<T, R> {
     /// let waited = *wait_for(&rt, cell.wait())?;
     /// ```
     pub fn wait(&self) -> Wait<'_, T, R>
-        ensures { result ≡ record { cell = self.now; is_over = false; entry = None } }
+        ensures { result ≡ record { cell = self.now; is_over = false; entry = None; ended = None } }
     {
         Wait::new(self)
     }
@@ -201,7 +201,7 @@ impl<T: Drop, R: Waits> OnceCell<T, R> {
     ) -> GetOrTryInit<'_, T, E, R, F, Fut>
         requires call { F.pre closure }
         requires poll { (fut : _) → F.post closure fut → Fut.can_poll fut }
-        ensures { result ≡ record { cell = self.now; is_over = false; entry = None; maker = Some (tries.Closure closure) } }
+        ensures { result ≡ record { cell = self.now; is_over = false; entry = None; seat = None; ended = None; maker = Some (tries.Closure closure) } }
     {
         GetOrTryInit::new(self, closure)
     }
@@ -218,7 +218,7 @@ impl<T: Drop, R: Waits> OnceCell<T, R> {
     ) -> GetOrInit<'_, T, R, F, Fut>
         requires call { F.pre closure }
         requires poll { (fut : _) → F.post closure fut → Fut.can_poll fut }
-        ensures { result ≡ record { cell = self.now; is_over = false; entry = None; maker = Some (makes.Closure closure) } }
+        ensures { result ≡ record { cell = self.now; is_over = false; entry = None; seat = None; ended = None; maker = Some (makes.Closure closure) } }
     {
         GetOrInit::new(self, closure)
     }
@@ -229,7 +229,7 @@ impl<T: Drop, R: Waits> OnceCell<T, R> {
     /// let came_back = wait_for(&rt, cell.set(6))? == Err(6);
     /// ```
     pub fn set(&self, value: T) -> Set<'_, T, R>
-        ensures { result ≡ record { cell = self.now; is_over = false; entry = None; value = Some value } }
+        ensures { result ≡ record { cell = self.now; is_over = false; entry = None; seat = None; ended = None; value = Some value } }
     {
         Set::new(self, value)
     }

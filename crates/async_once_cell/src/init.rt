@@ -4,7 +4,7 @@ ghost use Rattle.std.specs.Prelude.{◌≡◌, ⊤, Some, IfSome, IsSomeAnd, fal
 ghost use Rattle.futures.specs.Task.{Keeps};
 ghost use Rattle.async_driver.specs.Turns.{OnPending};
 ghost use Rattle.async_once_cell.specs.Closures.{CanMake, CanTry, MakeGives, MakeNeeds, TryGives, TryNeeds, is_new_make, is_new_try};
-ghost use Rattle.async_once_cell.specs.Futures.{FailsSo, IsTurn, OnMemory};
+ghost use Rattle.async_once_cell.specs.Futures.{FailsSo, GoesOnBy, IsTurn, OnMemory};
 ghost use Rattle.async_once_cell.specs.Stages.{IsAwaiting};
 ghost use Rattle.async_once_cell.specs.declared.makers.Trying.TheVariants as tries;
 ghost use Rattle.async_once_cell.specs.declared.makers.Making.TheVariants as makes;
@@ -28,7 +28,8 @@ use std::time::Clock;
 /// make the value. Dropping it while it waits leaves the list in which it waits, and forwards a notification that it was given.
 ///
 /// Contracts see its cell, whether it was ready before (`is_over`), its entry in the cell's list of those that would make the
-/// value (`entry`), and the closure or its future (`maker`).
+/// value (`entry`), the seat by which it waits or makes (`seat`) or has come to its end (`ended`), and the closure or its future
+/// (`maker`).
 pub struct GetOrTryInit<'a, T, E, R: Wait, F, Fut> {
     cell: &'a OnceCell<T, R>,
     stage: Stage<Trying<F, Fut>>,
@@ -61,7 +62,7 @@ impl<
     pub(crate) fn new(cell: &'a OnceCell<T, R>, closure: F) -> GetOrTryInit<'a, T, E, R, F, Fut>
         requires call { F.pre closure }
         requires poll { (fut : _) → F.post closure fut → Fut.can_poll fut }
-        ensures { result ≡ record { cell = cell.now; is_over = false; entry = None; maker = Some (tries.Closure closure) } }
+        ensures { result ≡ record { cell = cell.now; is_over = false; entry = None; seat = None; ended = None; maker = Some (tries.Closure closure) } }
     {
         GetOrTryInit {
             cell,
@@ -89,6 +90,8 @@ impl<
     /// If it is pending, one of two things holds (`receipt`). It has an entry in the cell's list of those that would make the value, which
     /// keeps a waker of the polling task, and the task has registered with the cell's source. Or it makes the value, and its closure's
     /// future has registered with what it waits for. What the task had registered before stays registered (`kept`).
+    ///
+    /// It goes on by one seat, from the poll that joined the list, or took the right to make, to its end (`same`).
     #[inline]
     pub fn poll(&mut self, cx: &mut Context<'_>) -> Turn<Result<&'a T, E>>
         requires { IfSome self.old.maker (CanTry F.pre F.post Fut.can_poll) }
@@ -97,6 +100,7 @@ impl<
         ensures over { self.old.is_over ≡ true → self.new ≡ self.old }
         ensures memory { OnMemory result ((self.new.entry ≡ None) × (self.new.maker ≡ self.old.maker) × IsSomeAnd self.new.maker is_new_try) }
         ensures cell { self.new.cell ≡ self.old.cell }
+        ensures same { GoesOnBy self.old.seat result self.new.seat self.new.ended }
         ensures receipt { OnPending result (IsAwaiting (TryGives F.post Fut.gives) (TryNeeds Fut.needs) self.old.cell.raw cx.new self.old.maker self.new.maker self.new.entry) }
         ensures kept { Keeps cx.old cx.new }
     {
@@ -188,7 +192,7 @@ impl<'a, T: Drop, R: Wait, F: FnOnce() -> Fut, Fut: Future<Output = T>> GetOrIni
     pub(crate) fn new(cell: &'a OnceCell<T, R>, closure: F) -> GetOrInit<'a, T, R, F, Fut>
         requires call { F.pre closure }
         requires poll { (fut : _) → F.post closure fut → Fut.can_poll fut }
-        ensures { result ≡ record { cell = cell.now; is_over = false; entry = None; maker = Some (makes.Closure closure) } }
+        ensures { result ≡ record { cell = cell.now; is_over = false; entry = None; seat = None; ended = None; maker = Some (makes.Closure closure) } }
     {
         GetOrInit {
             cell,
@@ -215,6 +219,7 @@ impl<'a, T: Drop, R: Wait + Clock, F: FnOnce() -> Fut, Fut: Future<Output = T>> 
         ensures over { self.old.is_over ≡ true → self.new ≡ self.old }
         ensures memory { OnMemory result ((self.new.entry ≡ None) × (self.new.maker ≡ self.old.maker) × IsSomeAnd self.new.maker is_new_make) }
         ensures cell { self.new.cell ≡ self.old.cell }
+        ensures same { GoesOnBy self.old.seat result self.new.seat self.new.ended }
         ensures receipt { OnPending result (IsAwaiting {E = Infallible} (MakeGives F.post Fut.gives) (MakeNeeds Fut.needs) self.old.cell.raw cx.new self.old.maker self.new.maker self.new.entry) }
         ensures kept { Keeps cx.old cx.new }
     {

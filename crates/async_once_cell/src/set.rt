@@ -3,7 +3,7 @@
 ghost use Rattle.std.specs.Prelude.{◌≡◌, ◌⊎◌, Some, false, true, None};
 ghost use Rattle.futures.specs.Task.{Keeps};
 ghost use Rattle.async_driver.specs.Turns.{OnPending};
-ghost use Rattle.async_once_cell.specs.Futures.{IsSet, IsTurn, OnMemory, value_in};
+ghost use Rattle.async_once_cell.specs.Futures.{GoesOnBy, IsSet, IsTurn, OnMemory, value_in};
 ghost use Rattle.async_once_cell.specs.Stages.{CanDrop, HasReceiptActive, maker_in};
 
 use crate::cell::OnceCell;
@@ -21,7 +21,7 @@ use std::time::Clock;
 /// forwards a notification that it was given.
 ///
 /// Contracts see its cell, whether it was ready before (`is_over`), its entry in the cell's list of those that would make the
-/// value (`entry`), and its value until it is ready (`value`).
+/// value (`entry`), the seat by which it waits (`seat`) or has come to its end (`ended`), and its value until it is ready (`value`).
 pub struct Set<'a, T, R: Wait> {
     cell: &'a OnceCell<T, R>,
     stage: Stage<Given<T>>,
@@ -43,7 +43,7 @@ impl<'a, T, R: Wait> Model for Set<'a, T, R> {
 
 impl<'a, T: Drop, R: Wait> Set<'a, T, R> {
     pub(crate) fn new(cell: &'a OnceCell<T, R>, value: T) -> Set<'a, T, R>
-        ensures { result ≡ record { cell = cell.now; is_over = false; entry = None; value = Some value } }
+        ensures { result ≡ record { cell = cell.now; is_over = false; entry = None; seat = None; ended = None; value = Some value } }
     {
         Set {
             cell,
@@ -71,8 +71,8 @@ fn value_of<'a, T: Drop, R: Wait>(cell: &'a OnceCell<T, R>, stage: Stage<Given<T
     requires { CanDrop cell.now.raw stage }
     ensures { result ≡ value_in (maker_in stage) }
 {
-    let Stage { maker, waiting } = stage;
-    give_back(cell, waiting);
+    let Stage { maker, party } = stage;
+    give_back(cell, party);
     match maker {
         Some(given) => given.into_option(),
         None => None,
@@ -89,12 +89,13 @@ impl<'a, T: Drop, R: Wait + Clock> Set<'a, T, R> {
     ///
     /// Pending, it keeps its value (`value`), and has an entry in the cell's list of those that would make the value, which keeps a
     /// waker of the task that polls (`receipt`). The task has registered with the cell's source, and keeps what it had registered
-    /// before (`kept`).
+    /// before (`kept`). It goes on by one seat, from the poll that joined the list to its end (`same`).
     pub fn poll(&mut self, cx: &mut Context<'_>) -> Turn<Result<&'a T, T>>
         ensures turn { IsTurn (IsSet self.old.value) self.old.is_over result self.new.is_over }
         ensures over { self.old.is_over ≡ true → self.new ≡ self.old }
         ensures memory { OnMemory result ((self.new.entry ≡ None) × (self.new.value ≡ self.old.value)) }
         ensures cell { self.new.cell ≡ self.old.cell }
+        ensures same { GoesOnBy self.old.seat result self.new.seat self.new.ended }
         ensures value { OnPending result (self.new.value ≡ self.old.value) }
         ensures stays { (self.new.value ≡ None) ⊎ (self.new.value ≡ self.old.value) }
         ensures receipt { OnPending result (HasReceiptActive self.old.cell.raw cx.new self.new.entry) }

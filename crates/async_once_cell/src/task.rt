@@ -2,23 +2,60 @@
 
 ghost use Rattle.std.specs.Prelude.{◌≡◌, false, Some, IfNone, IfSome};
 ghost use Rattle.futures.specs.Task.{Keeps};
-ghost use Rattle.async_once_cell.specs.Stages.{CanDrop, IsKept, KeptBy, OnAnswer, fresh_stage, future, is_over_in, maker_in, over};
-ghost use Rattle.cell_core.specs.Outcomes.{OnOutcome, RestsAt};
+ghost use Rattle.async_once_cell.specs.Stages.{CanDrop, GoesOn, IsFound, IsKept, KeptBy, OnAnswer, ended_in, fresh_stage, future, maker_in, resting_in, seat_of};
+ghost use Rattle.async_once_cell.specs.declared.task.Party.TheVariants as parties;
+ghost use Rattle.cell_core.specs.Outcomes.{IsBySeat, OnOutcome, RestsAt};
 
 use crate::cell::OnceCell;
-use async_driver::put;
-use cell_core::{Maker, Outcome, Resting};
+use async_driver::nothing;
+use cell_core::{Ended, Maker, Outcome, Resting};
 use futures::task::Context;
 use lock_program::Refusal;
+use std::mem;
 use std::sync::Wait;
 use std::time::Clock;
+
+/// What the party of a future has. It has no `Drop`, as what rests has none.
+pub enum Party {
+    /// Nothing: the future wasn't polled, was refused, or found the cell full before its party had a seat.
+    Out,
+    /// It waits or makes, between two polls.
+    Rests(Resting),
+    /// The seat by which it has come to its end.
+    Ended(Ended),
+}
+
+impl Party {
+    // Takes out what rests.
+    #[inline]
+    fn take(&mut self) -> Option<Resting>
+        ensures { (result ≡ resting_in self.old) × (self.new ≡ parties.Out) }
+    {
+        match mem::replace(self, Party::Out) {
+            Party::Rests(resting) => Some(resting),
+            Party::Out | Party::Ended(_) => None,
+        }
+    }
+
+    // Puts this in, where nothing is.
+    #[inline]
+    fn put(&mut self, party: Party)
+        requires { self.old ≡ parties.Out }
+        ensures { self.new ≡ party }
+    {
+        match mem::replace(self, party) {
+            Party::Out | Party::Ended(_) => {}
+            Party::Rests(resting) => nothing(Some(resting)),
+        }
+    }
+}
 
 /// How far a future is. It has no `Drop`: a poll goes on with what it has, or a cancel ends it.
 pub struct Stage<M> {
     /// What makes the value, until the future was ready.
     pub maker: Option<M>,
-    /// What its party keeps beside it, while it waits between two polls.
-    pub waiting: Option<Resting>,
+    /// What its party has beside it.
+    pub party: Party,
 }
 
 impl<M> Stage<M> {
@@ -29,7 +66,7 @@ impl<M> Stage<M> {
     {
         Stage {
             maker: Some(maker),
-            waiting: None,
+            party: Party::Out,
         }
     }
 }
@@ -57,10 +94,14 @@ pub(crate) fn find<'a, T: Drop, M: Drop, R>(
     cell: &'a OnceCell<T, R>,
     stage: &mut Stage<M>,
 ) -> Option<&'a T>
-    ensures found { IfSome result (λ _. (is_over_in stage.old ≡ false) × (stage.new ≡ over)) }
+    ensures found { IfSome result (λ _. IsFound stage.old stage.new) }
     ensures none { IfNone result (stage.new ≡ stage.old) }
 {
-    if stage.waiting.is_some() || stage.maker.is_none() {
+    match &stage.party {
+        Party::Rests(_) => return None,
+        Party::Out | Party::Ended(_) => {}
+    }
+    if stage.maker.is_none() {
         return None;
     }
     let value = cell.get()?;
@@ -80,25 +121,38 @@ pub(crate) fn poll_stage<'a, T: Drop, E: Drop, M: Maker<T, E>, R: Wait + Clock>(
     ensures stage { IsKept M.purpose M.is_new cell.now.raw stage.new }
     ensures ready { IfSome (maker_in stage.new) M.can_make }
     ensures answer { OnAnswer M.purpose M.is_new M.gives M.needs cell.now.raw cx.new (future cell.now stage.old) result (future cell.now stage.new) }
+    ensures same { GoesOn (seat_of (resting_in stage.old.party)) result (seat_of (resting_in stage.new.party)) (ended_in stage.new.party) }
     ensures kept { Keeps cx.old cx.new }
 {
     let Some(maker) = stage.maker.take() else {
         return Answer::Refused(Refusal::Finished);
     };
-    match poll_on(cell, cx, maker, stage.waiting.take()) {
+    match poll_on(cell, cx, maker, stage.party.take()) {
         Outcome::Pending(maker, resting) => {
             stage.maker = Some(maker);
-            put(&mut stage.waiting, resting);
+            stage.party.put(Party::Rests(resting));
             Answer::Pending
         }
         Outcome::Refused(maker) => {
             stage.maker = Some(maker);
             Answer::Refused(Refusal::Memory)
         }
-        Outcome::Value(value) => Answer::Value(value),
-        Outcome::Back(own, value) => Answer::Back(own, value),
-        Outcome::Kept(maker, value) => Answer::Kept(maker, value),
-        Outcome::Failed(fault) => Answer::Failed(fault),
+        Outcome::Value(value, ended) => {
+            stage.party.put(Party::Ended(ended));
+            Answer::Value(value)
+        }
+        Outcome::Back(own, value, ended) => {
+            stage.party.put(Party::Ended(ended));
+            Answer::Back(own, value)
+        }
+        Outcome::Kept(maker, value, ended) => {
+            stage.party.put(Party::Ended(ended));
+            Answer::Kept(maker, value)
+        }
+        Outcome::Failed(fault, ended) => {
+            stage.party.put(Party::Ended(ended));
+            Answer::Failed(fault)
+        }
     }
 }
 
@@ -112,6 +166,7 @@ fn poll_on<'a, T: Drop, E: Drop, M: Maker<T, E>, R: Wait + Clock>(
     requires kept { KeptBy M.purpose M.is_new cell.now.raw (Some maker) waiting }
     requires ready { M.can_make maker }
     ensures outcome { OnOutcome M.purpose M.is_new M.can_make M.gives M.needs maker cell.now.raw cx.new result }
+    ensures same { IfSome (seat_of waiting) (λ s. IsBySeat s result) }
     ensures kept { Keeps cx.old cx.new }
 {
     match waiting {
@@ -124,16 +179,17 @@ fn poll_on<'a, T: Drop, E: Drop, M: Maker<T, E>, R: Wait + Clock>(
 pub(crate) fn drop_stage<'a, T: Drop, M: Drop, R: Wait>(cell: &'a OnceCell<T, R>, stage: Stage<M>)
     requires { CanDrop cell.now.raw stage }
 {
-    let Stage { maker, waiting } = stage;
+    let Stage { maker, party } = stage;
     drop(maker);
-    give_back(cell, waiting);
+    give_back(cell, party);
 }
 
 // What a party gives back.
-pub(crate) fn give_back<'a, T: Drop, R: Wait>(cell: &'a OnceCell<T, R>, waiting: Option<Resting>)
-    requires { IfSome waiting (RestsAt cell.now.raw) }
+pub(crate) fn give_back<'a, T: Drop, R: Wait>(cell: &'a OnceCell<T, R>, party: Party)
+    requires { IfSome (resting_in party) (RestsAt cell.now.raw) }
 {
-    if let Some(resting) = waiting {
-        cell.raw.cancel(&cell.rt, resting);
+    match party {
+        Party::Rests(resting) => cell.raw.cancel(&cell.rt, resting),
+        Party::Out | Party::Ended(_) => {}
     }
 }

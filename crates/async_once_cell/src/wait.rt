@@ -4,13 +4,13 @@ ghost use Rattle.std.specs.Prelude.{◌≡◌, ⊤, true, false, None, IfSome};
 ghost use Rattle.futures.specs.Task.{Keeps};
 ghost use Rattle.async_driver.specs.Turns.{OnPending};
 ghost use Rattle.cell_core.specs.Cells.{IsOf};
-ghost use Rattle.cell_core.specs.Outcomes.{OnWaited};
-ghost use Rattle.async_once_cell.specs.Futures.{IsTurn, OnMemory};
-ghost use Rattle.async_once_cell.specs.Stages.{HasReceiptPassive};
+ghost use Rattle.cell_core.specs.Outcomes.{IsWaitedBySeat, OnWaited};
+ghost use Rattle.async_once_cell.specs.Futures.{GoesOnBy, IsTurn, OnMemory, seat_in};
+ghost use Rattle.async_once_cell.specs.Stages.{HasReceiptPassive, passive_of};
 
 use crate::cell::OnceCell;
 use async_driver::{Polled, Turn, nothing, put};
-use cell_core::{Waited, Waiting};
+use cell_core::{Ended, Waited, Waiting};
 use futures::task::Context;
 use lock_program::Refusal;
 use std::fmt;
@@ -21,11 +21,13 @@ use std::time::Clock;
 /// A future of a cell's value, which only waits until the cell has one. Dropping it leaves the list in which it waits, and
 /// forwards a notification that it was given.
 ///
-/// Contracts see its cell, whether it was ready before (`is_over`), and its entry in the cell's list of those that wait
-/// (`entry`).
+/// Contracts see its cell, whether it was ready before (`is_over`), its entry in the cell's list of those that wait (`entry`), and the
+/// seat by which it has come to its end (`ended`).
 pub struct Wait<'a, T, R: Waits> {
     cell: &'a OnceCell<T, R>,
     is_over: bool,
+    // The seat that has found the value. There is none where the first look of a poll found it.
+    ended: Option<Ended>,
     // What its party has between two polls.
     waiting: Option<Waiting>,
 }
@@ -39,18 +41,19 @@ impl<'a, T, R: Waits> Model for Wait<'a, T, R> {
 
     ghost Value = { WaitingFor (OnceCell T R) };
 
-    ghost view = { λ w. record { cell = w.cell.now; is_over = w.is_over; entry = passive_of w.waiting } };
+    ghost view = { λ w. record { cell = w.cell.now; is_over = w.is_over; entry = passive_of w.waiting; ended = w.ended } };
 
     ghost invariant = { λ w. IfSome w.waiting (λ q. IsOf w.cell.now.raw q.seat) × (w.is_over ≡ true → is_some w.waiting ≡ false) };
 }
 
 impl<'a, T: Drop, R: Waits> Wait<'a, T, R> {
     pub(crate) fn new(cell: &'a OnceCell<T, R>) -> Wait<'a, T, R>
-        ensures { result ≡ record { cell = cell.now; is_over = false; entry = None } }
+        ensures { result ≡ record { cell = cell.now; is_over = false; entry = None; ended = None } }
     {
         Wait {
             cell,
             is_over: false,
+            ended: None,
             waiting: None,
         }
     }
@@ -65,6 +68,7 @@ fn poll_on<'a, T: Drop, R: Waits + Clock>(
 ) -> Waited<'a, T>
     requires { IfSome waiting (λ q. IsOf cell.now.raw q.seat) }
     ensures outcome { OnWaited cell.now.raw cx.new result }
+    ensures same { IfSome (seat_in (passive_of waiting)) (λ s. IsWaitedBySeat s result) }
     ensures kept { Keeps cx.old cx.new }
 {
     match waiting {
@@ -80,13 +84,15 @@ impl<'a, T: Drop, R: Waits + Clock> Wait<'a, T, R> {
     /// polled again. Once it was ready it is refused as `Refusal::Finished`, and nothing changes (`turn`, `over`).
     ///
     /// Pending, it has an entry in the cell's list of those that wait, which keeps a waker of the task that polls (`receipt`). The
-    /// task has registered with the cell's source, and keeps what it had registered before (`kept`).
+    /// task has registered with the cell's source, and keeps what it had registered before (`kept`). It goes on by one seat, from the
+    /// poll that joined the list to its end (`same`).
     #[inline]
     pub fn poll(&mut self, cx: &mut Context<'_>) -> Turn<&'a T>
         ensures turn { IsTurn (λ _. ⊤) self.old.is_over result self.new.is_over }
         ensures over { self.old.is_over ≡ true → self.new ≡ self.old }
         ensures memory { OnMemory result (self.new.entry ≡ None) }
         ensures cell { self.new.cell ≡ self.old.cell }
+        ensures same { GoesOnBy (seat_in self.old.entry) result (seat_in self.new.entry) self.new.ended }
         ensures receipt { OnPending result (HasReceiptPassive self.old.cell.raw cx.new self.new.entry) }
         ensures kept { Keeps cx.old cx.new }
     {
@@ -108,8 +114,9 @@ impl<'a, T: Drop, R: Waits + Clock> Wait<'a, T, R> {
                 Turn::Pending
             }
             Waited::Refused => Turn::Refused(Refusal::Memory),
-            Waited::Value(value) => {
+            Waited::Value(value, ended) => {
                 self.is_over = true;
+                self.ended = Some(ended);
                 Turn::Ready(value)
             }
         }
@@ -133,6 +140,7 @@ impl<T: Drop, R: Waits> Drop for Wait<'_, T, R> {
         let Self {
             cell,
             is_over: _,
+            ended: _,
             waiting,
         } = self;
         if let Some(waiting) = waiting {

@@ -21,11 +21,12 @@ pub record Barrier : Type 0 where
 abbrev pub barrier_coded : Coded Barrier
 barrier_coded = code_by (TableId × (ℕ × (ℕ × Lock))) (coded× table_id_coded (coded× coded_ℕ (coded× coded_ℕ lock_coded))) (λ b. (b.table, (b.size, (b.most, b.inner)))) (λ p. record { table = p.0; size = p.1.0; most = p.1.1.0; inner = p.1.1.1 }) (λ _. refl)
 
--- A seat: of which barrier it is; whether it owes all of the list a notification, has an entry there, and has not looked since it joined; whether its
+-- A seat: of which barrier it is, and which number it has there; whether it owes all of the list a notification, has an entry there, and has not looked since it joined; whether its
 -- arrival was counted, and whether it has finished a generation; the number of its entry; how many generations it found finished last; in which
 -- generation its arrival was counted; and where it is in its program.
 pub record Seated : Type 0 where
   pub table : TableId
+  pub id : ℕ
   pub owes : Bool
   pub listed : Bool
   pub fresh : Bool
@@ -37,21 +38,25 @@ pub record Seated : Type 0 where
   pub course : Course
 
 abbrev pub seated_coded : Coded Seated
-seated_coded = code_by (TableId × (Bool × (Bool × (Bool × (Bool × (Bool × (ℕ × (ℕ × (ℕ × Course))))))))) (coded× table_id_coded (coded× coded_bool (coded× coded_bool (coded× coded_bool (coded× coded_bool (coded× coded_bool (coded× coded_ℕ (coded× coded_ℕ (coded× coded_ℕ course_coded)))))))))
-    (λ s. (s.table, (s.owes, (s.listed, (s.fresh, (s.counted, (s.led, (s.entry, (s.found, (s.generation, s.course))))))))))
-    (λ p. record { table = p.0; owes = p.1.0; listed = p.1.1.0; fresh = p.1.1.1.0; counted = p.1.1.1.1.0; led = p.1.1.1.1.1.0; entry = p.1.1.1.1.1.1.0; found = p.1.1.1.1.1.1.1.0; generation = p.1.1.1.1.1.1.1.1.0; course = p.1.1.1.1.1.1.1.1.1 })
+seated_coded = code_by (TableId × (ℕ × (Bool × (Bool × (Bool × (Bool × (Bool × (ℕ × (ℕ × (ℕ × Course)))))))))) (coded× table_id_coded (coded× coded_ℕ (coded× coded_bool (coded× coded_bool (coded× coded_bool (coded× coded_bool (coded× coded_bool (coded× coded_ℕ (coded× coded_ℕ (coded× coded_ℕ course_coded))))))))))
+    (λ s. (s.table, (s.id, (s.owes, (s.listed, (s.fresh, (s.counted, (s.led, (s.entry, (s.found, (s.generation, s.course)))))))))))
+    (λ p. record { table = p.0; id = p.1.0; owes = p.1.1.0; listed = p.1.1.1.0; fresh = p.1.1.1.1.0; counted = p.1.1.1.1.1.0; led = p.1.1.1.1.1.1.0; entry = p.1.1.1.1.1.1.1.0; found = p.1.1.1.1.1.1.1.1.0; generation = p.1.1.1.1.1.1.1.1.1.0; course = p.1.1.1.1.1.1.1.1.1.1 })
     (λ _. refl)
 
-abbrev pub seated : TableId → View → Course → Seated
-seated table v course = record { table = table; owes = v.owes; listed = v.listed; fresh = v.fresh; counted = v.counted; led = v.led; entry = v.entry; found = v.found; generation = v.generation; course = course }
+abbrev pub seated : TableId → ℕ → View → Course → Seated
+seated table id v course = record { table = table; id = id; owes = v.owes; listed = v.listed; fresh = v.fresh; counted = v.counted; led = v.led; entry = v.entry; found = v.found; generation = v.generation; course = course }
 
 -- The seat is one of the barrier.
 abbrev pub IsOf : Barrier → Seated → Type 0
 IsOf barrier seat = seat.table ≡ barrier.table
 
+-- It is the same seat of its barrier.
+abbrev pub IsSameSeat : Seated → Seated → Type 0
+IsSameSeat s t = t.id ≡ s.id
+
 -- a seat with nothing, which has found so many generations finished, of a party that is here in its program
-abbrev pub entering : Barrier → ℕ → Course → Seated
-entering barrier n course = record { table = barrier.table; owes = false; listed = false; fresh = false; counted = false; led = false; entry = 0; found = n; generation = 0; course = course }
+abbrev pub entering : Barrier → ℕ → ℕ → Course → Seated
+entering barrier id n course = record { table = barrier.table; id = id; owes = false; listed = false; fresh = false; counted = false; led = false; entry = 0; found = n; generation = 0; course = course }
 
 -- it has looked, and found so many generations finished
 abbrev pub with_look : ℕ → Seated → Seated

@@ -2,7 +2,7 @@
 use Rattle.std.specs.Prelude.{ℕ, ◌+◌, ◌<◌, ◌≤◌, Bool, true, false}
 use Rattle.sync_program.specs.declared.barrier.Found.{Found}
 use Rattle.sync_program.specs.declared.barrier.Found.TheVariants as finds
-use Rattle.barrier_core.specs.Barriers.{Barrier, IsOf}
+use Rattle.barrier_core.specs.Barriers.{Barrier, Seated, IsOf}
 use Rattle.barrier_core.specs.declared.arrivals.Arrivals.{Arrivals}
 use Rattle.barrier_core.specs.declared.arrivals.Looked.{Looked}
 use Rattle.barrier_core.specs.declared.arrivals.Looked.TheVariants.{MustWait, Leads, Past}
@@ -30,6 +30,11 @@ IsOfThis barrier arrival = IsOf barrier arrival.seat
 abbrev pub leads : Verdict → Bool
 leads (verdict.Led led) = true
 leads (verdict.Followed followed) = false
+
+-- by which seat
+abbrev pub seat_by : Verdict → Seated
+seat_by (verdict.Led led) = led.seat
+seat_by (verdict.Followed followed) = followed.seat
 
 -- It was found at this barrier.
 abbrev pub IsFoundAt : Barrier → Verdict → Type 0

@@ -10,8 +10,8 @@ use Rattle.sync_program.specs.declared.barrier.Aim.TheVariants as aims
 use Rattle.sync_program.specs.declared.barrier.Place.TheVariants.{EnterLock}
 use Rattle.mutex_core.specs.Locks as lock
 use Rattle.mutex_core.specs.Outcomes as locked
-use Rattle.barrier_core.specs.Barriers.{Barrier, IsOf}
-use Rattle.barrier_core.specs.Counts.{IsFoundAt, IsOfThis}
+use Rattle.barrier_core.specs.Barriers.{Barrier, Seated, IsOf, IsSameSeat}
+use Rattle.barrier_core.specs.Counts.{IsFoundAt, IsOfThis, seat_by}
 use Rattle.barrier_core.specs.Courses.{Course, IsCounted, locking, refused}
 use Rattle.lock_queue.specs.Receipts.{IsReceipt}
 use Rattle.barrier_core.specs.declared.arrivals.Arrivals.{Arrivals}
@@ -97,3 +97,42 @@ IsOutcomeOf barrier cx before (Refused refusal a) = IsGivenUp refusal × IsAimAt
 abbrev pub IsCheckingOf : Barrier → Context → ℕ → Checking → Type 0
 IsCheckingOf barrier cx generation (checking.Over outcome) = IsOutcomeOf barrier cx (Some generation) outcome
 IsCheckingOf barrier cx generation (checking.Told arrival) = IsOfThis barrier arrival × (arrival.generation ≡ generation) × (arrival.seat.course ≡ Do (EnterLock aims.Check))
+
+-- an arrival that was counted has this seat
+abbrev pub IsAimBy : Seated → Aim → Type 0
+IsAimBy seat (aim.Arrive course) = ⊥
+IsAimBy seat (aim.Check arrival) = IsSameSeat seat arrival.seat
+
+abbrev pub RestsBy : Seated → Resting → Type 0
+RestsBy seat (resting.Counted arrival) = IsSameSeat seat arrival.seat
+RestsBy seat (resting.Locking a waiting) = IsAimBy seat a
+RestsBy seat (resting.Waiting waiting) = IsSameSeat seat waiting.seat
+
+-- an arrival that was counted goes on by this seat, or its wait has ended by it
+abbrev pub IsBySeat : Seated → Outcome → Type 0
+IsBySeat seat (Ready verdict) = IsSameSeat seat (seat_by verdict)
+IsBySeat seat (Pending r) = RestsBy seat r
+IsBySeat seat (Refused refusal a) = IsAimBy seat a
+
+abbrev pub IsCheckingBy : Seated → Checking → Type 0
+IsCheckingBy seat (checking.Over outcome) = IsBySeat seat outcome
+IsCheckingBy seat (checking.Told arrival) = IsSameSeat seat arrival.seat
+
+-- one that isn't counted, and waits for the inner lock, waits by this seat of that lock
+abbrev pub LocksBy : lock.Seated → Resting → Type 0
+LocksBy seat (resting.Counted arrival) = ⊤
+LocksBy seat (resting.Locking (aim.Arrive course) waiting) = lock.IsSameSeat seat waiting.seat
+LocksBy seat (resting.Locking (aim.Check arrival) waiting) = ⊤
+LocksBy seat (resting.Waiting waiting) = ⊤
+
+abbrev pub IsByLock : lock.Seated → Outcome → Type 0
+IsByLock seat (Ready verdict) = ⊤
+IsByLock seat (Pending r) = LocksBy seat r
+IsByLock seat (Refused refusal a) = ⊤
+
+-- A wait goes on by the seat that it has: of the barrier, once its arrival was counted, and of the inner lock, until then.
+abbrev pub GoesOn : Resting → Outcome → Type 0
+GoesOn (resting.Counted arrival) outcome = IsBySeat arrival.seat outcome
+GoesOn (resting.Locking (aim.Arrive course) waiting) outcome = IsByLock waiting.seat outcome
+GoesOn (resting.Locking (aim.Check arrival) waiting) outcome = IsBySeat arrival.seat outcome
+GoesOn (resting.Waiting waiting) outcome = IsBySeat waiting.seat outcome

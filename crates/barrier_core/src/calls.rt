@@ -6,7 +6,7 @@ ghost use Rattle.lock_program.specs.declared.end.Next.TheVariants.{Do};
 ghost use Rattle.sync_program.specs.declared.barrier.Action.TheVariants as act;
 ghost use Rattle.sync_program.specs.declared.barrier.Found.TheVariants as finds;
 ghost use Rattle.sync_program.specs.declared.barrier.Place.TheVariants as places;
-ghost use Rattle.barrier_core.specs.Barriers.{IsAt, IsCountedIn, IsIdle, IsOf, goes, with_joined, with_gone, with_paid};
+ghost use Rattle.barrier_core.specs.Barriers.{IsAt, IsCountedIn, IsIdle, IsOf, IsSameSeat, goes, with_joined, with_gone, with_paid};
 ghost use Rattle.barrier_core.specs.Rejoining.{FindsAgain};
 ghost use Rattle.lock_queue.specs.Receipts.{IsReceipt};
 
@@ -130,6 +130,7 @@ impl RawBarrier {
         requires counted { IsIdle seat.old × IsCountedIn generation seat.old }
         requires course { seat.old.course ≡ Do places.JoinAgain }
         ensures again { FindsAgain self.now cx.new generation seat.new result }
+        ensures same { IsSameSeat seat.old seat.new }
         ensures kept { Keeps cx.old cx.new }
     {
         let joined = match self.join_waking(rt, seat, cx, Place::JoinAgain) {

@@ -24,6 +24,6 @@ pub use calls::Joined;
 pub use list::Entries;
 pub use lock_queue::Whose;
 pub use raw::RawBarrier;
-pub use seat::{Course, Seat};
+pub use seat::{Course, Ended, Seat};
 pub use turn::{Aim, Arrival, Followed, Led, Outcome, Resting, Verdict, Waiting};
 pub use words_barrier::{BarrierRule, Content, View, no_lost_wakeup};

@@ -35,7 +35,7 @@ pub(crate) fn join_in(
 ) -> (Result<EntryId, Memory>, u64)
     requires table { inner.old.table_id ≡ shared.now.table_id }
     requires held { IsHeld listed_of inner.old.me }
-    ensures table { inner.new.table_id ≡ inner.old.table_id }
+    ensures seat { (inner.new.table_id ≡ inner.old.table_id) × (inner.new.id ≡ inner.old.id) }
     ensures view { inner.new.me.0 ≡ inner.old.me.0 }
     ensures others { rest inner.new.me.1 ≡ rest inner.old.me.1 }
     ensures ready { MatchResult result.0 (λ id. CanJoin listed_of inner.new.me result.1 id.number) (λ _. CanStay listed_of inner.new.me result.1) }
@@ -56,7 +56,7 @@ pub(crate) fn join_waking_in(
 ) -> (Result<(EntryId, Whose), Memory>, u64)
     requires table { inner.old.table_id ≡ shared.now.table_id }
     requires held { IsHeld listed_of inner.old.me }
-    ensures table { inner.new.table_id ≡ inner.old.table_id }
+    ensures seat { (inner.new.table_id ≡ inner.old.table_id) × (inner.new.id ≡ inner.old.id) }
     ensures view { inner.new.me.0 ≡ inner.old.me.0 }
     ensures others { rest inner.new.me.1 ≡ rest inner.old.me.1 }
     ensures ready { MatchResult result.0 (λ joined. CanJoin listed_of inner.new.me result.1 joined.0.number) (λ _. CanStay listed_of inner.new.me result.1) }
@@ -77,7 +77,7 @@ pub(crate) fn notify_all_in(
 ) -> (AllDue, u64)
     requires table { inner.old.table_id ≡ shared.now.table_id }
     requires held { IsHeld listed_of inner.old.me }
-    ensures table { inner.new.table_id ≡ inner.old.table_id }
+    ensures seat { (inner.new.table_id ≡ inner.old.table_id) × (inner.new.id ≡ inner.old.id) }
     ensures view { inner.new.me.0 ≡ inner.old.me.0 }
     ensures others { rest inner.new.me.1 ≡ rest inner.old.me.1 }
     ensures ready { CanPay listed_of inner.new.me result.1 }
@@ -91,7 +91,7 @@ pub(crate) fn notify_all_in(
 pub(crate) fn next_due_in(shared: &Listing, inner: &mut Lister, found: u64) -> (Due, u64)
     requires table { inner.old.table_id ≡ shared.now.table_id }
     requires held { IsHeld listed_of inner.old.me }
-    ensures table { inner.new.table_id ≡ inner.old.table_id }
+    ensures seat { (inner.new.table_id ≡ inner.old.table_id) × (inner.new.id ≡ inner.old.id) }
     ensures view { inner.new.me.0 ≡ inner.old.me.0 }
     ensures others { rest inner.new.me.1 ≡ rest inner.old.me.1 }
     ensures ready { CanStay listed_of inner.new.me result.1 }
@@ -111,7 +111,7 @@ pub(crate) fn leave_in(
     requires table { inner.old.table_id ≡ shared.now.table_id }
     requires held { IsHeld listed_of inner.old.me }
     requires entry { inner.old.me.0.entry ≡ id.number }
-    ensures table { inner.new.table_id ≡ inner.old.table_id }
+    ensures seat { (inner.new.table_id ≡ inner.old.table_id) × (inner.new.id ≡ inner.old.id) }
     ensures view { inner.new.me.0 ≡ inner.old.me.0 }
     ensures others { rest inner.new.me.1 ≡ rest inner.old.me.1 }
     ensures ready { CanLeave listed_of inner.new.me result.2 }
@@ -134,7 +134,7 @@ pub(crate) fn ask_in(
     requires table { inner.old.table_id ≡ shared.now.table_id }
     requires held { IsHeld listed_of inner.old.me }
     requires entry { inner.old.me.0.entry ≡ id.number }
-    ensures table { inner.new.table_id ≡ inner.old.table_id }
+    ensures seat { (inner.new.table_id ≡ inner.old.table_id) × (inner.new.id ≡ inner.old.id) }
     ensures view { inner.new.me.0 ≡ inner.old.me.0 }
     ensures others { rest inner.new.me.1 ≡ rest inner.old.me.1 }
     ensures ready { ByHeard result.0 (CanLeave listed_of inner.new.me result.1) (λ _. CanStay listed_of inner.new.me result.1) }
@@ -156,7 +156,7 @@ pub(crate) fn ask_again_in(
     requires table { inner.old.table_id ≡ shared.now.table_id }
     requires held { IsHeld listed_of inner.old.me }
     requires entry { inner.old.me.0.entry ≡ id.number }
-    ensures table { inner.new.table_id ≡ inner.old.table_id }
+    ensures seat { (inner.new.table_id ≡ inner.old.table_id) × (inner.new.id ≡ inner.old.id) }
     ensures view { inner.new.me.0 ≡ inner.old.me.0 }
     ensures others { rest inner.new.me.1 ≡ rest inner.old.me.1 }
     ensures ready { ByHeard result.0 (CanLeave listed_of inner.new.me result.1) (λ _. CanStay listed_of inner.new.me result.1) }
@@ -175,7 +175,7 @@ pub(crate) fn entry_in(
 ) -> (Option<(EntryId, Mark)>, u64)
     requires table { inner.old.table_id ≡ shared.now.table_id }
     requires held { IsHeld listed_of inner.old.me }
-    ensures table { inner.new.table_id ≡ inner.old.table_id }
+    ensures seat { (inner.new.table_id ≡ inner.old.table_id) × (inner.new.id ≡ inner.old.id) }
     ensures view { inner.new.me.0 ≡ inner.old.me.0 }
     ensures others { rest inner.new.me.1 ≡ rest inner.old.me.1 }
     ensures ready { CanStay listed_of inner.new.me result.1 }
@@ -196,7 +196,7 @@ pub(crate) fn give_asked<K>(
     requires table { (inner.old.table_id ≡ shared.now.table_id) × (shared.now.table_id.words ≡ 2) × (shared.now.table_id.slots ≡ 1) }
     requires list { ByHeard heard (CanLeave listed_of inner.old.me word) (λ _. CanStay listed_of inner.old.me word) }
     requires stands { inner.old.me.0.listed ≡ true }
-    ensures table { inner.new.table_id ≡ inner.old.table_id }
+    ensures seat { (inner.new.table_id ≡ inner.old.table_id) × (inner.new.id ≡ inner.old.id) }
     ensures told { IfNone result ((inner.new.me ≡ (gone_of inner.old.me.0, rest inner.old.me.1)) × ByHeard heard ⊤ (λ _. ⊥)) }
     ensures waits { IfSome result (λ kept. (inner.new.me ≡ (back inner.old.me.0, rest inner.old.me.1)) × (heard ≡ heard_as.Waits kept)) }
 {

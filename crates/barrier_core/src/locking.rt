@@ -67,7 +67,7 @@ impl RawBarrier {
         }
     }
 
-    // Goes on to take the inner lock, past a look in vain.
+    // Goes on to take the inner lock, past a look in vain, by the same seat.
     #[inline(always)]
     pub(crate) fn take_lock<R: Wait + Clock>(
         &self,
@@ -80,6 +80,7 @@ impl RawBarrier {
         requires vain { locks.IsOf self.now.inner vain.seat × (vain.seat.course ≡ Do (lock_at.Join false)) }
         requires course { HasCome at act.Go course.old }
         ensures outcome { lock.IsOutcomeOf self.now.inner cx.new result }
+        ensures same { lock.IsBySeat vain.seat result }
         ensures course { course.new ≡ next_of at (polled result) }
         ensures kept { Keeps cx.old cx.new }
     {
@@ -88,7 +89,7 @@ impl RawBarrier {
         locked
     }
 
-    // Polls the inner lock again.
+    // Polls the inner lock again, by the same seat.
     #[inline(always)]
     pub(crate) fn wait_lock<R: Wait + Clock>(
         &self,
@@ -101,6 +102,7 @@ impl RawBarrier {
         requires waiting { locks.IsOf self.now.inner waiting.seat }
         requires course { HasCome at (act.Begin lock_call.Poll) course.old }
         ensures outcome { lock.IsOutcomeOf self.now.inner cx.new result }
+        ensures same { lock.IsBySeat waiting.seat result }
         ensures course { course.new ≡ next_of at (polled result) }
         ensures kept { Keeps cx.old cx.new }
     {

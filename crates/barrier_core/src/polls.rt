@@ -10,11 +10,11 @@ ghost use Rattle.sync_program.specs.Barrier as program;
 ghost use Rattle.sync_program.specs.declared.barrier.Aim.TheVariants as aims;
 ghost use Rattle.sync_program.specs.declared.barrier.Ending.TheVariants as endings;
 ghost use Rattle.sync_program.specs.declared.barrier.Place.TheVariants as places;
-ghost use Rattle.barrier_core.specs.Barriers.{HasEntry, IsIdle, IsOf};
+ghost use Rattle.barrier_core.specs.Barriers.{HasEntry, IsIdle, IsOf, IsSameSeat};
 ghost use Rattle.barrier_core.specs.Counts.{IsOfThis};
 ghost use Rattle.barrier_core.specs.Courses.{locking};
 ghost use Rattle.barrier_core.specs.Locking.{polled};
-ghost use Rattle.barrier_core.specs.Outcomes.{HasLock, IsCheckingOf, IsOutcomeOf, RestsAt, counted_in};
+ghost use Rattle.barrier_core.specs.Outcomes.{GoesOn, HasLock, IsByLock, IsBySeat, IsCheckingBy, IsCheckingOf, IsOutcomeOf, RestsAt, counted_in};
 ghost use Rattle.lock_queue.specs.Receipts.{IsReceipt};
 ghost use Rattle.mutex_core.specs.Locks as locks;
 ghost use Rattle.mutex_core.specs.Outcomes as lock;
@@ -52,7 +52,8 @@ impl RawBarrier {
         }
     }
 
-    /// Polls a wait again.
+    /// Polls a wait again. It goes on with the seat that it has (`same`): of the barrier, once its arrival was counted, and until then of the
+    /// inner lock.
     #[inline]
     pub fn poll_later<R: Wait + Clock>(
         &self,
@@ -62,6 +63,7 @@ impl RawBarrier {
     ) -> Outcome
         requires { RestsAt self.now resting }
         ensures outcome { IsOutcomeOf self.now cx.new (counted_in resting) result }
+        ensures same { GoesOn resting result }
         ensures kept { Keeps cx.old cx.new }
     {
         match resting {
@@ -156,6 +158,7 @@ impl RawBarrier {
     ) -> Outcome
         requires { IsOf self.now waiting.seat }
         ensures outcome { IsOutcomeOf self.now cx.new (Some waiting.generation) result }
+        ensures same { IsBySeat waiting.seat result }
         ensures kept { Keeps cx.old cx.new }
     {
         let Waiting {
@@ -188,6 +191,7 @@ impl RawBarrier {
         requires waiting { locks.IsOf self.now.inner waiting.seat }
         requires course { course ≡ locking aims.Arrive }
         ensures outcome { IsOutcomeOf self.now cx.new None result }
+        ensures same { IsByLock waiting.seat result }
         ensures kept { Keeps cx.old cx.new }
     {
         let mut course = course;
@@ -209,6 +213,7 @@ impl RawBarrier {
         requires waiting { locks.IsOf self.now.inner waiting.seat }
         requires arrival { IsOfThis self.now arrival × (arrival.seat.course ≡ locking aims.Check) }
         ensures outcome { IsOutcomeOf self.now cx.new (Some arrival.generation) result }
+        ensures same { IsBySeat arrival.seat result }
         ensures kept { Keeps cx.old cx.new }
     {
         let Arrival {
@@ -242,6 +247,7 @@ impl RawBarrier {
         requires locked { lock.IsOutcomeOf self.now.inner cx.old locked }
         requires course { course ≡ program.after_lock aims.Arrive (polled locked) }
         ensures outcome { IsOutcomeOf self.now cx.new None result }
+        ensures same { (seat : locks.Seated) → lock.IsBySeat seat locked → IsByLock seat result }
         ensures kept { Keeps cx.old cx.new }
     {
         match locked {
@@ -264,6 +270,7 @@ impl RawBarrier {
         requires held { lock.IsHeldOf self.now.inner held }
         requires course { course ≡ Do places.Look }
         ensures outcome { IsOutcomeOf self.now cx.new None result }
+        ensures same { (seat : locks.Seated) → IsByLock seat result }
         ensures kept { Keeps cx.old cx.new }
     {
         let (lock, hold) = held.into_parts();
@@ -322,6 +329,7 @@ impl RawBarrier {
         requires course { seat.course ≡ Do places.Join }
         requires more { hold.value.count + 1 < self.now.size }
         ensures outcome { IsOutcomeOf self.now cx.new None result }
+        ensures same { (seat : locks.Seated) → IsByLock seat result }
         ensures kept { Keeps cx.old cx.new }
     {
         let mut hold = hold;
@@ -356,7 +364,8 @@ impl RawBarrier {
         requires seat { IsOf self.now seat × HasEntry generation joined.id.number seat }
         requires course { seat.course ≡ Do places.Ask }
         requires keeps { IsReceipt self.now.inner.source cx.now joined.whose }
-        ensures { IsCheckingOf self.now cx.now generation result }
+        ensures outcome { IsCheckingOf self.now cx.now generation result }
+        ensures same { IsCheckingBy seat result }
     {
         let _ = cx;
         let mut seat = seat;
@@ -377,6 +386,7 @@ impl RawBarrier {
         requires of { IsOfThis self.now arrival }
         requires course { arrival.seat.course ≡ Do (places.EnterLock aims.Check) }
         ensures outcome { IsOutcomeOf self.now cx.new (Some arrival.generation) result }
+        ensures same { IsBySeat arrival.seat result }
         ensures kept { Keeps cx.old cx.new }
     {
         let mut arrival = arrival;
@@ -422,6 +432,7 @@ impl RawBarrier {
         requires of { IsOfThis self.now arrival }
         requires course { arrival.seat.course ≡ Do places.Check }
         ensures outcome { IsCheckingOf self.now cx.new arrival.generation result }
+        ensures same { IsCheckingBy arrival.seat result }
         ensures kept { Keeps cx.old cx.new }
     {
         let (lock, hold) = held.into_parts();
@@ -448,7 +459,7 @@ impl RawBarrier {
         requires has { HasLock self.now lock hold }
         requires seat { IsOf self.now seat × IsIdle seat × (seat.counted ≡ true) × (seat.found ≢ seat.generation) }
         requires course { seat.course ≡ Do (places.ReleaseLock endings.Follow) }
-        ensures { IsOf self.now result.seat }
+        ensures { IsOf self.now result.seat × IsSameSeat seat result.seat }
     {
         let mut seat = seat;
         let at = Place::ReleaseLock(Ending::Follow);
@@ -471,6 +482,7 @@ impl RawBarrier {
         requires of { IsOfThis self.now arrival }
         requires course { arrival.seat.course ≡ Do places.JoinAgain }
         ensures outcome { IsCheckingOf self.now cx.new arrival.generation result }
+        ensures same { IsCheckingBy arrival.seat result }
         ensures kept { Keeps cx.old cx.new }
     {
         let Arrival {

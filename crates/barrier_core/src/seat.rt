@@ -83,10 +83,11 @@ impl Course {
 
 /// A party's place at a barrier, with which it steps on the barrier's words. It has no bytes, and borrows nothing.
 ///
-/// Contracts see: the barrier's table, whether the seat has finished a generation and owes all of the list a notification, whether it has an
+/// Contracts see: the barrier's table, which of its seats it is, whether it has finished a generation and owes all of the list a notification, whether it has an
 /// entry in the list and of which number, whether it has not looked since it joined, how many generations its last look found
 /// finished, and where its party is in its program. It has no `Drop`: only [`Seat::rise`] ends it, once it is outside every call, stands
-/// in no list and owes nothing, or [`Seat::into_course`], which keeps the course. This file alone makes one and takes one apart.
+/// in no list and owes nothing, as does [`Seat::end`], or [`Seat::into_course`], which keeps the course. This file alone makes one and takes
+/// one apart.
 pub struct Seat {
     pub(crate) inner: TableSeat<Entries, View>,
     pub(crate) course: Course,
@@ -105,7 +106,7 @@ impl Model for Seat {
     ghost use Rattle.barrier_core.specs.Barriers.{seated};
     ghost use Rattle.words_base.specs.Lists.{nobody};
 
-    ghost view = { λ s. seated s.inner.table_id s.inner.me.0 s.course };
+    ghost view = { λ s. seated s.inner.table_id s.inner.id s.inner.me.0 s.course };
 
     ghost invariant = { λ s. (s.inner.me.1 ≡ []) × (s.inner.me.0.has_list ≡ false) × (s.inner.me.0.list ≡ nobody) };
 }
@@ -115,7 +116,7 @@ impl RawBarrier {
     /// load.
     #[inline]
     pub fn sit(&self, course: Course) -> (Seat, u64)
-        ensures { result.0 ≡ entering self.now result.1 course }
+        ensures { result.0 ≡ entering self.now result.0.id result.1 course }
     {
         let (finished, inner) = self.table.shared.load_new_seat::<Looks>(WORD);
         let seat = Seat {
@@ -166,5 +167,52 @@ impl Seat {
         requires idle { IsIdle self }
     {
         self.into_course().end();
+    }
+
+    /// Ends it as [`Seat::rise`] does, and shows which seat it was.
+    #[inline]
+    pub fn end(self) -> Ended
+        requires course { IsOutside self.course }
+        requires idle { IsIdle self }
+        ensures { result ≡ self }
+    {
+        let Self {
+            inner,
+            course,
+            seal: (),
+        } = self;
+        Ended { inner, course }
+    }
+}
+
+/// A seat that has ended, which is outside every call, stands in no list and owes nothing. [`Seat::end`] alone makes it.
+///
+/// Contracts see what a seat's see.
+pub struct Ended {
+    inner: TableSeat<Entries, View>,
+    course: Course,
+}
+
+impl Model for Ended {
+    ghost use Rattle.barrier_core.specs.Barriers.{Seated, seated_coded};
+
+    ghost Value = { Seated };
+
+    ghost coded = { seated_coded };
+
+    ghost use Rattle.barrier_core.specs.Barriers.{seated};
+    ghost use Rattle.barrier_core.specs.Courses.{IsOutside};
+
+    ghost view = { λ e. seated e.inner.table_id e.inner.id e.inner.me.0 e.course };
+
+    ghost invariant = { λ e. IsOutside e.course };
+}
+
+impl Drop for Ended {
+    #[inline]
+    fn drop(self) {
+        let Self { inner, course } = self;
+        drop(inner);
+        course.end();
     }
 }

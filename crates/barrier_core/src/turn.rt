@@ -4,7 +4,7 @@ ghost use Rattle.std.specs.Prelude.{◌≡◌, ◌≢◌, true};
 ghost use Rattle.barrier_core.specs.Barriers.{IsCountedIn, IsIdle, IsWaiting, HasFollowed, HasLed};
 
 use crate::arrivals::Arrivals;
-use crate::seat::{Course, Seat};
+use crate::seat::{Course, Ended, Seat};
 use lock_event::EntryId;
 use lock_program::Refusal;
 use lock_queue::Whose;
@@ -131,22 +131,20 @@ pub enum Verdict {
 }
 
 impl Verdict {
-    ghost use Rattle.barrier_core.specs.Counts.{leads};
+    ghost use Rattle.barrier_core.specs.Counts.{leads, seat_by};
 
-    /// Ends the evidence, and says whether the arrival led.
-    pub fn told(self) -> bool
-        ensures { result ≡ leads self }
+    /// Ends the evidence, says whether the arrival led, and shows which seat it was.
+    pub fn told(self) -> (bool, Ended)
+        ensures { (result.0 ≡ leads self) × (result.1 ≡ seat_by self) }
     {
         match self {
             Verdict::Led(led) => {
                 let Led { seat } = led;
-                seat.rise();
-                true
+                (true, seat.end())
             }
             Verdict::Followed(followed) => {
                 let Followed { seat } = followed;
-                seat.rise();
-                false
+                (false, seat.end())
             }
         }
     }

@@ -25,10 +25,11 @@ pub record Cell : Type 0 where
 abbrev pub cell_coded : Coded Cell
 cell_coded = code_by (TableId × (Bool × (ℕ × ℕ))) (coded× table_id_coded (coded× coded_bool (coded× coded_ℕ coded_ℕ))) (λ c. (c.word.table, (c.word.start, (c.word.store, c.source)))) (λ p. record { word = record { table = p.0; start = p.1.0; store = p.1.1.0 }; source = p.1.1.1 }) (λ _. refl)
 
--- A seat: of which table it is; whether it makes, and what it owes; in which list it has an entry, of which number, and whether it has not looked since it
+-- A seat: of which table it is, and which number it has there; whether it makes, and what it owes; in which list it has an entry, of which number, and whether it has not looked since it
 -- joined, or found the cell full; what its last look found, and how often it has emptied the full cell; and where it is in its program.
 pub record Seated : Type 0 where
   pub table : TableId
+  pub id : ℕ
   pub makes : Bool
   pub owes : Bool
   pub owes_active : Bool
@@ -42,22 +43,26 @@ pub record Seated : Type 0 where
   pub course : Course
 
 abbrev pub seated_coded : Coded Seated
-seated_coded = code_by (TableId × (Bool × (Bool × (Bool × (Bool × (Bool × (Bool × (Bool × (ℕ × (ℕ × (ℕ × Course)))))))))))
-    (coded× table_id_coded (coded× coded_bool (coded× coded_bool (coded× coded_bool (coded× coded_bool (coded× coded_bool (coded× coded_bool (coded× coded_bool (coded× coded_ℕ (coded× coded_ℕ (coded× coded_ℕ course_coded)))))))))))
-    (λ s. (s.table, (s.makes, (s.owes, (s.owes_active, (s.owes_passive, (s.in_active, (s.in_passive, (s.fresh, (s.entry, (s.found, (s.taken, s.course))))))))))))
-    (λ p. record { table = p.0; makes = p.1.0; owes = p.1.1.0; owes_active = p.1.1.1.0; owes_passive = p.1.1.1.1.0; in_active = p.1.1.1.1.1.0; in_passive = p.1.1.1.1.1.1.0; fresh = p.1.1.1.1.1.1.1.0; entry = p.1.1.1.1.1.1.1.1.0; found = p.1.1.1.1.1.1.1.1.1.0; taken = p.1.1.1.1.1.1.1.1.1.1.0; course = p.1.1.1.1.1.1.1.1.1.1.1 })
+seated_coded = code_by (TableId × (ℕ × (Bool × (Bool × (Bool × (Bool × (Bool × (Bool × (Bool × (ℕ × (ℕ × (ℕ × Course))))))))))))
+    (coded× table_id_coded (coded× coded_ℕ (coded× coded_bool (coded× coded_bool (coded× coded_bool (coded× coded_bool (coded× coded_bool (coded× coded_bool (coded× coded_bool (coded× coded_ℕ (coded× coded_ℕ (coded× coded_ℕ course_coded))))))))))))
+    (λ s. (s.table, (s.id, (s.makes, (s.owes, (s.owes_active, (s.owes_passive, (s.in_active, (s.in_passive, (s.fresh, (s.entry, (s.found, (s.taken, s.course)))))))))))))
+    (λ p. record { table = p.0; id = p.1.0; makes = p.1.1.0; owes = p.1.1.1.0; owes_active = p.1.1.1.1.0; owes_passive = p.1.1.1.1.1.0; in_active = p.1.1.1.1.1.1.0; in_passive = p.1.1.1.1.1.1.1.0; fresh = p.1.1.1.1.1.1.1.1.0; entry = p.1.1.1.1.1.1.1.1.1.0; found = p.1.1.1.1.1.1.1.1.1.1.0; taken = p.1.1.1.1.1.1.1.1.1.1.1.0; course = p.1.1.1.1.1.1.1.1.1.1.1.1 })
     (λ _. refl)
 
-abbrev pub seated : TableId → View → Course → Seated
-seated table v course = record { table = table; makes = v.makes; owes = v.owes; owes_active = v.owes_active; owes_passive = v.owes_passive; in_active = v.in_active; in_passive = v.in_passive; fresh = v.fresh; entry = v.entry; found = v.found; taken = v.taken; course = course }
+abbrev pub seated : TableId → ℕ → View → Course → Seated
+seated table id v course = record { table = table; id = id; makes = v.makes; owes = v.owes; owes_active = v.owes_active; owes_passive = v.owes_passive; in_active = v.in_active; in_passive = v.in_passive; fresh = v.fresh; entry = v.entry; found = v.found; taken = v.taken; course = course }
 
 -- The seat is one of the cell.
 abbrev pub IsOf : Cell → Seated → Type 0
 IsOf cell seat = seat.table ≡ cell.word.table
 
+-- It is the same seat of its cell.
+abbrev pub IsSameSeat : Seated → Seated → Type 0
+IsSameSeat s t = t.id ≡ s.id
+
 -- a seat with nothing
-abbrev pub entering : Cell → Seated
-entering cell = record { table = cell.word.table; makes = false; owes = false; owes_active = false; owes_passive = false; in_active = false; in_passive = false; fresh = false; entry = 0; found = 0; taken = 0; course = outside }
+abbrev pub entering : Cell → ℕ → Seated
+entering cell id = record { table = cell.word.table; id = id; makes = false; owes = false; owes_active = false; owes_passive = false; in_active = false; in_passive = false; fresh = false; entry = 0; found = 0; taken = 0; course = outside }
 
 -- what a look, a claim and each other step makes of a seat
 abbrev pub with_seen : ℕ → Seated → Seated

@@ -2,7 +2,7 @@
 use Rattle.std.specs.Prelude.{◌≡◌, ℕ, ⊤, Result, Ok, Err}
 use Rattle.futures.specs.Task.{Covers}
 use Rattle.futures.specs.declared.task.context.Context.{Context}
-use Rattle.cell_core.specs.Cells.{Cell, IsOf}
+use Rattle.cell_core.specs.Cells.{Cell, Seated, IsOf, IsSameSeat}
 use Rattle.cell_core.specs.Courses.{making, waiting_to_make}
 use Rattle.cell_core.specs.Purposes.{IsAwaited, maker_of}
 use Rattle.lock_queue.specs.Receipts.{IsReceipt}
@@ -13,6 +13,11 @@ use Rattle.cell_core.specs.declared.turn.Resting.{Resting}
 use Rattle.cell_core.specs.declared.turn.Resting.TheVariants.{Waits, Makes}
 use Rattle.cell_core.specs.declared.turn.Waited.{Waited}
 use Rattle.cell_core.specs.declared.turn.Waited.TheVariants as waited
+
+-- by which seat a party waits or makes
+abbrev pub seat_in : Resting → Seated
+seat_in (Waits w) = w.seat
+seat_in (Makes p) = p.seat
 
 -- what a party keeps is of this cell
 abbrev pub RestsAt : Cell → Resting → Type 0
@@ -35,13 +40,28 @@ Pends {T} {E} gives needs cell cx m₀ m (Makes p) = Covers cx (needs m) × ((x 
 abbrev pub OnOutcome : {T E M : Type 0} → Purpose → (M → Type 0) → (M → Type 0) → (M → Result T E → Type 0) → (M → ℕ → Type 0) → M → Cell → Context → Outcome T E M → Type 0
 OnOutcome u new can gives needs m₀ cell cx (outcome.Pending m r) = RestsSo u new cell m r × can m × Pends gives needs cell cx m₀ m r
 OnOutcome u new can gives needs m₀ cell cx (outcome.Refused m) = (m ≡ m₀) × new m
-OnOutcome u new can gives needs m₀ cell cx (outcome.Value r) = gives m₀ (Ok r.now)
-OnOutcome u new can gives needs m₀ cell cx (outcome.Back v r) = gives m₀ (Ok v)
-OnOutcome u new can gives needs m₀ cell cx (outcome.Kept m r) = (m ≡ m₀) × new m
-OnOutcome u new can gives needs m₀ cell cx (outcome.Failed e) = gives m₀ (Err e)
+OnOutcome u new can gives needs m₀ cell cx (outcome.Value r e) = gives m₀ (Ok r.now) × IsOf cell e
+OnOutcome u new can gives needs m₀ cell cx (outcome.Back v r e) = gives m₀ (Ok v) × IsOf cell e
+OnOutcome u new can gives needs m₀ cell cx (outcome.Kept m r e) = (m ≡ m₀) × new m × IsOf cell e
+OnOutcome u new can gives needs m₀ cell cx (outcome.Failed f e) = gives m₀ (Err f) × IsOf cell e
+
+-- Whoever waits, makes, or has come to an end does so by this seat.
+abbrev pub IsBySeat : {T E M : Type 0} → Seated → Outcome T E M → Type 0
+IsBySeat seat (outcome.Pending m r) = IsSameSeat seat (seat_in r)
+IsBySeat seat (outcome.Refused m) = ⊤
+IsBySeat seat (outcome.Value r e) = IsSameSeat seat e
+IsBySeat seat (outcome.Back v r e) = IsSameSeat seat e
+IsBySeat seat (outcome.Kept m r e) = IsSameSeat seat e
+IsBySeat seat (outcome.Failed f e) = IsSameSeat seat e
 
 -- what a poll of one that only waits answers
 abbrev pub OnWaited : {T : Type 0} → Cell → Context → Waited T → Type 0
 OnWaited cell cx (waited.Waits w) = IsOf cell w.seat × IsReceipt cell.source cx w.whose
 OnWaited cell cx waited.Refused = ⊤
-OnWaited cell cx (waited.Value r) = ⊤
+OnWaited cell cx (waited.Value r e) = IsOf cell e
+
+-- the same of one that only waits
+abbrev pub IsWaitedBySeat : {T : Type 0} → Seated → Waited T → Type 0
+IsWaitedBySeat seat (waited.Waits w) = IsSameSeat seat w.seat
+IsWaitedBySeat seat waited.Refused = ⊤
+IsWaitedBySeat seat (waited.Value r e) = IsSameSeat seat e

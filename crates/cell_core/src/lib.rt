@@ -18,7 +18,7 @@ mod watch;
 pub use cell::RawCell;
 pub use lists::Lists;
 pub use maker::{Maker, Purpose, Sealed};
-pub use seat::{Right, Seat};
+pub use seat::{Ended, Right, Seat};
 pub use state::State;
 pub use turn::{Making, Outcome, Resting, Waited, Waiting, WaitingToMake};
 pub use watch::{Side, Watched};

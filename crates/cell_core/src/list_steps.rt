@@ -33,7 +33,7 @@ pub(crate) fn join_active_in(
 ) -> (Result<EntryId, Memory>, u64)
     requires table { inner.old.table_id ≡ shared.now.table_id }
     requires held { IsHeld active_of passive_of inner.old.me }
-    ensures table { inner.new.table_id ≡ inner.old.table_id }
+    ensures seat { (inner.new.table_id ≡ inner.old.table_id) × (inner.new.id ≡ inner.old.id) }
     ensures view { inner.new.me.0 ≡ inner.old.me.0 }
     ensures others { rest inner.new.me.1 ≡ rest inner.old.me.1 }
     ensures ready { MatchResult result.0 (λ id. CanJoinActive active_of passive_of inner.new.me result.1 id.number) (λ _. CanStay active_of passive_of inner.new.me result.1) }
@@ -51,7 +51,7 @@ pub(crate) fn join_passive_in(
 ) -> (Result<EntryId, Memory>, u64)
     requires table { inner.old.table_id ≡ shared.now.table_id }
     requires held { IsHeld active_of passive_of inner.old.me }
-    ensures table { inner.new.table_id ≡ inner.old.table_id }
+    ensures seat { (inner.new.table_id ≡ inner.old.table_id) × (inner.new.id ≡ inner.old.id) }
     ensures view { inner.new.me.0 ≡ inner.old.me.0 }
     ensures others { rest inner.new.me.1 ≡ rest inner.old.me.1 }
     ensures ready { MatchResult result.0 (λ id. CanJoinPassive active_of passive_of inner.new.me result.1 id.number) (λ _. CanStay active_of passive_of inner.new.me result.1) }
@@ -72,7 +72,7 @@ pub(crate) fn ask_active_in(
     requires table { inner.old.table_id ≡ shared.now.table_id }
     requires held { IsHeld active_of passive_of inner.old.me }
     requires entry { inner.old.me.0.entry ≡ id.number }
-    ensures table { inner.new.table_id ≡ inner.old.table_id }
+    ensures seat { (inner.new.table_id ≡ inner.old.table_id) × (inner.new.id ≡ inner.old.id) }
     ensures view { inner.new.me.0 ≡ inner.old.me.0 }
     ensures others { rest inner.new.me.1 ≡ rest inner.old.me.1 }
     ensures ready { ByHeard result.0 (CanHear active_of passive_of inner.new.me result.1) (λ _. CanStay active_of passive_of inner.new.me result.1) }
@@ -95,7 +95,7 @@ pub(crate) fn ask_passive_in(
     requires table { inner.old.table_id ≡ shared.now.table_id }
     requires held { IsHeld active_of passive_of inner.old.me }
     requires entry { (inner.old.me.0.in_passive ≡ true) × (inner.old.me.0.in_active ≡ false) × (inner.old.me.0.entry ≡ id.number) }
-    ensures table { inner.new.table_id ≡ inner.old.table_id }
+    ensures seat { (inner.new.table_id ≡ inner.old.table_id) × (inner.new.id ≡ inner.old.id) }
     ensures view { inner.new.me.0 ≡ inner.old.me.0 }
     ensures others { rest inner.new.me.1 ≡ rest inner.old.me.1 }
     ensures ready { ByHeard result.0 (CanLeave active_of passive_of inner.new.me result.1) (λ _. CanStay active_of passive_of inner.new.me result.1) }
@@ -116,7 +116,7 @@ pub(crate) fn leave_active_in(
     requires table { inner.old.table_id ≡ shared.now.table_id }
     requires held { IsHeld active_of passive_of inner.old.me }
     requires entry { (inner.old.me.0.in_active ≡ true) × (inner.old.me.0.in_passive ≡ false) × (inner.old.me.0.entry ≡ id.number) }
-    ensures table { inner.new.table_id ≡ inner.old.table_id }
+    ensures seat { (inner.new.table_id ≡ inner.old.table_id) × (inner.new.id ≡ inner.old.id) }
     ensures view { inner.new.me.0 ≡ inner.old.me.0 }
     ensures others { rest inner.new.me.1 ≡ rest inner.old.me.1 }
     ensures ready { CanLeave active_of passive_of inner.new.me result.2 }
@@ -135,7 +135,7 @@ pub(crate) fn leave_passive_in(
     requires table { inner.old.table_id ≡ shared.now.table_id }
     requires held { IsHeld active_of passive_of inner.old.me }
     requires entry { (inner.old.me.0.in_passive ≡ true) × (inner.old.me.0.in_active ≡ false) × (inner.old.me.0.entry ≡ id.number) }
-    ensures table { inner.new.table_id ≡ inner.old.table_id }
+    ensures seat { (inner.new.table_id ≡ inner.old.table_id) × (inner.new.id ≡ inner.old.id) }
     ensures view { inner.new.me.0 ≡ inner.old.me.0 }
     ensures others { rest inner.new.me.1 ≡ rest inner.old.me.1 }
     ensures ready { CanLeave active_of passive_of inner.new.me result.2 }
@@ -149,7 +149,7 @@ pub(crate) fn leave_passive_in(
 pub(crate) fn notify_active_in(shared: &Listing, inner: &mut Lister) -> (Due, u64)
     requires table { inner.old.table_id ≡ shared.now.table_id }
     requires held { IsHeld active_of passive_of inner.old.me }
-    ensures table { inner.new.table_id ≡ inner.old.table_id }
+    ensures seat { (inner.new.table_id ≡ inner.old.table_id) × (inner.new.id ≡ inner.old.id) }
     ensures view { inner.new.me.0 ≡ inner.old.me.0 }
     ensures others { rest inner.new.me.1 ≡ rest inner.old.me.1 }
     ensures ready { CanPay active_of passive_of inner.new.me result.1 }
@@ -163,7 +163,7 @@ pub(crate) fn notify_active_in(shared: &Listing, inner: &mut Lister) -> (Due, u6
 pub(crate) fn notify_passive_in(shared: &Listing, inner: &mut Lister) -> (Due, u64)
     requires table { inner.old.table_id ≡ shared.now.table_id }
     requires held { IsHeld active_of passive_of inner.old.me }
-    ensures table { inner.new.table_id ≡ inner.old.table_id }
+    ensures seat { (inner.new.table_id ≡ inner.old.table_id) × (inner.new.id ≡ inner.old.id) }
     ensures view { inner.new.me.0 ≡ inner.old.me.0 }
     ensures others { rest inner.new.me.1 ≡ rest inner.old.me.1 }
     ensures ready { CanStay active_of passive_of inner.new.me result.1 }
@@ -181,7 +181,7 @@ pub(crate) fn notify_all_active_in(
 ) -> (AllDue, u64)
     requires table { inner.old.table_id ≡ shared.now.table_id }
     requires held { IsHeld active_of passive_of inner.old.me }
-    ensures table { inner.new.table_id ≡ inner.old.table_id }
+    ensures seat { (inner.new.table_id ≡ inner.old.table_id) × (inner.new.id ≡ inner.old.id) }
     ensures view { inner.new.me.0 ≡ inner.old.me.0 }
     ensures others { rest inner.new.me.1 ≡ rest inner.old.me.1 }
     ensures ready { CanPayActive active_of passive_of inner.new.me result.1 }
@@ -199,7 +199,7 @@ pub(crate) fn notify_all_passive_in(
 ) -> (AllDue, u64)
     requires table { inner.old.table_id ≡ shared.now.table_id }
     requires held { IsHeld active_of passive_of inner.old.me }
-    ensures table { inner.new.table_id ≡ inner.old.table_id }
+    ensures seat { (inner.new.table_id ≡ inner.old.table_id) × (inner.new.id ≡ inner.old.id) }
     ensures view { inner.new.me.0 ≡ inner.old.me.0 }
     ensures others { rest inner.new.me.1 ≡ rest inner.old.me.1 }
     ensures ready { CanPayPassive active_of passive_of inner.new.me result.1 }
@@ -213,7 +213,7 @@ pub(crate) fn notify_all_passive_in(
 pub(crate) fn next_due_in(shared: &Listing, inner: &mut Lister) -> (Due, u64)
     requires table { inner.old.table_id ≡ shared.now.table_id }
     requires held { IsHeld active_of passive_of inner.old.me }
-    ensures table { inner.new.table_id ≡ inner.old.table_id }
+    ensures seat { (inner.new.table_id ≡ inner.old.table_id) × (inner.new.id ≡ inner.old.id) }
     ensures view { inner.new.me.0 ≡ inner.old.me.0 }
     ensures others { rest inner.new.me.1 ≡ rest inner.old.me.1 }
     ensures ready { CanStay active_of passive_of inner.new.me result.1 }
@@ -232,7 +232,7 @@ pub(crate) fn entry_in(
 ) -> (Option<(EntryId, Mark)>, u64)
     requires table { inner.old.table_id ≡ shared.now.table_id }
     requires held { IsHeld active_of passive_of inner.old.me }
-    ensures table { inner.new.table_id ≡ inner.old.table_id }
+    ensures seat { (inner.new.table_id ≡ inner.old.table_id) × (inner.new.id ≡ inner.old.id) }
     ensures view { inner.new.me.0 ≡ inner.old.me.0 }
     ensures others { rest inner.new.me.1 ≡ rest inner.old.me.1 }
     ensures ready { CanStay active_of passive_of inner.new.me result.1 }

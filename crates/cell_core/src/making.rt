@@ -4,16 +4,16 @@
 
 ghost use Rattle.std.specs.Prelude.{◌≡◌, Ok, IfErr, IfNone, IfOk, IfSome, true, false};
 ghost use Rattle.futures.specs.Task.{Keeps};
-ghost use Rattle.cell_core.specs.Cells.{IsOf, IsIdle, IsMaking, IsBetween};
+ghost use Rattle.cell_core.specs.Cells.{IsOf, IsIdle, IsMaking, IsBetween, IsSameSeat};
 ghost use Rattle.cell_core.specs.Courses.{IsEmptying, IsFilling, IsReady, claiming_from, first_poll, refusing_to_make, waiting_to_make};
-ghost use Rattle.cell_core.specs.Outcomes.{OnOutcome, RestsAt, RestsSo};
+ghost use Rattle.cell_core.specs.Outcomes.{IsBySeat, OnOutcome, RestsAt, RestsSo, seat_in};
 ghost use Rattle.cell_core.specs.Purposes.{maker_of};
 ghost use Rattle.lock_program.specs.declared.end.Next.TheVariants.{Do};
 ghost use Rattle.sync_program.specs.declared.once_cell.Place.TheVariants as at;
 
 use crate::cell::RawCell;
 use crate::maker::Maker;
-use crate::seat::Seat;
+use crate::seat::{Ended, Seat};
 use crate::state::State;
 use crate::turn::{Making, Outcome, Resting, WaitingToMake};
 use futures::task::{Context, Poll};
@@ -42,11 +42,14 @@ impl<T> RawCell<T> {
         match self.claim(&mut seat, at) {
             State::Empty => self.make(rt, cx, seat, maker),
             State::Making => self.wait_to_make(rt, cx, seat, maker, false),
-            State::Full => Outcome::Kept(maker, self.found(rt, seat)),
+            State::Full => {
+                let (value, ended) = self.found(rt, seat);
+                Outcome::Kept(maker, value, ended)
+            }
         }
     }
 
-    /// Polls a party that waits, or makes, with its maker.
+    /// Polls a party that waits, or makes, with its maker. It goes on with the same seat (`same`).
     pub fn poll_later<'a, E: Drop, M: Maker<T, E>, R: Wait>(
         &'a self,
         rt: &R,
@@ -57,6 +60,7 @@ impl<T> RawCell<T> {
         requires rests { RestsSo M.purpose M.is_new self.now maker resting }
         requires ready { M.can_make maker }
         ensures outcome { OnOutcome M.purpose M.is_new M.can_make M.gives M.needs maker self.now cx.new result }
+        ensures same { IsBySeat (seat_in resting) result }
         ensures kept { Keeps cx.old cx.new }
     {
         match resting {
@@ -82,6 +86,7 @@ impl<T> RawCell<T> {
         requires new { M.is_new maker }
         requires ready { M.can_make maker }
         ensures outcome { OnOutcome M.purpose M.is_new M.can_make M.gives M.needs maker self.now cx.new result }
+        ensures same { IsBySeat waiting.seat result }
         ensures kept { Keeps cx.old cx.new }
     {
         let WaitingToMake {
@@ -112,6 +117,7 @@ impl<T> RawCell<T> {
         requires new { M.is_new maker }
         requires ready { M.can_make maker }
         ensures outcome { OnOutcome M.purpose M.is_new M.can_make M.gives M.needs maker self.now cx.new result }
+        ensures same { IsBySeat seat result }
         ensures kept { Keeps cx.old cx.new }
     {
         let mut seat = seat;
@@ -122,7 +128,10 @@ impl<T> RawCell<T> {
                 match self.claim(&mut seat, Place::Claim { maker: kind, told }) {
                     State::Empty => return self.make(rt, cx, seat, maker),
                     State::Making => {}
-                    State::Full => return Outcome::Kept(maker, self.found(rt, seat)),
+                    State::Full => {
+                        let (value, ended) = self.found(rt, seat);
+                        return Outcome::Kept(maker, value, ended);
+                    }
                 }
             }
             let at = Place::JoinActive { maker: kind, told };
@@ -141,7 +150,8 @@ impl<T> RawCell<T> {
                     let value = ();
                     let at = Place::LeaveFull { maker: kind, value };
                     self.leave_active(rt, &mut seat, id, at);
-                    return Outcome::Kept(maker, self.found(rt, seat));
+                    let (value, ended) = self.found(rt, seat);
+                    return Outcome::Kept(maker, value, ended);
                 }
             }
             if let Some(whose) = self.ask_active(rt, &mut seat, id, cx, Place::AskActive(kind)) {
@@ -152,15 +162,15 @@ impl<T> RawCell<T> {
         unreachable!()
     }
 
-    // The cell's value, of a party that found it full, and is ready.
-    pub(crate) fn found<'a, R: Wait>(&'a self, rt: &R, seat: Seat) -> &'a T
+    // The cell's value, of a party that found it full, and is ready. Its seat has ended.
+    pub(crate) fn found<'a, R: Wait>(&'a self, rt: &R, seat: Seat) -> (&'a T, Ended)
         requires of { IsOf self.now seat }
         requires course { IsReady seat.course }
         requires full { IsIdle seat × (seat.found ≡ 2) }
+        ensures { result.1 ≡ seat }
     {
         let value = self.lend(rt, &seat);
-        seat.rise();
-        value
+        (value, seat.end())
     }
 
     // Refuses a party for whose entry there was no memory: it notifies, if it took a notification during this poll.
@@ -191,6 +201,7 @@ impl<T> RawCell<T> {
         requires course { seat.course ≡ Do (at.Make (maker_of M.purpose)) }
         requires ready { M.can_make maker }
         ensures outcome { OnOutcome M.purpose M.is_new M.can_make M.gives M.needs maker self.now cx.new result }
+        ensures same { IsBySeat seat result }
         ensures kept { Keeps cx.old cx.new }
     {
         let mut seat = seat;
@@ -199,7 +210,7 @@ impl<T> RawCell<T> {
             Poll::Pending => Outcome::Pending(maker, Resting::Makes(Making { seat })),
             Poll::Ready(Ok(value)) => {
                 drop(maker);
-                let (shown, back) = self.enter(
+                let (shown, back, ended) = self.enter(
                     rt,
                     seat,
                     value,
@@ -209,20 +220,20 @@ impl<T> RawCell<T> {
                 );
                 let value = self.value(&shown);
                 match back {
-                    None => Outcome::Value(value),
-                    Some(own) => Outcome::Back(own, value),
+                    None => Outcome::Value(value, ended),
+                    Some(own) => Outcome::Back(own, value, ended),
                 }
             }
             Poll::Ready(Err(fault)) => {
                 drop(maker);
-                self.give_up(rt, seat, Place::Fail, Place::FailNotify);
-                Outcome::Failed(fault)
+                let ended = self.give_up(rt, seat, Place::Fail, Place::FailNotify);
+                Outcome::Failed(fault, ended)
             }
         }
     }
 
     // A value enters the cell, and then the word says so, by the seat that makes; and both lists are notified, each at its place. Should a
-    // value stand there already, that one stays, and this one comes back.
+    // value stand there already, that one stays, and this one comes back. The seat has ended.
     fn enter<'a, R: Wait>(
         &'a self,
         rt: &R,
@@ -231,13 +242,14 @@ impl<T> RawCell<T> {
         fill: Place<()>,
         active: Place<()>,
         passive: Place<()>,
-    ) -> (OnceToken<'a, T>, Option<T>)
+    ) -> (OnceToken<'a, T>, Option<T>, Ended)
         requires of { IsOf self.now seat }
         requires makes { IsMaking seat }
         requires course { seat.course ≡ Do fill }
         requires places { IsFilling fill active passive }
         ensures shown { (result.0.of ≡ self.now.word.store) × IfNone result.1 (result.0.value ≡ value) }
         ensures back { IfSome result.1 (λ back. back ≡ value) }
+        ensures ended { IsOf self.now result.2 × IsSameSeat seat result.2 }
     {
         let mut seat = seat;
         let (shown, back) = self.put(rt, &seat, value, fill);
@@ -248,23 +260,24 @@ impl<T> RawCell<T> {
         if self.may_have_entries(&mut seat, passive) {
             self.notify_all_passive(rt, &mut seat, passive);
         }
-        seat.rise();
-        (shown, back)
+        (shown, back, seat.end())
     }
 
-    // The cell is empty again, by the seat that makes, whose maker failed or is dropped; and one that would make is notified.
-    fn give_up<R: Wait>(&self, rt: &R, seat: Seat, empty: Place<()>, notify: Place<()>)
+    // The cell is empty again, by the seat that makes, whose maker failed or is dropped; and one that would make is notified. The seat has
+    // ended.
+    fn give_up<R: Wait>(&self, rt: &R, seat: Seat, empty: Place<()>, notify: Place<()>) -> Ended
         requires of { IsOf self.now seat }
         requires makes { IsMaking seat }
         requires course { seat.course ≡ Do empty }
         requires places { IsEmptying empty notify }
+        ensures { IsOf self.now result × IsSameSeat seat result }
     {
         let mut seat = seat;
         self.empty(&mut seat, empty);
         if self.may_have_entries(&mut seat, notify) {
             self.notify_active(rt, &mut seat, notify);
         }
-        seat.rise();
+        seat.end()
     }
 
     /// Gives back what a party has between two polls that would make the value. Whoever calls it drops the maker first.
@@ -286,7 +299,7 @@ impl<T> RawCell<T> {
             Resting::Makes(making) => {
                 let Making { mut seat } = making;
                 seat.begin(CellCall::Drop, Place::CancelMake);
-                self.give_up(rt, seat, Place::CancelMake, Place::CancelNotify);
+                drop(self.give_up(rt, seat, Place::CancelMake, Place::CancelNotify));
             }
         }
     }
@@ -301,7 +314,7 @@ impl<T> RawCell<T> {
         seat.begin(CellCall::TrySet(()), Place::Try(()));
         match self.claim(&mut seat, Place::Try(())) {
             State::Empty => {
-                let (shown, back) = self.enter(
+                let (shown, back, _) = self.enter(
                     rt,
                     seat,
                     value,

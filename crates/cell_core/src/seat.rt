@@ -18,10 +18,11 @@ use words_cell::{Keep, View};
 
 /// A party's place at a cell, with which it steps on the cell's words. It has no bytes, and borrows nothing.
 ///
-/// Contracts see: the cell's table, whether the seat has the right to make, whether it owes a notification of one that would make the value,
+/// Contracts see: the cell's table, which of its seats it is, whether it has the right to make, whether it owes a notification of one that would make the value,
 /// of all of them, and of all that wait for it, in which list it has an entry and of which number, whether it has not looked since it
 /// joined, or found the cell full, what its last look found, and where its call is in the program. It has no `Drop`: only
-/// [`Seat::rise`] ends it, once it is outside every call, makes nothing, stands in no list, and owes nothing. This file alone makes one and takes one apart.
+/// [`Seat::end`] and [`Seat::rise`] end it, once it is outside every call, makes nothing, stands in no list, and owes nothing. This file
+/// alone makes one and takes one apart.
 pub struct Seat {
     pub(crate) inner: TableSeat<Lists, View>,
     // Where it is in its program: no bytes. Nobody else can name it, nor so let the seat go.
@@ -38,7 +39,7 @@ impl Model for Seat {
     ghost use Rattle.std.specs.Prelude.{◌≡◌, false, []};
     ghost use Rattle.cell_core.specs.Cells.{seated};
 
-    ghost view = { λ s. seated s.inner.table_id s.inner.me.0 s.course.next };
+    ghost view = { λ s. seated s.inner.table_id s.inner.id s.inner.me.0 s.course.next };
 
     ghost invariant = { λ s. (s.inner.me.1 ≡ []) × (s.inner.me.0.has_lists ≡ false) };
 }
@@ -47,7 +48,7 @@ impl<T> RawCell<T> {
     /// Returns a new seat, with nothing: one load.
     #[inline]
     pub fn sit(&self) -> Seat
-        ensures { result ≡ entering self.now }
+        ensures { result ≡ entering self.now result.id }
     {
         Seat {
             inner: self.words.table.shared.load_new_seat::<Keep>(WORD).1,
@@ -80,8 +81,18 @@ impl Seat {
         requires course { IsOutside self.course }
         requires idle { IsIdle self }
     {
-        let Self { inner, course: _ } = self;
-        drop(inner);
+        drop(self.end());
+    }
+
+    /// Ends it as [`Seat::rise`] does, and shows which seat it was, and what it has found.
+    #[inline]
+    pub fn end(self) -> Ended
+        requires course { IsOutside self.course }
+        requires idle { IsIdle self }
+        ensures { result ≡ self }
+    {
+        let Self { inner, course } = self;
+        Ended { inner, course }
     }
 
     /// Shows that this seat has the right to make, at a place whose action needs it: a maker is asked only against it.
@@ -92,6 +103,37 @@ impl Seat {
     {
         let _ = at;
         Right { seal: () }
+    }
+}
+
+/// A seat that has ended, which is outside every call, makes nothing, stands in no list, and owes nothing. [`Seat::end`] alone makes it.
+///
+/// Contracts see what a seat's see.
+pub struct Ended {
+    inner: TableSeat<Lists, View>,
+    course: Course,
+}
+
+impl Model for Ended {
+    ghost use Rattle.cell_core.specs.Cells.{Seated, seated_coded};
+
+    ghost Value = { Seated };
+
+    ghost coded = { seated_coded };
+
+    ghost use Rattle.cell_core.specs.Cells.{IsIdle, seated};
+    ghost use Rattle.cell_core.specs.Courses.{IsOutside};
+
+    ghost view = { λ e. seated e.inner.table_id e.inner.id e.inner.me.0 e.course.next };
+
+    ghost invariant = { λ e. IsOutside e.course.next × IsIdle (seated e.inner.table_id e.inner.id e.inner.me.0 e.course.next) };
+}
+
+impl Drop for Ended {
+    #[inline]
+    fn drop(self) {
+        let Self { inner, course: _ } = self;
+        drop(inner);
     }
 }
 

@@ -4,7 +4,7 @@ ghost use Rattle.std.specs.Prelude.{◌≡◌, true, false};
 ghost use Rattle.cell_core.specs.Cells.{IsMaking, WaitsActive, WaitsPassive};
 ghost use Rattle.cell_core.specs.Courses.{IsMakingStill, IsWaitingToMake, waiting};
 
-use crate::seat::Seat;
+use crate::seat::{Ended, Seat};
 use lock_event::EntryId;
 use lock_queue::Whose;
 
@@ -77,20 +77,20 @@ pub enum Resting {
     Makes(Making),
 }
 
-/// How a poll of a party went that would make the value.
+/// How a poll of a party went that would make the value. With each end comes the seat that has come to it.
 pub enum Outcome<'a, T, E, M> {
     /// It waits, or makes, with this maker.
     Pending(M, Resting),
     /// There was no memory for its entry. Nothing is left of the party but its maker.
     Refused(M),
     /// The cell has this value, which is its own.
-    Value(&'a T),
+    Value(&'a T, Ended),
     /// The cell had a value already when its own was to enter, which it has back.
-    Back(T, &'a T),
+    Back(T, &'a T, Ended),
     /// The cell was full before its maker was asked.
-    Kept(M, &'a T),
+    Kept(M, &'a T, Ended),
     /// The maker failed.
-    Failed(E),
+    Failed(E, Ended),
 }
 
 /// How a poll of a party went that only waits.
@@ -99,6 +99,6 @@ pub enum Waited<'a, T> {
     Waits(Waiting),
     /// There was no memory for its entry, and nothing is left of the party.
     Refused,
-    /// The cell has this value.
-    Value(&'a T),
+    /// The cell has this value, as this seat has found.
+    Value(&'a T, Ended),
 }

@@ -8,7 +8,7 @@ ghost use Rattle.cell_core.specs.Cells.{IsOf, IsIdle};
 ghost use Rattle.cell_core.specs.Courses.{refusing_to_wait};
 ghost use Rattle.lock_program.specs.declared.end.Next.TheVariants.{Do};
 ghost use Rattle.sync_program.specs.declared.once_cell.Place.TheVariants as at;
-ghost use Rattle.cell_core.specs.Outcomes.{OnWaited};
+ghost use Rattle.cell_core.specs.Outcomes.{IsWaitedBySeat, OnWaited};
 
 use crate::cell::RawCell;
 use crate::seat::Seat;
@@ -30,7 +30,7 @@ impl<T> RawCell<T> {
         self.wait_on(rt, cx, seat, false)
     }
 
-    /// Polls a wait that stands in the list.
+    /// Polls a wait that stands in the list. It goes on with the same seat (`same`).
     pub fn wait_later<'a, R: Wait>(
         &'a self,
         rt: &R,
@@ -39,6 +39,7 @@ impl<T> RawCell<T> {
     ) -> Waited<'a, T>
         requires { IsOf self.now waiting.seat }
         ensures outcome { OnWaited self.now cx.new result }
+        ensures same { IsWaitedBySeat waiting.seat result }
         ensures kept { Keeps cx.old cx.new }
     {
         let Waiting {
@@ -65,13 +66,15 @@ impl<T> RawCell<T> {
         requires idle { IsIdle seat }
         requires course { seat.course ≡ Do (at.Look told) }
         ensures outcome { OnWaited self.now cx.new result }
+        ensures same { IsWaitedBySeat seat result }
         ensures kept { Keeps cx.old cx.new }
     {
         let mut seat = seat;
         let mut told = told;
         for _ in rt.forever() {
             if self.look(&mut seat, Place::Look { told }) == State::Full {
-                return Waited::Value(self.found(rt, seat));
+                let (value, ended) = self.found(rt, seat);
+                return Waited::Value(value, ended);
             }
             let id = match self.join_passive(rt, &mut seat, Place::JoinPassive { told }) {
                 Ok(id) => id,
@@ -83,7 +86,8 @@ impl<T> RawCell<T> {
             // Whoever filled the cell before it joined told nobody.
             if self.look(&mut seat, Place::LookListed) == State::Full {
                 self.leave_passive(rt, &mut seat, id, Place::LeavePassive(()));
-                return Waited::Value(self.found(rt, seat));
+                let (value, ended) = self.found(rt, seat);
+                return Waited::Value(value, ended);
             }
             if let Some(whose) = self.ask_passive(rt, &mut seat, id, cx, Place::AskPassive) {
                 return Waited::Waits(Waiting { seat, id, whose });

@@ -42,7 +42,7 @@ pub const NOTIFICATION: u64 = 8;
 #[inline]
 pub fn look<S: Content>(shared: &Ruled<S>, inner: &mut TableSeat<S, View>) -> u64
     requires table { (inner.old.table_id ≡ shared.now.table_id) × (shared.now.table_id.words ≡ 2) }
-    ensures table { inner.new.table_id ≡ inner.old.table_id }
+    ensures seat { (inner.new.table_id ≡ inner.old.table_id) × (inner.new.id ≡ inner.old.id) }
     ensures step { Looked inner.old.me result inner.new.me }
 {
     shared.load::<Looks>(inner, WORD)
@@ -52,7 +52,7 @@ pub fn look<S: Content>(shared: &Ruled<S>, inner: &mut TableSeat<S, View>) -> u6
 #[inline]
 pub fn count<S: Content>(shared: &Ruled<S>, inner: &mut TableSeat<S, View>) -> u64
     requires table { (inner.old.table_id ≡ shared.now.table_id) × (shared.now.table_id.words ≡ 2) }
-    ensures table { inner.new.table_id ≡ inner.old.table_id }
+    ensures seat { (inner.new.table_id ≡ inner.old.table_id) × (inner.new.id ≡ inner.old.id) }
     ensures step { Counted inner.old.me result inner.new.me }
 {
     shared.load::<Counts>(inner, WORD)
@@ -63,7 +63,7 @@ pub fn count<S: Content>(shared: &Ruled<S>, inner: &mut TableSeat<S, View>) -> u
 pub fn finish<S: Content>(shared: &Ruled<S>, inner: &mut TableSeat<S, View>, found: u64)
     requires table { (inner.old.table_id ≡ shared.now.table_id) × (shared.now.table_id.words ≡ 2) }
     requires found { (inner.old.me.0.found ≡ found) × (found < u64.MAX) }
-    ensures table { inner.new.table_id ≡ inner.old.table_id }
+    ensures seat { (inner.new.table_id ≡ inner.old.table_id) × (inner.new.id ≡ inner.old.id) }
     ensures step { inner.new.me ≡ (finished_by inner.old.me.0, inner.old.me.1) }
 {
     shared.store::<Finishes>(inner, WORD, found + 1);
@@ -73,7 +73,7 @@ pub fn finish<S: Content>(shared: &Ruled<S>, inner: &mut TableSeat<S, View>, fou
 #[inline]
 pub fn peek<S: Content>(shared: &Ruled<S>, inner: &mut TableSeat<S, View>) -> u64
     requires table { (inner.old.table_id ≡ shared.now.table_id) × (shared.now.table_id.words ≡ 2) }
-    ensures table { inner.new.table_id ≡ inner.old.table_id }
+    ensures seat { (inner.new.table_id ≡ inner.old.table_id) × (inner.new.id ≡ inner.old.id) }
     ensures step { Peeked inner.old.me result inner.new.me }
 {
     shared.load::<Peeks>(inner, LIST)
@@ -83,7 +83,7 @@ pub fn peek<S: Content>(shared: &Ruled<S>, inner: &mut TableSeat<S, View>) -> u6
 #[inline]
 pub fn grab<S: Content>(shared: &Ruled<S>, inner: &mut TableSeat<S, View>) -> u64
     requires table { (inner.old.table_id ≡ shared.now.table_id) × (shared.now.table_id.words ≡ 2) }
-    ensures table { inner.new.table_id ≡ inner.old.table_id }
+    ensures seat { (inner.new.table_id ≡ inner.old.table_id) × (inner.new.id ≡ inner.old.id) }
     ensures took { result % 2 ≡ 0 → IsHeld S.listed inner.new.me × IsSame inner.old.me.0 inner.new.me.0 × (rest inner.new.me.1 ≡ inner.old.me.1) }
     ensures not { result % 2 ≢ 0 → inner.new.me ≡ inner.old.me }
 {
@@ -94,7 +94,7 @@ pub fn grab<S: Content>(shared: &Ruled<S>, inner: &mut TableSeat<S, View>) -> u6
 #[inline]
 pub fn grab_asleep<S: Content>(shared: &Ruled<S>, inner: &mut TableSeat<S, View>) -> u64
     requires table { (inner.old.table_id ≡ shared.now.table_id) × (shared.now.table_id.words ≡ 2) }
-    ensures table { inner.new.table_id ≡ inner.old.table_id }
+    ensures seat { (inner.new.table_id ≡ inner.old.table_id) × (inner.new.id ≡ inner.old.id) }
     ensures took { result % 2 ≡ 0 → IsHeld S.listed inner.new.me × IsSame inner.old.me.0 inner.new.me.0 × (rest inner.new.me.1 ≡ inner.old.me.1) }
     ensures not { result % 2 ≢ 0 → inner.new.me ≡ inner.old.me }
 {
@@ -112,7 +112,7 @@ pub fn give_joined<S: Content, N: Numbered>(
     requires table { (inner.old.table_id ≡ shared.now.table_id) × (shared.now.table_id.words ≡ 2) × (shared.now.table_id.slots ≡ 1) }
     requires list { CanJoin S.listed inner.old.me new (N.number entry.now) }
     requires away { inner.old.me.0.listed ≡ false }
-    ensures table { inner.new.table_id ≡ inner.old.table_id }
+    ensures seat { (inner.new.table_id ≡ inner.old.table_id) × (inner.new.id ≡ inner.old.id) }
     ensures step { inner.new.me ≡ (joined_of (N.number entry.now) inner.old.me.0, rest inner.old.me.1) }
 {
     let _ = entry;
@@ -125,7 +125,7 @@ pub fn give_gone<S: Content>(shared: &Ruled<S>, inner: &mut TableSeat<S, View>, 
     requires table { (inner.old.table_id ≡ shared.now.table_id) × (shared.now.table_id.words ≡ 2) × (shared.now.table_id.slots ≡ 1) }
     requires list { CanLeave S.listed inner.old.me new }
     requires stands { inner.old.me.0.listed ≡ true }
-    ensures table { inner.new.table_id ≡ inner.old.table_id }
+    ensures seat { (inner.new.table_id ≡ inner.old.table_id) × (inner.new.id ≡ inner.old.id) }
     ensures step { inner.new.me ≡ (gone_of inner.old.me.0, rest inner.old.me.1) }
 {
     shared.swap::<Leaves>(inner, LIST, new)
@@ -136,7 +136,7 @@ pub fn give_gone<S: Content>(shared: &Ruled<S>, inner: &mut TableSeat<S, View>, 
 pub fn give_paid<S: Content>(shared: &Ruled<S>, inner: &mut TableSeat<S, View>, new: u64) -> u64
     requires table { (inner.old.table_id ≡ shared.now.table_id) × (shared.now.table_id.words ≡ 2) × (shared.now.table_id.slots ≡ 1) }
     requires list { CanPay S.listed inner.old.me new }
-    ensures table { inner.new.table_id ≡ inner.old.table_id }
+    ensures seat { (inner.new.table_id ≡ inner.old.table_id) × (inner.new.id ≡ inner.old.id) }
     ensures step { inner.new.me ≡ (paid_of inner.old.me.0, rest inner.old.me.1) }
 {
     shared.swap::<Pays>(inner, LIST, new)
@@ -147,7 +147,7 @@ pub fn give_paid<S: Content>(shared: &Ruled<S>, inner: &mut TableSeat<S, View>, 
 pub fn give_same<S: Content>(shared: &Ruled<S>, inner: &mut TableSeat<S, View>, new: u64) -> u64
     requires table { (inner.old.table_id ≡ shared.now.table_id) × (shared.now.table_id.words ≡ 2) × (shared.now.table_id.slots ≡ 1) }
     requires list { CanStay S.listed inner.old.me new }
-    ensures table { inner.new.table_id ≡ inner.old.table_id }
+    ensures seat { (inner.new.table_id ≡ inner.old.table_id) × (inner.new.id ≡ inner.old.id) }
     ensures step { inner.new.me ≡ (back inner.old.me.0, rest inner.old.me.1) }
 {
     shared.swap::<Stays>(inner, LIST, new)

@@ -18,7 +18,7 @@ pub fn take_out<S: Content, R: Wait>(
     inner: &mut TableSeat<S, View>,
 ) -> u64
     requires table { (inner.old.table_id ≡ shared.now.table_id) × (shared.now.table_id.words ≡ 2) }
-    ensures table { inner.new.table_id ≡ inner.old.table_id }
+    ensures seat { (inner.new.table_id ≡ inner.old.table_id) × (inner.new.id ≡ inner.old.id) }
     ensures held { IsHeld S.active S.passive inner.new.me }
     ensures same { IsSame inner.old.me.0 inner.new.me.0 }
     ensures others { rest inner.new.me.1 ≡ inner.old.me.1 }
@@ -39,7 +39,7 @@ fn take_out_asleep<S: Content, R: Wait>(
     inner: &mut TableSeat<S, View>,
 ) -> u64
     requires table { (inner.old.table_id ≡ shared.now.table_id) × (shared.now.table_id.words ≡ 2) }
-    ensures table { inner.new.table_id ≡ inner.old.table_id }
+    ensures seat { (inner.new.table_id ≡ inner.old.table_id) × (inner.new.id ≡ inner.old.id) }
     ensures held { IsHeld S.active S.passive inner.new.me }
     ensures same { IsSame inner.old.me.0 inner.new.me.0 }
     ensures others { rest inner.new.me.1 ≡ inner.old.me.1 }

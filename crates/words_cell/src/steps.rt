@@ -52,7 +52,7 @@ pub const ENTRIES: u64 = 4;
 pub fn look<S: Content>(shared: &Ruled<S>, inner: &mut TableSeat<S, View>) -> u64
     requires table { (inner.old.table_id ≡ shared.now.table_id) × (shared.now.table_id.words ≡ 2) }
     requires away { inner.old.me.0.in_active ≡ false }
-    ensures table { inner.new.table_id ≡ inner.old.table_id }
+    ensures seat { (inner.new.table_id ≡ inner.old.table_id) × (inner.new.id ≡ inner.old.id) }
     ensures step { Looked inner.old.me result inner.new.me }
 {
     shared.load::<Looks>(inner, WORD)
@@ -62,7 +62,7 @@ pub fn look<S: Content>(shared: &Ruled<S>, inner: &mut TableSeat<S, View>) -> u6
 #[inline]
 pub fn claim<S: Content>(shared: &Ruled<S>, inner: &mut TableSeat<S, View>) -> u64
     requires table { (inner.old.table_id ≡ shared.now.table_id) × (shared.now.table_id.words ≡ 2) }
-    ensures table { inner.new.table_id ≡ inner.old.table_id }
+    ensures seat { (inner.new.table_id ≡ inner.old.table_id) × (inner.new.id ≡ inner.old.id) }
     ensures step { Claimed inner.old.me result inner.new.me }
 {
     shared.compare_exchange::<Claims>(inner, WORD, EMPTY, MAKING)
@@ -73,7 +73,7 @@ pub fn claim<S: Content>(shared: &Ruled<S>, inner: &mut TableSeat<S, View>) -> u
 pub fn fill<S: Content>(shared: &Ruled<S>, inner: &mut TableSeat<S, View>)
     requires table { (inner.old.table_id ≡ shared.now.table_id) × (shared.now.table_id.words ≡ 2) }
     requires makes { inner.old.me.0.makes ≡ true }
-    ensures table { inner.new.table_id ≡ inner.old.table_id }
+    ensures seat { (inner.new.table_id ≡ inner.old.table_id) × (inner.new.id ≡ inner.old.id) }
     ensures step { inner.new.me ≡ (filled_by inner.old.me.0, inner.old.me.1) }
 {
     shared.fetch_add::<Fills>(inner, WORD, 1);
@@ -84,7 +84,7 @@ pub fn fill<S: Content>(shared: &Ruled<S>, inner: &mut TableSeat<S, View>)
 pub fn empty<S: Content>(shared: &Ruled<S>, inner: &mut TableSeat<S, View>)
     requires table { (inner.old.table_id ≡ shared.now.table_id) × (shared.now.table_id.words ≡ 2) }
     requires makes { inner.old.me.0.makes ≡ true }
-    ensures table { inner.new.table_id ≡ inner.old.table_id }
+    ensures seat { (inner.new.table_id ≡ inner.old.table_id) × (inner.new.id ≡ inner.old.id) }
     ensures step { inner.new.me ≡ (emptied_by inner.old.me.0, inner.old.me.1) }
 {
     shared.fetch_sub::<Empties>(inner, WORD, 1);
@@ -94,7 +94,7 @@ pub fn empty<S: Content>(shared: &Ruled<S>, inner: &mut TableSeat<S, View>)
 #[inline]
 pub fn take<S: Content>(shared: &Ruled<S>, inner: &mut TableSeat<S, View>) -> u64
     requires table { (inner.old.table_id ≡ shared.now.table_id) × (shared.now.table_id.words ≡ 2) }
-    ensures table { inner.new.table_id ≡ inner.old.table_id }
+    ensures seat { (inner.new.table_id ≡ inner.old.table_id) × (inner.new.id ≡ inner.old.id) }
     ensures step { Took inner.old.me result inner.new.me }
 {
     shared.compare_exchange::<Takes>(inner, WORD, FULL, EMPTY)
@@ -104,7 +104,7 @@ pub fn take<S: Content>(shared: &Ruled<S>, inner: &mut TableSeat<S, View>) -> u6
 #[inline]
 pub fn peek<S: Content>(shared: &Ruled<S>, inner: &mut TableSeat<S, View>) -> u64
     requires table { (inner.old.table_id ≡ shared.now.table_id) × (shared.now.table_id.words ≡ 2) }
-    ensures table { inner.new.table_id ≡ inner.old.table_id }
+    ensures seat { (inner.new.table_id ≡ inner.old.table_id) × (inner.new.id ≡ inner.old.id) }
     ensures step { Peeked inner.old.me result inner.new.me }
 {
     shared.load::<Peeks>(inner, LIST)
@@ -114,7 +114,7 @@ pub fn peek<S: Content>(shared: &Ruled<S>, inner: &mut TableSeat<S, View>) -> u6
 #[inline]
 pub fn grab<S: Content>(shared: &Ruled<S>, inner: &mut TableSeat<S, View>) -> u64
     requires table { (inner.old.table_id ≡ shared.now.table_id) × (shared.now.table_id.words ≡ 2) }
-    ensures table { inner.new.table_id ≡ inner.old.table_id }
+    ensures seat { (inner.new.table_id ≡ inner.old.table_id) × (inner.new.id ≡ inner.old.id) }
     ensures took { result % 2 ≡ 0 → IsHeld S.active S.passive inner.new.me × IsSame inner.old.me.0 inner.new.me.0 × (rest inner.new.me.1 ≡ inner.old.me.1) }
     ensures not { result % 2 ≢ 0 → inner.new.me ≡ inner.old.me }
 {
@@ -125,7 +125,7 @@ pub fn grab<S: Content>(shared: &Ruled<S>, inner: &mut TableSeat<S, View>) -> u6
 #[inline]
 pub fn grab_asleep<S: Content>(shared: &Ruled<S>, inner: &mut TableSeat<S, View>) -> u64
     requires table { (inner.old.table_id ≡ shared.now.table_id) × (shared.now.table_id.words ≡ 2) }
-    ensures table { inner.new.table_id ≡ inner.old.table_id }
+    ensures seat { (inner.new.table_id ≡ inner.old.table_id) × (inner.new.id ≡ inner.old.id) }
     ensures took { result % 2 ≡ 0 → IsHeld S.active S.passive inner.new.me × IsSame inner.old.me.0 inner.new.me.0 × (rest inner.new.me.1 ≡ inner.old.me.1) }
     ensures not { result % 2 ≢ 0 → inner.new.me ≡ inner.old.me }
 {
@@ -143,7 +143,7 @@ pub fn give_joined_active<S: Content, N: Numbered>(
     requires table { (inner.old.table_id ≡ shared.now.table_id) × (shared.now.table_id.words ≡ 2) × (shared.now.table_id.slots ≡ 1) }
     requires lists { CanJoinActive S.active S.passive inner.old.me new (N.number entry.now) }
     requires away { (inner.old.me.0.in_active ≡ false) × (inner.old.me.0.in_passive ≡ false) }
-    ensures table { inner.new.table_id ≡ inner.old.table_id }
+    ensures seat { (inner.new.table_id ≡ inner.old.table_id) × (inner.new.id ≡ inner.old.id) }
     ensures step { inner.new.me ≡ (joined_active_of (N.number entry.now) inner.old.me.0, rest inner.old.me.1) }
 {
     let _ = entry;
@@ -161,7 +161,7 @@ pub fn give_joined_passive<S: Content, N: Numbered>(
     requires table { (inner.old.table_id ≡ shared.now.table_id) × (shared.now.table_id.words ≡ 2) × (shared.now.table_id.slots ≡ 1) }
     requires lists { CanJoinPassive S.active S.passive inner.old.me new (N.number entry.now) }
     requires away { (inner.old.me.0.in_active ≡ false) × (inner.old.me.0.in_passive ≡ false) }
-    ensures table { inner.new.table_id ≡ inner.old.table_id }
+    ensures seat { (inner.new.table_id ≡ inner.old.table_id) × (inner.new.id ≡ inner.old.id) }
     ensures step { inner.new.me ≡ (joined_passive_of (N.number entry.now) inner.old.me.0, rest inner.old.me.1) }
 {
     let _ = entry;
@@ -174,7 +174,7 @@ pub fn give_told<S: Content>(shared: &Ruled<S>, inner: &mut TableSeat<S, View>, 
     requires table { (inner.old.table_id ≡ shared.now.table_id) × (shared.now.table_id.words ≡ 2) × (shared.now.table_id.slots ≡ 1) }
     requires lists { CanHear S.active S.passive inner.old.me new }
     requires stands { inner.old.me.0.in_active ≡ true }
-    ensures table { inner.new.table_id ≡ inner.old.table_id }
+    ensures seat { (inner.new.table_id ≡ inner.old.table_id) × (inner.new.id ≡ inner.old.id) }
     ensures step { inner.new.me ≡ (told_of inner.old.me.0, rest inner.old.me.1) }
 {
     shared.swap::<Hears>(inner, LIST, new)
@@ -185,7 +185,7 @@ pub fn give_told<S: Content>(shared: &Ruled<S>, inner: &mut TableSeat<S, View>, 
 pub fn give_gone<S: Content>(shared: &Ruled<S>, inner: &mut TableSeat<S, View>, new: u64) -> u64
     requires table { (inner.old.table_id ≡ shared.now.table_id) × (shared.now.table_id.words ≡ 2) × (shared.now.table_id.slots ≡ 1) }
     requires lists { CanLeave S.active S.passive inner.old.me new }
-    ensures table { inner.new.table_id ≡ inner.old.table_id }
+    ensures seat { (inner.new.table_id ≡ inner.old.table_id) × (inner.new.id ≡ inner.old.id) }
     ensures step { inner.new.me ≡ (gone_of inner.old.me.0, rest inner.old.me.1) }
 {
     shared.swap::<Leaves>(inner, LIST, new)
@@ -196,7 +196,7 @@ pub fn give_gone<S: Content>(shared: &Ruled<S>, inner: &mut TableSeat<S, View>, 
 pub fn give_paid<S: Content>(shared: &Ruled<S>, inner: &mut TableSeat<S, View>, new: u64) -> u64
     requires table { (inner.old.table_id ≡ shared.now.table_id) × (shared.now.table_id.words ≡ 2) × (shared.now.table_id.slots ≡ 1) }
     requires lists { CanPay S.active S.passive inner.old.me new }
-    ensures table { inner.new.table_id ≡ inner.old.table_id }
+    ensures seat { (inner.new.table_id ≡ inner.old.table_id) × (inner.new.id ≡ inner.old.id) }
     ensures step { inner.new.me ≡ (paid_of inner.old.me.0, rest inner.old.me.1) }
 {
     shared.swap::<Pays>(inner, LIST, new)
@@ -211,7 +211,7 @@ pub fn give_paid_active<S: Content>(
 ) -> u64
     requires table { (inner.old.table_id ≡ shared.now.table_id) × (shared.now.table_id.words ≡ 2) × (shared.now.table_id.slots ≡ 1) }
     requires lists { CanPayActive S.active S.passive inner.old.me new }
-    ensures table { inner.new.table_id ≡ inner.old.table_id }
+    ensures seat { (inner.new.table_id ≡ inner.old.table_id) × (inner.new.id ≡ inner.old.id) }
     ensures step { inner.new.me ≡ (paid_active_of inner.old.me.0, rest inner.old.me.1) }
 {
     shared.swap::<PaysActive>(inner, LIST, new)
@@ -226,7 +226,7 @@ pub fn give_paid_passive<S: Content>(
 ) -> u64
     requires table { (inner.old.table_id ≡ shared.now.table_id) × (shared.now.table_id.words ≡ 2) × (shared.now.table_id.slots ≡ 1) }
     requires lists { CanPayPassive S.active S.passive inner.old.me new }
-    ensures table { inner.new.table_id ≡ inner.old.table_id }
+    ensures seat { (inner.new.table_id ≡ inner.old.table_id) × (inner.new.id ≡ inner.old.id) }
     ensures step { inner.new.me ≡ (paid_passive_of inner.old.me.0, rest inner.old.me.1) }
 {
     shared.swap::<PaysPassive>(inner, LIST, new)
@@ -237,7 +237,7 @@ pub fn give_paid_passive<S: Content>(
 pub fn give_same<S: Content>(shared: &Ruled<S>, inner: &mut TableSeat<S, View>, new: u64) -> u64
     requires table { (inner.old.table_id ≡ shared.now.table_id) × (shared.now.table_id.words ≡ 2) × (shared.now.table_id.slots ≡ 1) }
     requires lists { CanStay S.active S.passive inner.old.me new }
-    ensures table { inner.new.table_id ≡ inner.old.table_id }
+    ensures seat { (inner.new.table_id ≡ inner.old.table_id) × (inner.new.id ≡ inner.old.id) }
     ensures step { inner.new.me ≡ (back inner.old.me.0, rest inner.old.me.1) }
 {
     shared.swap::<Stays>(inner, LIST, new)
