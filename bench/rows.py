@@ -9,14 +9,15 @@ is a case, by which the story is played once. A heading that stands above severa
 
 tests/NAME/rows.form says how such a text reads: a line 'row ..', with the type of each field in braces; lines 'play WORDS = CODE', in
 which {N} stands for a number and ROWS for the story's; the lines 'use ..' of the module that is made; and 'in NAME', where types stand in
-another folder, or in this file of a crate. A type is an enum of these folders, whose variants are told in words, with what they carry after them; a number; or 'Woken',
-the names of all who were woken, or 'nobody'.
+another folder, or in this file of a crate. A type is an enum of these folders, whose variants are told in words, with what they carry after them; a number; a 'bool', yes or no; an 'Option'
+of one of these, which may be none; 'Text', in quotes; or 'Woken', the names of all who were woken, or 'nobody'.
 
 A file NAME.text has rows of scripts: a line '== NAME', the script, a line that ends in '=>', and what it prints. NAME.scripts stands for such a
 text of the scripts of the folder that it names, in the order of their names.
 """
 
 import glob
+import json
 import os
 import re
 
@@ -69,6 +70,15 @@ class Form:
             woken = set() if words == ['nobody'] else {word.capitalize() for word in words if word != 'and'}
             assert woken <= set(names), words
             return self.woken.format(', '.join(str(it in woken).lower() for it in names)), []
+        if kind == 'Text':
+            return json.dumps(' '.join(words)[1:-1]), []
+        if kind.startswith('Option<'):
+            if words[0] == 'none':
+                return 'None', words[1:]
+            value, rest = self.value(kind[7:-1], words)
+            return f'Some({value})', rest
+        if kind == 'bool':
+            return str(('no', 'yes').index(words[0]) == 1).lower(), words[1:]
         if kind not in self.enums:
             return str(int(words[0])), words[1:]
         for many in range(len(words), 0, -1):
