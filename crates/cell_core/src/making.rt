@@ -4,7 +4,7 @@
 
 ghost use Rattle.std.specs.Prelude.{◌≡◌, Ok, IfErr, IfNone, IfOk, IfSome, true, false};
 ghost use Rattle.futures.specs.Task.{Keeps};
-ghost use Rattle.cell_core.specs.Cells.{IsOf, IsIdle, IsMaking, IsBetween, IsSameSeat};
+ghost use Rattle.cell_core.specs.Cells.{HasFound, IsOf, IsIdle, IsMaking, IsBetween, IsSameSeat};
 ghost use Rattle.cell_core.specs.Courses.{IsEmptying, IsFilling, IsReady, claiming_from, first_poll, refusing_to_make, waiting_to_make};
 ghost use Rattle.cell_core.specs.Outcomes.{IsBySeat, OnOutcome, RestsAt, RestsSo, seat_in};
 ghost use Rattle.cell_core.specs.Purposes.{maker_of};
@@ -249,7 +249,7 @@ impl<T> RawCell<T> {
         requires places { IsFilling fill active passive }
         ensures shown { (result.0.of ≡ self.now.word.store) × IfNone result.1 (result.0.value ≡ value) }
         ensures back { IfSome result.1 (λ back. back ≡ value) }
-        ensures ended { IsOf self.now result.2 × IsSameSeat seat result.2 }
+        ensures ended { HasFound self.now result.2 × IsSameSeat seat result.2 }
     {
         let mut seat = seat;
         let (shown, back) = self.put(rt, &seat, value, fill);
