@@ -135,27 +135,34 @@ impl<T> RawCell<T> {
                 }
             }
             let at = Place::JoinActive { maker: kind, told };
-            let Ok(id) = self.join_active(rt, &mut seat, at) else {
+            let Ok(joined) = self.join_active_waking(rt, &mut seat, cx, at) else {
                 self.refuse(rt, seat, kind, told);
                 return Outcome::Refused(maker);
             };
             // Whoever ended before it joined told nobody.
             match self.claim(&mut seat, Place::ClaimListed(kind)) {
                 State::Empty => {
-                    self.leave_active(rt, &mut seat, id, Place::LeaveToMake(kind));
+                    self.leave_active(rt, &mut seat, joined.id, Place::LeaveToMake(kind));
                     return self.make(rt, cx, seat, maker);
                 }
                 State::Making => {}
                 State::Full => {
                     let value = ();
                     let at = Place::LeaveFull { maker: kind, value };
-                    self.leave_active(rt, &mut seat, id, at);
+                    self.leave_active(rt, &mut seat, joined.id, at);
                     let (value, ended) = self.found(rt, seat);
                     return Outcome::Kept(maker, value, ended);
                 }
             }
-            if let Some(whose) = self.ask_active(rt, &mut seat, id, cx, Place::AskActive(kind)) {
-                return Outcome::Pending(maker, Resting::Waits(WaitingToMake { seat, id, whose }));
+            if self.still_waits_active(rt, &mut seat, &joined, Place::AskActive(kind)) {
+                return Outcome::Pending(
+                    maker,
+                    Resting::Waits(WaitingToMake {
+                        seat,
+                        id: joined.id,
+                        whose: joined.whose,
+                    }),
+                );
             }
             told = true;
         }
