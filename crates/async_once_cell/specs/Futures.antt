@@ -80,6 +80,11 @@ abbrev pub IsSet : {T : Type 0} → Option T → Result (Bor T) T → Type 0
 IsSet value (Ok r) = value ≡ Some r.now
 IsSet value (Err v) = value ≡ Some v
 
+-- a fact of a poll that was ready
+abbrev pub OnReady : {G : Type 0} → Turn G → Type 0 → Type 0
+OnReady (Ready got) F = F
+OnReady _ F = ⊤
+
 -- how the maker failed, it promised
 abbrev pub FailsSo : {T E M : Type 0} → (M → Result T E → Type 0) → Option M → Result (Bor T) E → Type 0
 FailsSo gives maker (Ok r) = ⊤

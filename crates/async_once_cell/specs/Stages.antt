@@ -5,7 +5,7 @@ use Rattle.async_once_cell.specs.declared.task.Answer.TheVariants as answer
 use Rattle.async_once_cell.specs.declared.task.Party.{Party}
 use Rattle.async_once_cell.specs.declared.task.Party.TheVariants as parties
 use Rattle.async_once_cell.specs.declared.task.Stage.{Stage}
-use Rattle.cell_core.specs.Cells.{Cell, IsOf, IsSameSeat, Seated}
+use Rattle.cell_core.specs.Cells.{Cell, HasFound, IsOf, IsSameSeat, Seated}
 use Rattle.cell_core.specs.Outcomes.{RestsAt, RestsSo, seat_in}
 use Rattle.cell_core.specs.Purposes.{IsSetting, OnSets}
 use Rattle.lock_queue.specs.Receipts as receipts
@@ -123,14 +123,14 @@ module _ {C T E M : Type 0} (u : Purpose) (new : M → Type 0) (gives : M → Re
   Pended Sets cx old now = HasReceiptActive cell cx now.entry × (now.maker ≡ old.maker)
   Pended Makes cx old now = IsAwaiting gives needs cell cx old.maker now.maker now.entry
 
-  -- What a poll answers. Ready, the future is over. One that is over is refused as finished and stays so; else a poll is refused for memory
+  -- What a poll answers. Ready, the future is over; with the value, or with its own back, by a seat that has found the cell full, or made it so. One that is over is refused as finished and stays so; else a poll is refused for memory
   -- alone, and then the future is as when it was made, with its maker.
   abbrev pub OnAnswer : Context → Future C M → Answer T E M → Future C M → Type 0
   OnAnswer cx old answer.Pending now = (old.is_over ≡ false) × (now.is_over ≡ false) × Pended u cx old now
   OnAnswer cx old (answer.Refused Finished) now = (old.is_over ≡ true) × (now ≡ old)
   OnAnswer cx old (answer.Refused Memory) now = (old.is_over ≡ false) × (now.is_over ≡ false) × (now.entry ≡ None) × (now.maker ≡ old.maker) × IsSomeAnd now.maker new
   OnAnswer cx old (answer.Refused _) now = ⊥
-  OnAnswer cx old (answer.Value r) now = (old.is_over ≡ false) × (now.is_over ≡ true) × (now.maker ≡ None) × IsSomeAnd old.maker (λ m. gives m (Ok r.now))
-  OnAnswer cx old (answer.Back v r) now = (old.is_over ≡ false) × (now.is_over ≡ true) × (now.maker ≡ None) × IsSomeAnd old.maker (λ m. gives m (Ok v))
-  OnAnswer cx old (answer.Kept m r) now = (old.is_over ≡ false) × (now.is_over ≡ true) × (now.maker ≡ None) × (old.maker ≡ Some m) × new m
+  OnAnswer cx old (answer.Value r) now = (old.is_over ≡ false) × (now.is_over ≡ true) × (now.maker ≡ None) × IsSomeAnd old.maker (λ m. gives m (Ok r.now)) × IsSomeAnd now.ended (HasFound cell)
+  OnAnswer cx old (answer.Back v r) now = (old.is_over ≡ false) × (now.is_over ≡ true) × (now.maker ≡ None) × IsSomeAnd old.maker (λ m. gives m (Ok v)) × IsSomeAnd now.ended (HasFound cell)
+  OnAnswer cx old (answer.Kept m r) now = (old.is_over ≡ false) × (now.is_over ≡ true) × (now.maker ≡ None) × (old.maker ≡ Some m) × new m × IsSomeAnd now.ended (HasFound cell)
   OnAnswer cx old (answer.Failed e) now = (old.is_over ≡ false) × (now.is_over ≡ true) × (now.maker ≡ None) × IsSomeAnd old.maker (λ m. gives m (Err e))

@@ -1,9 +1,10 @@
 //! A future that puts a value into a cell.
 
-ghost use Rattle.std.specs.Prelude.{◌≡◌, ◌⊎◌, Some, false, true, None};
+ghost use Rattle.std.specs.Prelude.{◌≡◌, ◌⊎◌, IsSomeAnd, Some, false, true, None};
 ghost use Rattle.futures.specs.Task.{Keeps};
 ghost use Rattle.async_driver.specs.Turns.{OnPending};
-ghost use Rattle.async_once_cell.specs.Futures.{GoesOnBy, IsSet, IsTurn, OnMemory, value_in};
+ghost use Rattle.cell_core.specs.Cells.{HasFound};
+ghost use Rattle.async_once_cell.specs.Futures.{GoesOnBy, IsSet, IsTurn, OnMemory, OnReady, value_in};
 ghost use Rattle.async_once_cell.specs.Stages.{CanDrop, HasReceiptActive, maker_in};
 
 use crate::cell::OnceCell;
@@ -81,7 +82,8 @@ fn value_of<'a, T: Drop, R: Wait>(cell: &'a OnceCell<T, R>, stage: Stage<Given<T
 
 impl<'a, T: Drop, R: Wait + Clock> Set<'a, T, R> {
     /// Polls once: ready with the cell's value, which is the one that was set; ready with the value back, if the cell was full;
-    /// or pending, while another task makes the value.
+    /// or pending, while another task makes the value. It is ready by a seat of its own alone, whose last step on the cell's word found the
+    /// cell full, or made it so (`found`).
     ///
     /// It is refused as [`Refusal::Memory`](crate::Refusal) if memory for its entry was refused; then it is as when it was made, with its
     /// value in it (`memory`), and may be polled again. Once it was ready it is refused as `Refusal::Finished`, and nothing changes
@@ -96,6 +98,7 @@ impl<'a, T: Drop, R: Wait + Clock> Set<'a, T, R> {
         ensures memory { OnMemory result ((self.new.entry ≡ None) × (self.new.value ≡ self.old.value)) }
         ensures cell { self.new.cell ≡ self.old.cell }
         ensures same { GoesOnBy self.old.seat result self.new.seat self.new.ended }
+        ensures found { OnReady result (IsSomeAnd self.new.ended (HasFound self.old.cell.raw)) }
         ensures value { OnPending result (self.new.value ≡ self.old.value) }
         ensures stays { (self.new.value ≡ None) ⊎ (self.new.value ≡ self.old.value) }
         ensures receipt { OnPending result (HasReceiptActive self.old.cell.raw cx.new self.new.entry) }

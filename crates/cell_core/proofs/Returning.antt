@@ -5,7 +5,6 @@ use Rattle.words_base.specs.Lists.{Listed, Stays, Pays, PaysAll, Joins, Leaves, 
 use Rattle.words_base.proofs.Holding.{same_out}
 use Rattle.words_cell.specs.Steps.{IsHeld, Out, LeftIf, CanJoinActive, CanJoinPassive, CanHear, CanLeave, CanPay, CanPayActive, CanPayPassive, CanStay}
 use Rattle.words_cell.specs.declared.view.View.{View}
-use Rattle.lock_event.specs.declared.event.EntryId.{EntryId}
 use Rattle.lock_queue.specs.Asking.{ByHeard}
 use Rattle.cell_core.specs.Contents.{active_of, passive_of, Says, AreKept, HasJoinedActive, HasJoinedPassive, HasHeardActive, HasLeftActive, HasLeftPassive, IsOneTold, AreActiveTold, ArePassiveTold}
 use Rattle.lock_queue.specs.declared.heard.Heard.{Heard}
@@ -49,15 +48,15 @@ module _ (m : Me Lists View) (held : IsHeld active_of passive_of m) where
     pub stays : AreKept now left → CanStay active_of passive_of After n
     stays f = (left, out, active Stays f.active, passive Stays f.passive)
 
-    pub joined_active : {B : Type 0} (r : Result EntryId B) → IfOk r (λ id. HasJoinedActive now left id.number) → OnErr r (AreKept now left)
-        → MatchResult r (λ id. CanJoinActive active_of passive_of After n id.number) (λ _. CanStay active_of passive_of After n)
-    joined_active (Ok id) f g = (left, out, active (Joins id.number) f.active, passive Stays f.passive)
-    joined_active (Err b) f g = stays g
+    pub joined_active : {A B : Type 0} (number : A → ℕ) (r : Result A B) → IfOk r (λ a. HasJoinedActive now left (number a)) → OnErr r (AreKept now left)
+        → MatchResult r (λ a. CanJoinActive active_of passive_of After n (number a)) (λ _. CanStay active_of passive_of After n)
+    joined_active number (Ok a) f g = (left, out, active (Joins (number a)) f.active, passive Stays f.passive)
+    joined_active number (Err b) f g = stays g
 
-    pub joined_passive : {B : Type 0} (r : Result EntryId B) → IfOk r (λ id. HasJoinedPassive now left id.number) → OnErr r (AreKept now left)
-        → MatchResult r (λ id. CanJoinPassive active_of passive_of After n id.number) (λ _. CanStay active_of passive_of After n)
-    joined_passive (Ok id) f g = (left, out, active Stays f.active, passive (Joins id.number) f.passive)
-    joined_passive (Err b) f g = stays g
+    pub joined_passive : {A B : Type 0} (number : A → ℕ) (r : Result A B) → IfOk r (λ a. HasJoinedPassive now left (number a)) → OnErr r (AreKept now left)
+        → MatchResult r (λ a. CanJoinPassive active_of passive_of After n (number a)) (λ _. CanStay active_of passive_of After n)
+    joined_passive number (Ok a) f g = (left, out, active Stays f.active, passive (Joins (number a)) f.passive)
+    joined_passive number (Err b) f g = stays g
 
     pub left_active : (k : ℕ) → HasLeftActive now left k → (m.0.in_active ≡ true) × (m.0.in_passive ≡ false) × (m.0.entry ≡ k) → CanLeave active_of passive_of After n
     left_active k f is = (left, out, gone m.0.in_active k GoesOn m.0.active (active_of left) is.0 is.2 (active (GoesOn k) f.active), apart m.0.in_passive (Leaves m.0.entry) m.0.passive (passive_of left) is.1 (passive Stays f.passive))

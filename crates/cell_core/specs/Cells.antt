@@ -26,7 +26,7 @@ abbrev pub cell_coded : Coded Cell
 cell_coded = code_by (TableId × (Bool × (ℕ × ℕ))) (coded× table_id_coded (coded× coded_bool (coded× coded_ℕ coded_ℕ))) (λ c. (c.word.table, (c.word.start, (c.word.store, c.source)))) (λ p. record { word = record { table = p.0; start = p.1.0; store = p.1.1.0 }; source = p.1.1.1 }) (λ _. refl)
 
 -- A seat: of which table it is, and which number it has there; whether it makes, and what it owes; in which list it has an entry, of which number, and whether it has not looked since it
--- joined, or found the cell full; what its last look found, and how often it has emptied the full cell; and where it is in its program.
+-- joined, or found the cell full; what its last look found, or it made of the cell since, and how often it has emptied the full cell; and where it is in its program.
 pub record Seated : Type 0 where
   pub table : TableId
   pub id : ℕ
@@ -56,6 +56,10 @@ seated table id v course = record { table = table; id = id; makes = v.makes; owe
 abbrev pub IsOf : Cell → Seated → Type 0
 IsOf cell seat = seat.table ≡ cell.word.table
 
+-- It is one of the cell, and its last step there found the cell full, or made it so.
+abbrev pub HasFound : Cell → Seated → Type 0
+HasFound cell seat = IsOf cell seat × (seat.found ≡ 2)
+
 -- It is the same seat of its cell.
 abbrev pub IsSameSeat : Seated → Seated → Type 0
 IsSameSeat s t = t.id ≡ s.id
@@ -81,7 +85,7 @@ abbrev pub with_late : Seated → Seated
 with_late s = record s { owes = false; found = 2 }
 
 abbrev pub with_filled : Seated → Seated
-with_filled s = record s { makes = false; owes_active = true; owes_passive = true }
+with_filled s = record s { makes = false; owes_active = true; owes_passive = true; found = 2 }
 
 abbrev pub with_emptied : Seated → Seated
 with_emptied s = record s { makes = false; owes = true }

@@ -2,7 +2,7 @@
 use Rattle.std.specs.Prelude.{◌≡◌, ℕ, ⊤, Result, Ok, Err}
 use Rattle.futures.specs.Task.{Covers}
 use Rattle.futures.specs.declared.task.context.Context.{Context}
-use Rattle.cell_core.specs.Cells.{Cell, Seated, IsOf, IsSameSeat}
+use Rattle.cell_core.specs.Cells.{Cell, Seated, HasFound, IsOf, IsSameSeat}
 use Rattle.cell_core.specs.Courses.{making, waiting_to_make}
 use Rattle.cell_core.specs.Purposes.{IsAwaited, maker_of}
 use Rattle.lock_queue.specs.Receipts.{IsReceipt}
@@ -40,9 +40,9 @@ Pends {T} {E} gives needs cell cx m₀ m (Makes p) = Covers cx (needs m) × ((x 
 abbrev pub OnOutcome : {T E M : Type 0} → Purpose → (M → Type 0) → (M → Type 0) → (M → Result T E → Type 0) → (M → ℕ → Type 0) → M → Cell → Context → Outcome T E M → Type 0
 OnOutcome u new can gives needs m₀ cell cx (outcome.Pending m r) = RestsSo u new cell m r × can m × Pends gives needs cell cx m₀ m r
 OnOutcome u new can gives needs m₀ cell cx (outcome.Refused m) = (m ≡ m₀) × new m
-OnOutcome u new can gives needs m₀ cell cx (outcome.Value r e) = gives m₀ (Ok r.now) × IsOf cell e
-OnOutcome u new can gives needs m₀ cell cx (outcome.Back v r e) = gives m₀ (Ok v) × IsOf cell e
-OnOutcome u new can gives needs m₀ cell cx (outcome.Kept m r e) = (m ≡ m₀) × new m × IsOf cell e
+OnOutcome u new can gives needs m₀ cell cx (outcome.Value r e) = gives m₀ (Ok r.now) × HasFound cell e
+OnOutcome u new can gives needs m₀ cell cx (outcome.Back v r e) = gives m₀ (Ok v) × HasFound cell e
+OnOutcome u new can gives needs m₀ cell cx (outcome.Kept m r e) = (m ≡ m₀) × new m × HasFound cell e
 OnOutcome u new can gives needs m₀ cell cx (outcome.Failed f e) = gives m₀ (Err f) × IsOf cell e
 
 -- Whoever waits, makes, or has come to an end does so by this seat.
@@ -58,7 +58,7 @@ IsBySeat seat (outcome.Failed f e) = IsSameSeat seat e
 abbrev pub OnWaited : {T : Type 0} → Cell → Context → Waited T → Type 0
 OnWaited cell cx (waited.Waits w) = IsOf cell w.seat × IsReceipt cell.source cx w.whose
 OnWaited cell cx waited.Refused = ⊤
-OnWaited cell cx (waited.Value r e) = IsOf cell e
+OnWaited cell cx (waited.Value r e) = HasFound cell e
 
 -- the same of one that only waits
 abbrev pub IsWaitedBySeat : {T : Type 0} → Seated → Waited T → Type 0

@@ -42,8 +42,8 @@ impl<T> RawCell<T> {
         ensures refused { OnErr result (seat.new ≡ goes at finds.NoMemory seat.old) }
     {
         let shared = &self.words.table.shared;
-        take_out(shared, rt, &mut seat.inner);
-        let (joined, word) = join_active_in(shared, &mut seat.inner, self.alloc);
+        let found = take_out(shared, rt, &mut seat.inner);
+        let (joined, word) = join_active_in(shared, &mut seat.inner, self.alloc, found);
         match joined {
             Ok(id) => {
                 let found = give_joined_active(shared, &mut seat.inner, word, &Joining { id });
@@ -74,8 +74,8 @@ impl<T> RawCell<T> {
         ensures refused { OnErr result (seat.new ≡ goes at finds.NoMemory seat.old) }
     {
         let shared = &self.words.table.shared;
-        take_out(shared, rt, &mut seat.inner);
-        let (joined, word) = join_passive_in(shared, &mut seat.inner, self.alloc);
+        let found = take_out(shared, rt, &mut seat.inner);
+        let (joined, word) = join_passive_in(shared, &mut seat.inner, self.alloc, found);
         match joined {
             Ok(id) => {
                 let found = give_joined_passive(shared, &mut seat.inner, word, &Joining { id });
@@ -110,8 +110,8 @@ impl<T> RawCell<T> {
         ensures kept { Keeps cx.old cx.new }
     {
         let shared = &self.words.table.shared;
-        take_out(shared, rt, &mut seat.inner);
-        let (heard, word) = ask_active_in(shared, &mut seat.inner, id, &self.source, cx);
+        let found = take_out(shared, rt, &mut seat.inner);
+        let (heard, word) = ask_active_in(shared, &mut seat.inner, id, &self.source, cx, found);
         match heard {
             Heard::Waits(whose) => {
                 let found = give_same(shared, &mut seat.inner, word);
@@ -146,8 +146,8 @@ impl<T> RawCell<T> {
         ensures kept { Keeps cx.old cx.new }
     {
         let shared = &self.words.table.shared;
-        take_out(shared, rt, &mut seat.inner);
-        let (heard, word) = ask_passive_in(shared, &mut seat.inner, id, &self.source, cx);
+        let found = take_out(shared, rt, &mut seat.inner);
+        let (heard, word) = ask_passive_in(shared, &mut seat.inner, id, &self.source, cx, found);
         match heard {
             Heard::Waits(whose) => {
                 let found = give_same(shared, &mut seat.inner, word);
@@ -173,8 +173,8 @@ impl<T> RawCell<T> {
         ensures { seat.new ≡ goes at finds.Done (with_gone seat.old) }
     {
         let shared = &self.words.table.shared;
-        take_out(shared, rt, &mut seat.inner);
-        let (kept, due, word) = leave_active_in(shared, &mut seat.inner, id);
+        let found = take_out(shared, rt, &mut seat.inner);
+        let (kept, due, word) = leave_active_in(shared, &mut seat.inner, id, found);
         let found = give_gone(shared, &mut seat.inner, word);
         wake_next(shared, found);
         seat.go(at, Found::Done);
@@ -190,8 +190,8 @@ impl<T> RawCell<T> {
         ensures { seat.new ≡ goes at finds.Done (with_gone seat.old) }
     {
         let shared = &self.words.table.shared;
-        take_out(shared, rt, &mut seat.inner);
-        let (kept, due, word) = leave_passive_in(shared, &mut seat.inner, id);
+        let found = take_out(shared, rt, &mut seat.inner);
+        let (kept, due, word) = leave_passive_in(shared, &mut seat.inner, id, found);
         let found = give_gone(shared, &mut seat.inner, word);
         wake_next(shared, found);
         seat.go(at, Found::Done);
@@ -206,8 +206,8 @@ impl<T> RawCell<T> {
         ensures { seat.new ≡ goes at finds.Done (with_paid seat.old) }
     {
         let shared = &self.words.table.shared;
-        take_out(shared, rt, &mut seat.inner);
-        let (due, word) = notify_active_in(shared, &mut seat.inner);
+        let found = take_out(shared, rt, &mut seat.inner);
+        let (due, word) = notify_active_in(shared, &mut seat.inner, found);
         let found = give_paid(shared, &mut seat.inner, word);
         wake_next(shared, found);
         seat.go(at, Found::Done);
@@ -221,8 +221,8 @@ impl<T> RawCell<T> {
         ensures { seat.new ≡ goes at finds.Done seat.old }
     {
         let shared = &self.words.table.shared;
-        take_out(shared, rt, &mut seat.inner);
-        let (due, word) = notify_passive_in(shared, &mut seat.inner);
+        let found = take_out(shared, rt, &mut seat.inner);
+        let (due, word) = notify_passive_in(shared, &mut seat.inner, found);
         let found = give_same(shared, &mut seat.inner, word);
         wake_next(shared, found);
         seat.go(at, Found::Done);
@@ -236,8 +236,8 @@ impl<T> RawCell<T> {
         ensures { seat.new ≡ goes at finds.Done (with_paid_active seat.old) }
     {
         let shared = &self.words.table.shared;
-        take_out(shared, rt, &mut seat.inner);
-        let (due, word) = notify_all_active_in(shared, &mut seat.inner, self.alloc);
+        let found = take_out(shared, rt, &mut seat.inner);
+        let (due, word) = notify_all_active_in(shared, &mut seat.inner, self.alloc, found);
         let found = give_paid_active(shared, &mut seat.inner, word);
         wake_next(shared, found);
         seat.go(at, Found::Done);
@@ -251,8 +251,8 @@ impl<T> RawCell<T> {
         ensures { seat.new ≡ goes at finds.Done (with_paid_passive seat.old) }
     {
         let shared = &self.words.table.shared;
-        take_out(shared, rt, &mut seat.inner);
-        let (due, word) = notify_all_passive_in(shared, &mut seat.inner, self.alloc);
+        let found = take_out(shared, rt, &mut seat.inner);
+        let (due, word) = notify_all_passive_in(shared, &mut seat.inner, self.alloc, found);
         let found = give_paid_passive(shared, &mut seat.inner, word);
         wake_next(shared, found);
         seat.go(at, Found::Done);
@@ -289,8 +289,8 @@ impl<T> RawCell<T> {
         ensures { seat.new ≡ seat.old }
     {
         let shared = &self.words.table.shared;
-        take_out(shared, rt, &mut seat.inner);
-        let (due, word) = next_due_in(shared, &mut seat.inner);
+        let found = take_out(shared, rt, &mut seat.inner);
+        let (due, word) = next_due_in(shared, &mut seat.inner, found);
         let found = give_same(shared, &mut seat.inner, word);
         wake_next(shared, found);
         due.pay().is_some()

@@ -4,6 +4,7 @@
 mod calls;
 mod cell;
 mod course;
+mod joining;
 mod list_steps;
 mod lists;
 mod maker;
@@ -16,6 +17,7 @@ mod waiting;
 mod watch;
 
 pub use cell::RawCell;
+pub use joining::Joined;
 pub use lists::Lists;
 pub use maker::{Maker, Purpose, Sealed};
 pub use seat::{Ended, Right, Seat};

@@ -13,7 +13,10 @@ use lock_event::{EntryId, Mark, Memory};
 use lock_queue::{AllDue, Due, Heard, Queue, Whose};
 use std::alloc::Global;
 use words_cell::Content;
-use words_cell::steps::ENTRIES;
+use words_cell::steps::{ENTRIES, NOTIFICATION};
+
+// How many notifications the lists' word counts at most.
+pub(crate) const MOST: u64 = 2_305_843_009_213_693_951;
 
 /// A cell's two lists.
 pub struct Lists {
@@ -51,14 +54,17 @@ impl Lists {
         }
     }
 
-    // What is to stand in their word: whether one of them has entries.
-    pub(crate) fn says(&self) -> u64
+    // What is to stand in their word, in which `found` stood: whether one of them has entries, and one notification more if one of them was
+    // notified. Where the count can't grow any more it stays.
+    pub(crate) fn says(&self, found: u64, tells: bool) -> u64
         ensures { Says self.now result }
     {
+        let told = found / NOTIFICATION;
+        let told = if tells && told < MOST { told + 1 } else { told };
         if self.active.is_empty() && self.passive.is_empty() {
-            0
+            told * NOTIFICATION
         } else {
-            ENTRIES
+            told * NOTIFICATION + ENTRIES
         }
     }
 
@@ -74,6 +80,35 @@ impl Lists {
         ensures refused { OnErr result (AreKept self.old self.new) }
     {
         self.passive.join(alloc)
+    }
+
+    // The same, with a waker of the task of `cx`.
+    pub(crate) fn join_active_waking(
+        &mut self,
+        alloc: Global,
+        source: &Source,
+        cx: &mut Context<'_>,
+    ) -> Result<(EntryId, Whose), Memory>
+        ensures joined { IfOk result (λ joined. HasJoinedActive self.old self.new joined.0.number) }
+        ensures refused { OnErr result (AreKept self.old self.new) }
+        ensures keeps { IfOk result (λ joined. IsReceipt source.now.id cx.new joined.1) }
+        ensures kept { Keeps cx.old cx.new }
+    {
+        self.active.join_waking(alloc, source, cx)
+    }
+
+    pub(crate) fn join_passive_waking(
+        &mut self,
+        alloc: Global,
+        source: &Source,
+        cx: &mut Context<'_>,
+    ) -> Result<(EntryId, Whose), Memory>
+        ensures joined { IfOk result (λ joined. HasJoinedPassive self.old self.new joined.0.number) }
+        ensures refused { OnErr result (AreKept self.old self.new) }
+        ensures keeps { IfOk result (λ joined. IsReceipt source.now.id cx.new joined.1) }
+        ensures kept { Keeps cx.old cx.new }
+    {
+        self.passive.join_waking(alloc, source, cx)
     }
 
     pub(crate) fn ask_active(
@@ -100,6 +135,19 @@ impl Lists {
         ensures kept { Keeps cx.old cx.new }
     {
         self.passive.ask(id, source, cx)
+    }
+
+    // The same, of an entry that keeps the waker that it has.
+    pub(crate) fn ask_active_again(&mut self, id: EntryId) -> Heard<()>
+        ensures { ByHeard result (HasHeardActive self.old self.new id.number) (λ _. AreKept self.old self.new) }
+    {
+        self.active.ask_again(id)
+    }
+
+    pub(crate) fn ask_passive_again(&mut self, id: EntryId) -> Heard<()>
+        ensures { ByHeard result (HasLeftPassive self.old self.new id.number) (λ _. AreKept self.old self.new) }
+    {
+        self.passive.ask_again(id)
     }
 
     pub(crate) fn leave_active(&mut self, id: EntryId) -> (Option<Waker>, Due)

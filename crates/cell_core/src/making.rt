@@ -4,7 +4,7 @@
 
 ghost use Rattle.std.specs.Prelude.{◌≡◌, Ok, IfErr, IfNone, IfOk, IfSome, true, false};
 ghost use Rattle.futures.specs.Task.{Keeps};
-ghost use Rattle.cell_core.specs.Cells.{IsOf, IsIdle, IsMaking, IsBetween, IsSameSeat};
+ghost use Rattle.cell_core.specs.Cells.{HasFound, IsOf, IsIdle, IsMaking, IsBetween, IsSameSeat};
 ghost use Rattle.cell_core.specs.Courses.{IsEmptying, IsFilling, IsReady, claiming_from, first_poll, refusing_to_make, waiting_to_make};
 ghost use Rattle.cell_core.specs.Outcomes.{IsBySeat, OnOutcome, RestsAt, RestsSo, seat_in};
 ghost use Rattle.cell_core.specs.Purposes.{maker_of};
@@ -135,27 +135,34 @@ impl<T> RawCell<T> {
                 }
             }
             let at = Place::JoinActive { maker: kind, told };
-            let Ok(id) = self.join_active(rt, &mut seat, at) else {
+            let Ok(joined) = self.join_active_waking(rt, &mut seat, cx, at) else {
                 self.refuse(rt, seat, kind, told);
                 return Outcome::Refused(maker);
             };
             // Whoever ended before it joined told nobody.
             match self.claim(&mut seat, Place::ClaimListed(kind)) {
                 State::Empty => {
-                    self.leave_active(rt, &mut seat, id, Place::LeaveToMake(kind));
+                    self.leave_active(rt, &mut seat, joined.id, Place::LeaveToMake(kind));
                     return self.make(rt, cx, seat, maker);
                 }
                 State::Making => {}
                 State::Full => {
                     let value = ();
                     let at = Place::LeaveFull { maker: kind, value };
-                    self.leave_active(rt, &mut seat, id, at);
+                    self.leave_active(rt, &mut seat, joined.id, at);
                     let (value, ended) = self.found(rt, seat);
                     return Outcome::Kept(maker, value, ended);
                 }
             }
-            if let Some(whose) = self.ask_active(rt, &mut seat, id, cx, Place::AskActive(kind)) {
-                return Outcome::Pending(maker, Resting::Waits(WaitingToMake { seat, id, whose }));
+            if self.still_waits_active(rt, &mut seat, &joined, Place::AskActive(kind)) {
+                return Outcome::Pending(
+                    maker,
+                    Resting::Waits(WaitingToMake {
+                        seat,
+                        id: joined.id,
+                        whose: joined.whose,
+                    }),
+                );
             }
             told = true;
         }
@@ -249,7 +256,7 @@ impl<T> RawCell<T> {
         requires places { IsFilling fill active passive }
         ensures shown { (result.0.of ≡ self.now.word.store) × IfNone result.1 (result.0.value ≡ value) }
         ensures back { IfSome result.1 (λ back. back ≡ value) }
-        ensures ended { IsOf self.now result.2 × IsSameSeat seat result.2 }
+        ensures ended { HasFound self.now result.2 × IsSameSeat seat result.2 }
     {
         let mut seat = seat;
         let (shown, back) = self.put(rt, &seat, value, fill);

@@ -20,7 +20,7 @@ use words_cell::{Keep, View};
 ///
 /// Contracts see: the cell's table, which of its seats it is, whether it has the right to make, whether it owes a notification of one that would make the value,
 /// of all of them, and of all that wait for it, in which list it has an entry and of which number, whether it has not looked since it
-/// joined, or found the cell full, what its last look found, and where its call is in the program. It has no `Drop`: only
+/// joined, or found the cell full, what its last look found or it made of the cell since, and where its call is in the program. It has no `Drop`: only
 /// [`Seat::end`] and [`Seat::rise`] end it, once it is outside every call, makes nothing, stands in no list, and owes nothing. This file
 /// alone makes one and takes one apart.
 pub struct Seat {

@@ -76,8 +76,9 @@ impl<T> RawCell<T> {
                 let (value, ended) = self.found(rt, seat);
                 return Waited::Value(value, ended);
             }
-            let id = match self.join_passive(rt, &mut seat, Place::JoinPassive { told }) {
-                Ok(id) => id,
+            let at = Place::JoinPassive { told };
+            let joined = match self.join_passive_waking(rt, &mut seat, cx, at) {
+                Ok(joined) => joined,
                 Err(Memory) => {
                     self.refuse_wait(rt, seat, told);
                     return Waited::Refused;
@@ -85,12 +86,16 @@ impl<T> RawCell<T> {
             };
             // Whoever filled the cell before it joined told nobody.
             if self.look(&mut seat, Place::LookListed) == State::Full {
-                self.leave_passive(rt, &mut seat, id, Place::LeavePassive(()));
+                self.leave_passive(rt, &mut seat, joined.id, Place::LeavePassive(()));
                 let (value, ended) = self.found(rt, seat);
                 return Waited::Value(value, ended);
             }
-            if let Some(whose) = self.ask_passive(rt, &mut seat, id, cx, Place::AskPassive) {
-                return Waited::Waits(Waiting { seat, id, whose });
+            if self.still_waits_passive(rt, &mut seat, &joined, Place::AskPassive) {
+                return Waited::Waits(Waiting {
+                    seat,
+                    id: joined.id,
+                    whose: joined.whose,
+                });
             }
             told = true;
         }

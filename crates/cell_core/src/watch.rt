@@ -65,8 +65,8 @@ impl<T> Watched<'_, T> {
         let cell = self.cell;
         let mut seat = cell.sit();
         let shared = &cell.words.table.shared;
-        take_out(shared, rt, &mut seat.inner);
-        let (entry, word) = entry_in(shared, &mut seat.inner, self.side, index);
+        let found = take_out(shared, rt, &mut seat.inner);
+        let (entry, word) = entry_in(shared, &mut seat.inner, self.side, index, found);
         let found = give_same(shared, &mut seat.inner, word);
         wake_next(shared, found);
         seat.rise();

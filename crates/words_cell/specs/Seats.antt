@@ -23,9 +23,9 @@ missed_of v = record v { owes = v.owes && not v.in_active; fresh = false; found 
 abbrev pub late_of : View → View
 late_of v = record v { owes = false; found = 2 }
 
--- It has made the value, and has to notify all.
+-- It has made the cell full, and has to notify all.
 abbrev pub filled_by : View → View
-filled_by v = record v { makes = false; owes_active = true; owes_passive = true; filled = v.filled + 1 }
+filled_by v = record v { makes = false; owes_active = true; owes_passive = true; found = 2; filled = v.filled + 1 }
 
 -- It has given the right to make back, and has to notify one that would make.
 abbrev pub emptied_by : View → View

@@ -47,6 +47,9 @@ pub const ASLEEP: u64 = 2;
 /// The bit of the lists' word that says that one of them may have entries.
 pub const ENTRIES: u64 = 4;
 
+/// By how much each notification raises the lists' word.
+pub const NOTIFICATION: u64 = 8;
+
 /// A look at the cell: one load.
 #[inline]
 pub fn look<S: Content>(shared: &Ruled<S>, inner: &mut TableSeat<S, View>) -> u64

@@ -25,7 +25,7 @@ pub struct View {
     pub has_lists: bool,
     /// The number of its entry.
     pub ghost entry: { ℕ },
-    /// What its last look or claim found.
+    /// What its last look or claim found, or what it made of the cell since.
     pub ghost found: { ℕ },
     /// How often it has filled the cell.
     pub ghost filled: { ℕ },
