@@ -24,10 +24,12 @@ use Rattle.async_rwlock.specs.declared.stage.Look.TheVariants as look
 use Rattle.async_rwlock.specs.declared.stage.Stage.{Stage}
 use Rattle.async_rwlock.specs.declared.stage.Stage.TheVariants.{Unowned, Waits, Finished as Over}
 
--- an entry of what a future wants next: the seat whose it is, at the lock's state or at its turn, and whose waker it keeps
+-- an entry of what a future wants next: the seat whose it is, at the lock's state or at its turn, and whose waker it keeps; and of a write
+-- that waits for readers the number of its seat of the turn, which it has
 pub record Listed : Type 0 where
   pub seat : Seated ⊎ turn.Seated
   pub keeps : Whose
+  pub turn_seat : Option ℕ
 
 -- what contracts see of a future: how far it is, and its entry at the lock
 pub record Future (O : Type 0) : Type 0 where
@@ -40,20 +42,20 @@ future stage waiting = record { stage = stage; waiting = waiting }
 -- the entry of what waits to read, for the turn, and to write
 abbrev pub reads_entry : Option WaitsToRead → Option Listed
 reads_entry None = None
-reads_entry (Some w) = Some (record { seat = inl w.seat; keeps = w.whose })
+reads_entry (Some w) = Some (record { seat = inl w.seat; keeps = w.whose; turn_seat = None })
 
 abbrev pub turn_entry : {U : Type 0} → Option (Waiting U) → Option Listed
 turn_entry None = None
-turn_entry (Some w) = Some (record { seat = inr w.seat; keeps = w.whose })
+turn_entry (Some w) = Some (record { seat = inr w.seat; keeps = w.whose; turn_seat = None })
 
 abbrev pub writes_entry : Option WaitsFor → Option Listed
 writes_entry None = None
-writes_entry (Some (waits.Turn w)) = Some (record { seat = inr w.seat; keeps = w.whose })
-writes_entry (Some (waits.Readers w held)) = Some (record { seat = inl w.seat; keeps = w.whose })
+writes_entry (Some (waits.Turn w)) = Some (record { seat = inr w.seat; keeps = w.whose; turn_seat = None })
+writes_entry (Some (waits.Readers w held)) = Some (record { seat = inl w.seat; keeps = w.whose; turn_seat = Some held.seat.id })
 
 abbrev pub upgrades_entry : {H : Type 0} → Option (WaitsToWrite × H) → Option Listed
 upgrades_entry None = None
-upgrades_entry (Some w) = Some (record { seat = inl w.0.seat; keeps = w.0.whose })
+upgrades_entry (Some w) = Some (record { seat = inl w.0.seat; keeps = w.0.whose; turn_seat = None })
 
 abbrev pub is_finished : {O : Type 0} → Stage O → Bool
 is_finished Over = true
@@ -129,23 +131,23 @@ abbrev pub OnRefused : {G : Type 0} → Turn G → Type 0 → Type 0
 OnRefused (Refused refusal) fact = fact
 OnRefused _ fact = ⊤
 
--- What was got has the seat of whoever waited; a write that waited for the writer lock has another seat of the state.
-abbrev pub GotBy : Seated ⊎ turn.Seated → Seated → Type 0
-GotBy (inl s) got = got.id ≡ s.id
-GotBy (inr s) got = ⊤
+-- What was got has the seat of whoever waited, and the turn by the same seat; what waited for the turn has that by the seat that waited.
+abbrev pub GotBy : Seated ⊎ turn.Seated → Option ℕ → Seated → Option ℕ → Type 0
+GotBy (inl s) had got has = (got.id ≡ s.id) × (has ≡ had)
+GotBy (inr s) had got has = has ≡ Some s.id
 
--- It waits by the same seat; a write that waited for the writer lock may have that now, and wait by a seat of the state.
-abbrev pub StaysBy : Seated ⊎ turn.Seated → Seated ⊎ turn.Seated → Type 0
-StaysBy (inl s) (inl t) = t.id ≡ s.id
-StaysBy (inr s) (inr t) = t.id ≡ s.id
-StaysBy (inr s) (inl t) = ⊤
-StaysBy (inl s) (inr t) = ⊥
+-- It waits by the same seat, and has the turn by the same; a write that waited for the turn may have that now, by the seat that waited.
+abbrev pub StaysBy : Seated ⊎ turn.Seated → Option ℕ → Seated ⊎ turn.Seated → Option ℕ → Type 0
+StaysBy (inl s) had (inl t) has = (t.id ≡ s.id) × (has ≡ had)
+StaysBy (inr s) had (inr t) has = t.id ≡ s.id
+StaysBy (inr s) had (inl t) has = has ≡ Some s.id
+StaysBy (inl s) had (inr t) has = ⊥
 
--- Whoever waited by this seat goes on by it.
-abbrev pub GoesOnBy : {G : Type 0} → (G → Seated) → Seated ⊎ turn.Seated → Turn G → Option Listed → Type 0
-GoesOnBy seat_of was (Ready got) entry = GotBy was (seat_of got)
-GoesOnBy seat_of was Pending entry = IsSomeAnd entry (λ e. StaysBy was e.seat)
-GoesOnBy seat_of was (Refused refusal) entry = ⊤
+-- Whoever waited by this entry goes on by its seats.
+abbrev pub GoesOnBy : {G : Type 0} → (G → Seated) → (G → Option ℕ) → Listed → Turn G → Option Listed → Type 0
+GoesOnBy seat_of turn_of was (Ready got) entry = GotBy was.seat was.turn_seat (seat_of got) (turn_of got)
+GoesOnBy seat_of turn_of was Pending entry = IsSomeAnd entry (λ e. StaysBy was.seat was.turn_seat e.seat e.turn_seat)
+GoesOnBy seat_of turn_of was (Refused refusal) entry = ⊤
 
 -- a fact of what waits
 abbrev pub OnWaits : {G W : Type 0} → Outcome G W → (W → Type 0) → Type 0

@@ -26,13 +26,13 @@ pub struct ReadGuard<T, R: Releases, O: Owns<Value = T, Runtime = R>> {
 }
 
 impl<T, R: Releases, O: Owns<Value = T, Runtime = R>> Model for ReadGuard<T, R, O> {
-    ghost use Rattle.std.specs.Prelude.{◌≡◌, false, []};
+    ghost use Rattle.std.specs.Prelude.{◌≡◌, false, [], None};
     ghost use Rattle.async_rwlock.specs.Guards.{Held};
     ghost use Rattle.access_core.specs.Accesses.{IsReading, seated};
 
     ghost Value = { Held T R };
 
-    ghost view = { λ g. record { lock = O.lock_of g.owner; value = g.glance.value; seat = seated (O.lock_of g.owner).raw.access.table g.glance.id g.glance.view } };
+    ghost view = { λ g. record { lock = O.lock_of g.owner; value = g.glance.value; seat = seated (O.lock_of g.owner).raw.access.table g.glance.id g.glance.view; turn_seat = None } };
 
     ghost invariant = { λ g. (g.glance.vault_id ≡ (O.lock_of g.owner).vault.vault_id) × (g.glance.view.has_lists ≡ false) × IsReading (seated (O.lock_of g.owner).raw.access.table g.glance.id g.glance.view) × (g.pledge.badge.views ≡ []) };
 }

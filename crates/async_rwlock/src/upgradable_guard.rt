@@ -28,7 +28,7 @@ use std::time::Clock;
 /// right: who waits to write or to read upgradably is notified.
 ///
 /// Its type keeps that its seat reads and has the lock's turn, and that the value is lent against that. Contracts see the lock,
-/// the value, and the seat with what it knows of itself.
+/// the value, the seat with what it knows of itself, and the number of its seat of the turn.
 pub struct UpgradableGuard<T, R: Releases, O: Owns<Value = T, Runtime = R>> {
     owner: O,
     glance: Glance<T>,
@@ -40,14 +40,14 @@ pub struct UpgradableGuard<T, R: Releases, O: Owns<Value = T, Runtime = R>> {
 }
 
 impl<T, R: Releases, O: Owns<Value = T, Runtime = R>> Model for UpgradableGuard<T, R, O> {
-    ghost use Rattle.std.specs.Prelude.{◌≡◌, false, []};
+    ghost use Rattle.std.specs.Prelude.{◌≡◌, false, [], Some};
     ghost use Rattle.async_rwlock.specs.Guards.{Held};
     ghost use Rattle.mutex_core.specs.Outcomes.{IsHeldOf};
     ghost use Rattle.access_core.specs.Accesses.{IsReading, seated};
 
     ghost Value = { Held T R };
 
-    ghost view = { λ g. record { lock = O.lock_of g.owner; value = g.glance.value; seat = seated (O.lock_of g.owner).raw.access.table g.glance.id g.glance.view } };
+    ghost view = { λ g. record { lock = O.lock_of g.owner; value = g.glance.value; seat = seated (O.lock_of g.owner).raw.access.table g.glance.id g.glance.view; turn_seat = Some g.turn.seat.id } };
 
     ghost invariant = { λ g. (g.glance.vault_id ≡ (O.lock_of g.owner).vault.vault_id) × (g.glance.view.has_lists ≡ false) × IsReading (seated (O.lock_of g.owner).raw.access.table g.glance.id g.glance.view) × IsHeldOf (O.lock_of g.owner).raw.turn g.turn × (g.pledge.badge.views ≡ []) };
 }
@@ -58,6 +58,7 @@ impl<T, R: Releases, O: Owns<Value = T, Runtime = R>> UpgradableGuard<T, R, O> {
         requires { IsUpgradableOf (O.lock_of owner).raw upgradable }
         ensures lock { result.lock ≡ O.lock_of owner }
         ensures seat { result.seat ≡ upgradable.seat }
+        ensures turn { result.turn_seat ≡ Some upgradable.turn.seat.id }
     {
         let Upgradable { seat, turn } = upgradable;
         let (glance, pledge) = owner.lock().lend_read(seat);
@@ -76,6 +77,7 @@ impl<T, R: Releases, O: Owns<Value = T, Runtime = R>> UpgradableGuard<T, R, O> {
         requires { At O.lock_of stage (λ raw. IsUpgradableOf raw upgradable) }
         ensures lock { IsOf O.lock_of stage result.lock }
         ensures seat { result.seat ≡ upgradable.seat }
+        ensures turn { result.turn_seat ≡ Some upgradable.turn.seat.id }
     {
         match stage {
             Stage::Waits(owner) => UpgradableGuard::new(owner, upgradable),

@@ -67,12 +67,13 @@ impl<T, R: Wait + Clock, O: Owns<Value = T, Runtime = R>> UpgradableFuture<T, R,
     /// again (`refused`). Once it was ready it is refused as [`Refusal::Finished`](crate::Refusal::Finished), and nothing changes (`turn`).
     ///
     /// Pending, it has an entry in the list of what it wants next, which keeps a waker of the task that polls (`receipt`). The task
-    /// has registered with the source of that (`registered`), and keeps what it had registered before (`kept`).
+    /// has registered with the source of that (`registered`), and keeps what it had registered before (`kept`). It waits for the turn by
+    /// one seat, from the poll that joined the list to the guard (`same`).
     #[inline]
     pub fn poll(&mut self, cx: &mut Context<'_>) -> Turn<UpgradableGuard<T, R, O>>
         ensures turn { IsTurn IsUpgradableRefusal (λ guard. IsOf O.lock_of self.old.stage guard.lock) (is_finished self.old.stage) result (is_finished self.new.stage) }
         ensures share { is_finished self.new.stage ≡ false → self.new.stage ≡ self.old.stage }
-        ensures same { IfSome self.old.waiting (λ e. GoesOnBy (λ guard. guard.seat) e.seat result self.new.waiting) }
+        ensures same { IfSome self.old.waiting (λ e. GoesOnBy (λ guard. guard.seat) (λ guard. guard.turn_seat) e result self.new.waiting) }
         ensures refused { OnRefused result (self.new.waiting ≡ None) }
         ensures receipt { OnPending result (HasReceiptAt O.lock_of self.old.stage cx.new self.new.waiting) }
         ensures registered { OnPending result (Covers cx.new (WaitsAt O.lock_of self.old.stage self.new.waiting)) }

@@ -1,6 +1,6 @@
 //! The writer.
 
-ghost use Rattle.std.specs.Prelude.{◌≡◌};
+ghost use Rattle.std.specs.Prelude.{◌≡◌, Some};
 ghost use Rattle.async_rwlock.specs.Stages.{At, IsOf};
 ghost use Rattle.access_core.specs.Accesses.{with_downgrade};
 ghost use Rattle.rwlock_core.specs.Parties.{IsWriterOf};
@@ -19,8 +19,8 @@ use std::ops::Deref;
 /// The right to write, and the value to read and write. Dropping it ends the right. It notifies the readers that wait, and one of
 /// those who wait to write or to read upgradably.
 ///
-/// Its type keeps that its seat writes, and that the value is lent against that. Contracts see the lock, the value, and the seat with
-/// what it knows of itself.
+/// Its type keeps that its seat writes, and that the value is lent against that. Contracts see the lock, the value, the seat with
+/// what it knows of itself, and the number of its seat of the turn.
 pub struct WriteGuard<T, R: Releases, O: Owns<Value = T, Runtime = R>> {
     pub(crate) owner: O,
     pub(crate) grip: Grip<T>,
@@ -32,14 +32,14 @@ pub struct WriteGuard<T, R: Releases, O: Owns<Value = T, Runtime = R>> {
 }
 
 impl<T, R: Releases, O: Owns<Value = T, Runtime = R>> Model for WriteGuard<T, R, O> {
-    ghost use Rattle.std.specs.Prelude.{◌≡◌, false, []};
+    ghost use Rattle.std.specs.Prelude.{◌≡◌, false, [], Some};
     ghost use Rattle.async_rwlock.specs.Guards.{Held};
     ghost use Rattle.mutex_core.specs.Outcomes.{IsHeldOf};
     ghost use Rattle.access_core.specs.Accesses.{IsWriting, seated};
 
     ghost Value = { Held T R };
 
-    ghost view = { λ g. record { lock = O.lock_of g.owner; value = g.grip.value; seat = seated (O.lock_of g.owner).raw.access.table g.grip.id g.grip.view } };
+    ghost view = { λ g. record { lock = O.lock_of g.owner; value = g.grip.value; seat = seated (O.lock_of g.owner).raw.access.table g.grip.id g.grip.view; turn_seat = Some g.turn.seat.id } };
 
     ghost invariant = { λ g. (g.grip.vault_id ≡ (O.lock_of g.owner).vault.vault_id) × (g.grip.view.has_lists ≡ false) × IsWriting (seated (O.lock_of g.owner).raw.access.table g.grip.id g.grip.view) × IsHeldOf (O.lock_of g.owner).raw.turn g.turn × (g.pledge.badge.views ≡ []) };
 }
@@ -50,6 +50,7 @@ impl<T, R: Releases, O: Owns<Value = T, Runtime = R>> WriteGuard<T, R, O> {
         requires { IsWriterOf (O.lock_of owner).raw writer }
         ensures lock { result.lock ≡ O.lock_of owner }
         ensures seat { result.seat ≡ writer.seat }
+        ensures turn { result.turn_seat ≡ Some writer.turn.seat.id }
     {
         let Writer { seat, turn } = writer;
         let (grip, pledge) = owner.lock().lend_write(seat);
@@ -68,6 +69,7 @@ impl<T, R: Releases, O: Owns<Value = T, Runtime = R>> WriteGuard<T, R, O> {
         requires { At O.lock_of stage (λ raw. IsWriterOf raw writer) }
         ensures lock { IsOf O.lock_of stage result.lock }
         ensures seat { result.seat ≡ writer.seat }
+        ensures turn { result.turn_seat ≡ Some writer.turn.seat.id }
     {
         match stage {
             Stage::Waits(owner) => WriteGuard::new(owner, writer),
