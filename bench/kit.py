@@ -1,9 +1,14 @@
-"""The toolchain's own command `rt` as a module, for the programs of this folder that call the prover as `rt ci` does."""
+"""The toolchain's own command `rt` as a module, for the programs of this folder that call the prover as `rt ci` does.
+
+As a program: `bench/kit.py --ci [NAME..]` does what `rt ci` does, or for the crates of these names and what is below them, and keeps what it
+proves, for a toolchain whose `rt ci` takes no name and keeps nothing. Else it does what `rt try` does.
+"""
 
 import importlib.machinery
 import importlib.util
 import os
 import shutil
+import subprocess
 import sys
 import tempfile
 import time
