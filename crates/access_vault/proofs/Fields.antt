@@ -1,4 +1,4 @@
--- The data fields of a vault and of a glance. Assumes `Logic`.
+-- The data fields of a vault and of what it gives. Assumes `Logic`.
 use Rattle.std.proofs.Common.{◌≡◌, List, [], ◌∷◌, ◌++◌, refl, ap, ◌∙◌}
 use seplogic.Ra.Ura.{Ura}
 use mir.Val.{Val, vstruct, vcons, vnil, of_list}
@@ -17,6 +17,7 @@ use Rattle.access_vault.specs.contracts.vault.Vault as vault
 use Rattle.access_vault.specs.contracts.vault.Glance as glance
 use Rattle.access_vault.specs.contracts.vault.Grip as grip
 use Rattle.access_vault.specs.contracts.vault.Renewal as renewal
+use Rattle.access_vault.specs.contracts.memo.Memo as memo
 
 abbrev pub token_val : Val
 token_val = vstruct (vcons (vstruct vnil) vnil)
@@ -63,3 +64,12 @@ module _ (R : RattleType) where
 
   pub renewal_made : {M : Type 1} {𝓤 : Ura M} (𝓛 : Logic 𝓤) → ent 𝓤 (emp 𝓤) (sem 𝓛 (RenewalData.own_val (tt, tt) (token_val ∷ [])))
   renewal_made 𝓛 = makes_shadow 𝓛 (RenewalData.own_val (tt, tt) (token_val ∷ [])) (λ vss. (tt, ((λ uss. (tt, tt)), tt))) ((vstruct vnil ∷ [], tt), (refl, ((tt, (refl, tt)), tt)))
+
+  abbrev pub MemoData : RattleType
+  MemoData = Struct (shape (memo.the_type R))
+
+  pub memo_told : (vs : List Val) → Is MemoData (tt, tt) vs → vs ≡ token_val ∷ []
+  memo_told vs is = is.1.0 ∙ ap (λ (ws : List Val). vstruct (of_list (ws ++ [])) ∷ []) is.1.1.0.1.0
+
+  pub memo_made : {M : Type 1} {𝓤 : Ura M} (𝓛 : Logic 𝓤) → ent 𝓤 (emp 𝓤) (sem 𝓛 (MemoData.own_val (tt, tt) (token_val ∷ [])))
+  memo_made 𝓛 = makes_shadow 𝓛 (MemoData.own_val (tt, tt) (token_val ∷ [])) (λ vss. (tt, ((λ uss. (tt, tt)), tt))) ((vstruct vnil ∷ [], tt), (refl, ((tt, (refl, tt)), tt)))

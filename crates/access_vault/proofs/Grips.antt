@@ -12,10 +12,10 @@ use Rattle.lock_place.specs.Held.{hold_shares}
 use Rattle.lock_place.proofs.Ages.{lends_hold}
 use seplogic.Ra.Ura.{Ura}
 use base.Fraction.{full_share}
-use base.Logic.{SProp, ent, sep, ex}
+use base.Logic.{ent, sep}
 use base.Fml.{Lft, Share, Fml}
 use types.Logic.{Logic, sem}
-use types.Kit.{‵, raw, ◌⊛◌, some, later, ◌$◌, ◌∵◌, !, qed, move, use1, split, fsplit, fsplit3, fjoin, fjoin3, fpack, pick, show, updating, await, now, done}
+use types.Kit.{‵, raw, ◌⊛◌, later, ◌$◌, ◌∵◌, !, qed, move, use1, split, fsplit, fsplit3, fjoin, fjoin3, fpack, updating, await, now, done}
 use denote.RattleType.{RattleType}
 use Rattle.lock_place.specs.Held.{hold_owns, round}
 use Rattle.lock_place.proofs.Ages.{ends}
@@ -26,16 +26,10 @@ use Rattle.access_vault.specs.Kept.{VaultId, rights, views, grip_with, grip_owns
 module _ {M : Type 1} {𝓤 : Ura M} (𝓛 : Logic 𝓤) (R : RattleType) (z : VaultId) (id : ℕ) (v : View) where
   open 𝓛 use {H, A}
 
-  abbrev pub Taken : ℕ × (ℕ × R.Denot) → SProp 𝓤
-  Taken u = sep 𝓤 (sem 𝓛 (pledge R z.room views rights z.table z.desk u.0 (writing id v))) (sem 𝓛 (stock R z.room u.1.0 full_share u.1.1))
-
-  abbrev pub Gripped : R.Denot → SProp 𝓤
-  Gripped x = sem 𝓛 (grip_owns R z id v x)
-
-  pub grips : ent 𝓤 (ex 𝓤 Taken) (H.⇛ (ex 𝓤 Gripped))
-  grips = qed 𝓛 (some (λ (u : ℕ × (ℕ × R.Denot)). ‵ (pledge R z.room views rights z.table z.desk u.0 (writing id v)) ⊛ ‵ (stock R z.room u.1.0 full_share u.1.1)) ∷ []) {P = H.⇛ (ex 𝓤 Gripped)} (updating ! $ pick ! (λ u. split ! $ move ! (1 ∷ []) $
-      fsplit3 ! $ move ! (2 ∷ []) $ fsplit ! $ move ! (2 ∷ 3 ∷ 0 ∷ []) $ fjoin3 ! $ fpack ! ℕ (round R z.room u.1.1) u.1.0 $ move ! (1 ∷ 0 ∷ []) $ fjoin ! $
-      use1 𝓛 (later (‵ (hold_owns R z.room u.1.1))) (ends 𝓛 R z.room u.1.1) $ await ! tt $ move ! (1 ∷ 0 ∷ []) $ fjoin ! $ fpack ! ℕ (grip_with R z id v u.1.1) u.0 $ now ! $ show ! Gripped u.1.1 $ done !))
+  pub grips : (x : R.Denot) (u : ℕ × ℕ) → ent 𝓤 (sep 𝓤 (sem 𝓛 (pledge R z.room views rights z.table z.desk u.0 (writing id v))) (sem 𝓛 (stock R z.room u.1 full_share x))) (H.⇛ (sem 𝓛 (grip_owns R z id v x)))
+  grips x u = qed 𝓛 (‵ (pledge R z.room views rights z.table z.desk u.0 (writing id v)) ∷ ‵ (stock R z.room u.1 full_share x) ∷ []) {P = H.⇛ (sem 𝓛 (grip_owns R z id v x))} (updating ! $ move ! (1 ∷ []) $
+      fsplit3 ! $ move ! (2 ∷ []) $ fsplit ! $ move ! (2 ∷ 3 ∷ 0 ∷ []) $ fjoin3 ! $ fpack ! ℕ (round R z.room x) u.1 $ move ! (1 ∷ 0 ∷ []) $ fjoin ! $
+      use1 𝓛 (later (‵ (hold_owns R z.room x))) (ends 𝓛 R z.room x) $ await ! tt $ move ! (1 ∷ 0 ∷ []) $ fjoin ! $ fpack ! ℕ (grip_with R z id v x) u.0 $ now ! $ done !)
 
   -- a `&` to a grip is as one to a hold: it keeps the account of the pledge
   module _ (x : R.Denot) where

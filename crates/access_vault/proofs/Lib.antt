@@ -1,5 +1,6 @@
 pub mod Fills
 pub mod Lending
+pub mod Memos
 pub mod Opens
 pub mod Glances
 pub mod Fields

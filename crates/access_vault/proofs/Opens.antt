@@ -10,6 +10,7 @@ use base.Before.{before}
 use ghost.Rules.{Toks, span}
 use types.Logic.{Logic, sem, lfts}
 use types.Tokens.{one_token}
+use types.Tokens.{name_set}
 use types.Kit.{‵, raw, ◌⊛◌, some, given, later, ◌$◌, ◌∵◌, !, qed, move, keep, drop, use1, use2, use3, split, split3, fsplit, fsplit3, fjoin, fjoin3, fpick, fpack, pick, learn, frame, updating, await, now, done}
 use denote.RattleType.{RattleType, RowLaws}
 use denote.RawPtr.{Ptr}
@@ -22,7 +23,8 @@ use types.Owned.{named_past}
 use Rattle.atomic_table.specs.Seated as table
 use Rattle.lock_place.specs.Held.{age, room_owns, room_shares, seen_owns}
 use Rattle.lock_place.proofs.Ages.{room_laws, lends_room, begins}
-use Rattle.access_vault.proofs.Lending.{calm_vault}
+use Rattle.access_vault.proofs.Lending.{calm_account}
+use Rattle.access_vault.specs.Vault.{memo, keeps, account}
 use Rattle.access_vault.specs.Kept.{VaultId, rights, views, body, inside, live, live_with, form, vault_owns, vault_shares}
 
 module _ {M : Type 1} {𝓤 : Ura M} (𝓛 : Logic 𝓤) (R : RattleType) (z : VaultId) where
@@ -65,22 +67,27 @@ module _ {M : Type 1} {𝓤 : Ura M} (𝓛 : Logic 𝓤) (R : RattleType) (L : R
   goes_live τ r i false = qed 𝓛 (‵ Room ∷ ‵ (form R z false) ∷ ‵ (flft τ r) ∷ []) {P = H.⇛ (⟦ live R z ⟧ ∗ ⟦ Room ⟧ ∗ A.lft τ r)} (updating ! $ now ! $ move ! (1 ∷ 0 ∷ []) $ done !)
   goes_live τ r i true = let α : Lft = age z.room in let X : Type 0 = (Ptr × Ptr) × (ℕ × ℕ) in qed 𝓛 (‵ Room ∷ ‵ (form R z true) ∷ ‵ (flft τ r) ∷ []) {P = H.⇛ (⟦ live R z ⟧ ∗ ⟦ Room ⟧ ∗ A.lft τ r)} (updating ! $
       move ! (1 ∷ []) $ fsplit3 ! $ fpick ! (λ x.
-      -- hold, desk, known, Room, τ
+      -- hold, blank, known, Room, τ
       move ! (3 ∷ []) $ fsplit ! $ move ! (2 ∷ 0 ∷ 5 ∷ []) $
-      -- hold, age, τ, rest of the room, desk, known
+      -- hold, age, τ, rest of the room, blank, known
       use3 𝓛 (later (‵ (seen_owns R z.room x) ⊛ ‵ (flft α full_share) ⊛ ‵ (flft τ r))) (begins 𝓛 R z.room x l shares α full_share τ r (Incl-refl α) i) $ await ! tt $ split3 ! $
-      -- seen, age, τ, rest, desk, known
+      -- seen, age, τ, rest, blank, known
       move ! (1 ∷ 3 ∷ []) $ fjoin ! $ move ! (1 ∷ []) $ fsplit ! $ move ! (1 ∷ []) $ fpick ! (λ c. fsplit3 ! $
-      -- token, sight, waits, obs, Room, τ, desk, known
+      -- token, sight, waits, obs, Room, τ, blank, known
       move ! (2 ∷ 3 ∷ []) $ fjoin ! $ move ! (2 ∷ 0 ∷ []) $ fjoin ! $ move ! (1 ∷ 0 ∷ []) $ fjoin ! $
-      -- stock, Room, τ, desk, known
-      nothing ! $ move ! (4 ∷ 0 ∷ 1 ∷ []) $
-      use3 𝓛 (‵ (inside R z)) (calm_vault 𝓛 R L z.room views rights z.table z.desk [] (c, (full_share, x)) refl refl) $
+      -- stock, Room, τ, blank, known
+      move ! (3 ∷ []) $ fsplit ! $ move ! (1 ∷ []) $ fpick ! (λ u. fsplit ! $ name_set ! tt (R.coded.code x) $
+      -- memo, seen, desk, stock, Room, τ, known
+      fpack ! R.Denot (memo R z.memo) x $ fpack ! Bool (keeps R z.memo z.turn) true $ move ! (3 ∷ 1 ∷ []) $ fjoin ! $
+      -- shared, memo, desk, Room, τ, known
+      nothing ! $ move ! (3 ∷ 0 ∷ 1 ∷ []) $
+      use3 𝓛 (‵ (account R z.room views rights z.table z.desk z.memo)) (calm_account 𝓛 R L z.room views rights z.table z.desk z.memo z.turn [] (c, (full_share, x)) refl refl) $
+      move ! (0 ∷ 1 ∷ []) $ fjoin ! $
       -- inside, Room, τ, known
       move ! (3 ∷ []) $ fpick ! (λ u. let F : Fml = fbor (table.age z.table) (body z.table u) in
       use1 𝓛 (some (λ (n : ℕ). ‵ (fnamed n F))) (𝓛.invs.inv_named F) $ pick ! (λ n. move ! (1 ∷ []) $
       use1 𝓛 (later (some (λ (m : ℕ). given (n + 1 ≤ m) (‵ (fnamed m (inside R z)))))) (named_past 𝓛 (n + 1) (inside R z)) $ await ! tt $ pick ! (λ m. learn ! (λ far.
-      nothing ! $ fpack ! (¬ (n ≡ m)) (λ _. ftrue) (λ e. omega arith) $ move ! (0 ∷ 2 ∷ 1 ∷ []) $ fjoin3 ! $ fpack ! X (live_with R z) (u, (n, m)) $ now ! $ done !)))))))
+      nothing ! $ fpack ! (¬ (n ≡ m)) (λ _. ftrue) (λ e. omega arith) $ move ! (0 ∷ 2 ∷ 1 ∷ []) $ fjoin3 ! $ fpack ! X (live_with R z) (u, (n, m)) $ now ! $ done !))))))))
 
   abbrev P : Fml
   P = vault_owns R z p

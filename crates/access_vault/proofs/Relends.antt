@@ -4,7 +4,7 @@ use seplogic.Ra.Ura.{Ura}
 use mathlib.Core.Bool.{Bool, true, false}
 use base.Fraction.{full_share}
 use base.Logic.{SProp, ent, sep, ex, emp, via, upd_i, id⊢}
-use base.Stored.{gnum}
+use base.Stored.{Gv, gnum}
 use base.Fml.{Lft, GName, Share, Fml, ftrue, feq, fsep, fseps, fex, fwand, fupd, fdead, fauth, fobs, fbor, flft, flent, finv}
 use types.Logic.{Logic, sem}
 use types.SemTy.{SemTy, Body, cells as cells_of}
@@ -23,8 +23,8 @@ use Rattle.atomic_table.specs.Seated as table
 use Rattle.lock_place.specs.Held.{RoomId, age, place, held, Placed, common, room_owns, hold_owns}
 use Rattle.lock_place.proofs.Ages.{gathers}
 use Rattle.words_access.specs.declared.view.View.{View}
-use Rattle.access_vault.specs.Vault.{Cell, desk}
-use Rattle.access_vault.specs.Kept.{VaultId, rights, views, body, known, known_with, form, vault_owns, renewal_owns}
+use Rattle.access_vault.specs.Vault.{Cell}
+use Rattle.access_vault.specs.Kept.{VaultId, body, known, known_with, blank, form, vault_owns, renewal_owns}
 use Rattle.access_vault.specs.Lent.{vault_with}
 use Rattle.access_vault.specs.contracts.vault.Vault as vault
 use Rattle.access_vault.proofs.Fields.{VaultData}
@@ -65,7 +65,7 @@ module _ (R : RattleType) (s₀ : (vault.the_row R).Denot) (id : VaultId) (table
 
   -- what it is made of again, with its hold and its age
   abbrev pub Spared : Fml
-  Spared = fsep (fsep (common R s₀.at id.room) (flent (age id.room) (held R id.room))) (fsep (desk R id.room views rights id.table id.desk []) (known id.table))
+  Spared = fsep (fsep (common R s₀.at id.room) (flent (age id.room) (held R id.room))) (fsep (blank R id) (known id.table))
 
   module _ {M : Type 1} {𝓤 : Ura M} (𝓛 : Logic 𝓤) (b o : ℕ) where
     open 𝓛 use {H, A}
@@ -94,7 +94,7 @@ module _ (R : RattleType) (s₀ : (vault.the_row R).Denot) (id : VaultId) (table
       way = qed 𝓛 (‵ Spared ∷ []) ∵ assume ! (‵ (fsep (fdead κ) (fsep Is (fsep Tok ftrue)))) $ suffices ! ⟦ Was ⟧ (upd_i 𝓤 ⟦ Was ⟧) $ fsplit3 ! $ move ! (1 ∷ []) $ fpick ! (λ s. fsplit ! $ fpick ! (λ w. fsplit3 ! $ feq_l ! (λ e.
           -- mark, hold, auth, dead, token and true, spared
           rewrite ! 2 (λ (v : Vt.Denot). ‵ (fauth γ (Vt.coded.code v))) e refl $ move ! (1 ∷ []) $ fpack ! R.Denot (hold_owns R id.room) w $ move ! (5 ∷ []) $ fsplit ! $ move ! (1 ∷ []) $ fsplit ! $
-          -- desk, known, room's rest, hold, mark, auth, dead, token and true
+          -- blank, known, room's rest, hold, mark, auth, dead, token and true
           move ! (3 ∷ 0 ∷ 1 ∷ []) $ fjoin3 ! $ fpack ! Bool (form R id) true $ move ! (5 ∷ []) $ fsplit ! $ move ! (0 ∷ 3 ∷ []) $ fjoin ! $
           -- room, true, form, mark, auth, dead
           move ! (0 ∷ 2 ∷ []) $ fjoin ! $ move ! (2 ∷ 0 ∷ []) $
@@ -115,19 +115,21 @@ module _ {M : Type 1} {𝓤 : Ura M} (𝓛 : Logic 𝓤) (R : RattleType) (p : P
       move ! (2 ∷ 0 ∷ []) $ fjoin ! $ move ! (1 ∷ []) $ nothing ! $ fpack ! (Placed R p z) (λ _. ftrue) (lies, fp.1) $ fjoin ! $ move ! (3 ∷ 0 ∷ []) $ fjoin ! $
       now ! $ keep ! (0 ∷ 1 ∷ []) $ done !))
 
-module _ {M : Type 1} {𝓤 : Ura M} (𝓛 : Logic 𝓤) (R : RattleType) (room : RoomId) (t : TableId) where
+module _ {M : Type 1} {𝓤 : Ura M} (𝓛 : Logic 𝓤) (R : RattleType) (room : RoomId) (t : TableId) (ρ : RoomId) where
   open 𝓛 use {H, A}
 
-  abbrev pub next_of : (ℕ × ℕ) × ℕ → VaultId
-  next_of u = record { room = record { block = room.block; offset = room.offset; atom = u.0.0; name = u.0.1 }; table = t; desk = u.1 }
+  abbrev pub next_of : (ℕ × ℕ) × (ℕ × ℕ) → VaultId
+  next_of u = record { room = record { block = room.block; offset = room.offset; atom = u.0.0; name = u.0.1 }; table = t; desk = u.1.0; memo = u.1.1; turn = ρ }
 
-  abbrev pub Next : (ℕ × ℕ) × ℕ → SProp 𝓤
+  abbrev pub Next : (ℕ × ℕ) × (ℕ × ℕ) → SProp 𝓤
   Next u = sem 𝓛 (renewal_owns R (next_of u))
 
   pub marks : ent 𝓤 (emp 𝓤) (H.⇛ (ex 𝓤 Next))
   marks = qed 𝓛 [] {P = H.⇛ (ex 𝓤 Next)} (updating ! $ lft_new ! tt (λ a. name_new ! tt (gnum 0) (λ n.
       use0 𝓛 (later (some (λ (δ : ℕ). ‵ (unused cells.code δ 0 idle)))) (via 𝓤 _ (entries_new halved 𝓛 0 (λ _. (full_share, cells.code idle))) (basic 𝓛 (ex 𝓤 (λ (δ : ℕ). sem 𝓛 (unused cells.code δ 0 idle))))) $ await ! tt $ pick ! (λ δ.
-      fpack ! (Cell View) (unused cells.code δ 0) idle $ move ! (1 ∷ 2 ∷ []) $ fjoin ! $ move ! (2 ∷ 0 ∷ 1 ∷ []) $ fjoin3 ! $ now ! $ show ! Next ((a, n), δ) $ done !))))
+      fpack ! (Cell View) (unused cells.code δ 0) idle $ name_new ! tt (gnum 0) (λ μ. fjoin ! $ fpack ! Gv (λ u. fsep (fobs μ u) (fauth μ u)) (gnum 0) $ move ! (1 ∷ 0 ∷ []) $ fjoin ! $
+      -- blank, sees, known, token
+      move ! (1 ∷ 2 ∷ []) $ fjoin ! $ move ! (2 ∷ 0 ∷ 1 ∷ []) $ fjoin3 ! $ now ! $ show ! Next ((a, n), (δ, μ)) $ done !)))))
 
 module _ {M : Type 1} {𝓤 : Ura M} (𝓛 : Logic 𝓤) (R : RattleType) (s₀ : (vault.the_row R).Denot) (id : VaultId) (tables : id.table ≡ s₀.vault_id.table) (lies : s₀.at ≡ place id.room) (b o : ℕ) (γ : GName) (κ : Lft) (q : Share) where
   open 𝓛 use {H, A}
@@ -154,7 +156,7 @@ module _ {M : Type 1} {𝓤 : Ura M} (𝓛 : Logic 𝓤) (R : RattleType) (s₀ 
       use1 𝓛 (later (some (λ (x : R.Denot). ‵ (strip R p (x ∷ []))))) (gathers 𝓛 R p z.room) $ await ! tt $ pick ! (λ x.
       move ! (6 ∷ []) $ fsplit3 ! $ move ! (1 ∷ []) $ fsplit ! $ move ! (4 ∷ 2 ∷ 0 ∷ 1 ∷ []) $ group ! 4 $
       use1 𝓛 (later (‵ (room_owns R p id.room) ⊛ ‵ (hold_owns R id.room x))) (deals_by 𝓛 R p id.room lies x) $ await ! tt $ split ! $
-      -- room, hold, desk, known, mark, obor, obs, auth
+      -- room, hold, blank, known, mark, obor, obs, auth
       fsplit ! $ move ! (3 ∷ 4 ∷ []) $ fjoin ! $ move ! (2 ∷ 0 ∷ []) $ fjoin ! $
       -- spared, token, hold, mark, obor, obs, auth
       use1 𝓛 (‵ (fwand (fsep (fdead κ) (fseps (Is' ∷ flft (age id.room) full_share ∷ []))) (fupd (Was R s₀ id tables 𝓛 b o γ κ)))) (way R s₀ id tables 𝓛 b o γ κ) $

@@ -1,5 +1,6 @@
 -- What a vault keeps under its invariant. A vault lends its value for reading or for writing against a seat of a table, which it keeps in pledge meanwhile. Its desk is a list of cells, one for each pledge that there ever was.
 -- While nobody writes, the value is shared for a round: a lifetime of its own, whose token is cut among those who read. Who writes has the whole token, ends the round, and begins another one before it gives the value back.
+-- What the value is has a name of its own. The vault has one half of it, which follows the value. The memo is the other half, without which nobody writes: so it knows the value whatever its owner's right is meanwhile. It waits here for the right to the writer lock's room, of which there is one.
 use Rattle.core.specs.Prelude.{◌≡◌, ◌≢◌, ℕ, zero, suc, List, [], ◌∷◌}
 use mathlib.Core.Bool.{Bool, true, false}
 use mathlib.Core.Option.{some}
@@ -9,7 +10,7 @@ use base.Fraction.{full_share, op}
 use base.Share.{three_quarters}
 use base.Stored.{Gv, gnil, Coded, coded×, coded_ℕ, coded_via}
 use base.SetCodes.{coded_share}
-use base.Fml.{Share, Fml, ftrue, fsep, fex, fbor, flent, flft, fobs}
+use base.Fml.{Share, Fml, ftrue, fsep, fex, fbor, flent, flft, fobs, fauth}
 use denote.RattleType.{RattleType}
 use Rattle.atomic_table.specs.Table.{State}
 use Rattle.atomic_table.specs.Seated.{TableId, itself, seen, roster}
@@ -99,6 +100,15 @@ module _ {V : Type 0} (c : V → Gv) (k : Rights V) (t : TableId) where
   pledges [] = ftrue
   pledges (x ∷ xs) = fsep (pledged x x.kind) (pledges xs)
 
+-- the memo of this value
+abbrev pub memo : (R : RattleType) → ℕ → R.Denot → Fml
+memo R μ x = fobs μ (R.coded.code x)
+
+-- the memo waits here, or it was given for the right to this room
+abbrev pub keeps : (R : RattleType) → ℕ → RoomId → Bool → Fml
+keeps R μ ρ true = fex R.Denot (memo R μ)
+keeps R μ ρ false = fex Gv (fobs ρ.name)
+
 module _ (R : RattleType) (z : RoomId) where
   -- the value is shared for the round a, of whose token this is the part e
   abbrev pub waits : ℕ → Fml
@@ -118,26 +128,35 @@ module _ (R : RattleType) (z : RoomId) where
     abbrev pub pledge : ℕ → Cell V → Fml
     pledge j x = seen (cell_coded cv).code δ j three_quarters x
 
-    -- nobody writes
-    abbrev pub calm_with : List (Cell V) → ℕ × (Share × R.Denot) → Fml
-    calm_with l u = fsep (fact ((number cell_writes l ≡ 0) × Fills (round_of R u.0 u.1.1) u.1.0 l)) (stock u.0 u.1.0 u.1.1)
+    module _ (μ : ℕ) where
+      -- the value is shared for a round, and known
+      abbrev pub shared : ℕ → Share → R.Denot → Fml
+      shared a e x = fsep (stock a e x) (fauth μ (R.coded.code x))
 
-    abbrev pub calm : List (Cell V) → Fml
-    calm l = fex (ℕ × (Share × R.Denot)) (calm_with l)
+      -- nobody writes
+      abbrev pub calm_with : List (Cell V) → ℕ × (Share × R.Denot) → Fml
+      calm_with l u = fsep (fact ((number cell_writes l ≡ 0) × Fills (round_of R u.0 u.1.1) u.1.0 l)) (shared u.0 u.1.0 u.1.1)
 
-    -- one writes, and has the value
-    abbrev pub busy : List (Cell V) → Fml
-    busy l = fact ((number cell_writes l ≡ 1) × (number cell_reads l ≡ 0))
+      abbrev pub calm : List (Cell V) → Fml
+      calm l = fex (ℕ × (Share × R.Denot)) (calm_with l)
 
-    abbrev pub mode : List (Cell V) → Bool → Fml
-    mode l true = calm l
-    mode l false = busy l
+      -- one writes, and has the value
+      abbrev pub busy : List (Cell V) → Fml
+      busy l = fsep (fact ((number cell_writes l ≡ 1) × (number cell_reads l ≡ 0))) (fex Gv (fauth μ))
 
-    abbrev pub vault_at : List (Cell V) → Bool → Fml
-    vault_at l b = fsep (desk l) (fsep (pledges cv.code k t l) (mode l b))
+      abbrev pub mode : List (Cell V) → Bool → Fml
+      mode l true = calm l
+      mode l false = busy l
 
-    abbrev pub either_way : List (Cell V) → Fml
-    either_way l = fex Bool (vault_at l)
+      abbrev pub account_at : List (Cell V) → Bool → Fml
+      account_at l b = fsep (desk l) (fsep (pledges cv.code k t l) (mode l b))
 
-    abbrev pub vault : Fml
-    vault = fex (List (Cell V)) either_way
+      abbrev pub either_way : List (Cell V) → Fml
+      either_way l = fex Bool (account_at l)
+
+      -- what is lent
+      abbrev pub account : Fml
+      account = fex (List (Cell V)) either_way
+
+      abbrev pub vault : RoomId → Fml
+      vault ρ = fsep account (fex Bool (keeps R μ ρ))

@@ -23,7 +23,7 @@ impl<T> Grip<T> {
 impl<T> Vault<T> {
     /// The value, to write, whatever was lent: another age begins.
     pub fn get_mut<'a>(&'a mut self, renewal: Renewal<T>) -> &'a mut T
-        requires { (renewal.vault_id.table ≡ self.old.vault_id.table) × (self.old.at ≡ place renewal.vault_id.room) }
+        requires { (renewal.vault_id.table ≡ self.old.vault_id.table) × (renewal.vault_id.turn ≡ self.old.vault_id.turn) × (self.old.at ≡ place renewal.vault_id.room) }
         ensures* { sem 𝓛 (follows (vault_row T.row) T.row self.entry.ghost_name result.ghost_name (vault_with self.old renewal.vault_id)) }
     {
         let Renewal { marker: _ } = renewal;

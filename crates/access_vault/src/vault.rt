@@ -6,9 +6,10 @@ ghost use Rattle.words_access.specs.contracts.view.View as view;
 ghost use Rattle.lock_place.specs.Held.{place, hold_shares};
 ghost use Rattle.access_vault.specs.Kept.{VaultId, vault_id_coded, vault_owns, vault_shares, renewal_owns, glance_owns, glance_shares, grip_owns};
 
+use crate::memo::Memo;
 use access_core::{AccessRule, Lists, View};
 use atomic_table::{Badge, Shared};
-use lock_place::Strip;
+use lock_place::{Room, Strip};
 use std::marker::{Model, PhantomData};
 
 /// Where the value lies, with the account of who reads and writes it.
@@ -68,7 +69,7 @@ impl<T> Model for Renewal<T> {
 impl<T> Vault<T> {
     /// The marks of another age.
     pub fn next_age(&self) -> Renewal<T>
-        ensures { (result.vault_id.table ≡ self.now.vault_id.table) × (self.now.at ≡ place result.vault_id.room) }
+        ensures { (result.vault_id.table ≡ self.now.vault_id.table) × (result.vault_id.turn ≡ self.now.vault_id.turn) × (self.now.at ≡ place result.vault_id.room) }
     {
         Renewal {
             marker: PhantomData,
@@ -77,11 +78,16 @@ impl<T> Vault<T> {
 }
 
 impl<T> Vault<T> {
-    /// A vault of a value in place, for the seats of this table.
-    pub fn deal(strip: Strip<T>, table: &Shared<Lists, View, (), AccessRule>) -> Vault<T>
+    /// A vault of a value in place, for the seats of this table, and for the right to this room of the writer lock.
+    pub fn deal(
+        strip: Strip<T>,
+        table: &Shared<Lists, View, (), AccessRule>,
+        turn: &Room<()>,
+    ) -> Vault<T>
         requires { length strip.items ≡ 1 }
-        ensures { (result.at ≡ strip.ptr) × (result.vault_id.table ≡ table.now.table_id) }
+        ensures { (result.at ≡ strip.ptr) × (result.vault_id.table ≡ table.now.table_id) × (result.vault_id.turn ≡ turn.now.room_id) }
     {
+        let _ = turn;
         let _ = table;
         let Strip { ptr: at } = strip;
         Vault { at }
@@ -95,18 +101,22 @@ impl<T> Vault<T> {
         Strip { ptr: at }
     }
 
-    /// Lends the value for writing, against a seat whose view says that it writes: the badge is blank from now on.
+    /// Lends the value for writing, against a seat whose view says that it writes: the badge is blank from now on. The value is that of the memo.
     pub fn write(
         &self,
         table: &Shared<Lists, View, (), AccessRule>,
         badge: &mut Badge<View>,
+        memo: &mut Memo<T>,
     ) -> Grip<T>
         requires table { (table.now.table_id ≡ self.now.vault_id.table) × (badge.old.table_id ≡ table.now.table_id) }
         requires writes { (v : SeatView) × (badge.old.views ≡ v ∷ []) × (v.writes ≡ true) }
-        ensures { (result.vault_id ≡ self.now.vault_id) × (result.id ≡ badge.old.id) × (badge.old.views ≡ result.view ∷ []) × (badge.new.views ≡ []) }
+        requires memo { memo.old.vault_id ≡ self.now.vault_id }
+        ensures lends { (result.vault_id ≡ self.now.vault_id) × (result.id ≡ badge.old.id) × (badge.old.views ≡ result.view ∷ []) × (badge.new.views ≡ []) }
+        ensures value { (result.value ≡ memo.old.value) × (memo.new ≡ memo.old) }
     {
         let _ = table;
         let _ = badge;
+        let _ = memo;
         Grip {
             marker: PhantomData,
         }
@@ -169,13 +179,16 @@ impl<T> Grip<T> {
         unsafe { &*vault.at }
     }
 
-    /// Gives the right back, and has the seat out of pledge: the badge that was blank meanwhile is the seat's again.
-    pub fn give_back(self, vault: &Vault<T>, badge: &mut Badge<View>)
-        requires { (self.vault_id ≡ vault.now.vault_id) × (badge.old.views ≡ []) }
-        ensures { (badge.new.table_id ≡ vault.now.vault_id.table) × (badge.new.id ≡ self.id) × (badge.new.views ≡ self.view ∷ []) }
+    /// Gives the right back, and has the seat out of pledge: the badge that was blank meanwhile is the seat's again, and the memo is of the value
+    /// that is given back.
+    pub fn give_back(self, vault: &Vault<T>, badge: &mut Badge<View>, memo: &mut Memo<T>)
+        requires { (self.vault_id ≡ vault.now.vault_id) × (badge.old.views ≡ []) × (memo.old.vault_id ≡ vault.now.vault_id) }
+        ensures redeems { (badge.new.table_id ≡ vault.now.vault_id.table) × (badge.new.id ≡ self.id) × (badge.new.views ≡ self.view ∷ []) }
+        ensures value { (memo.new.vault_id ≡ vault.now.vault_id) × (memo.new.value ≡ self.value) }
     {
         let _ = vault;
         let _ = badge;
+        let _ = memo;
         let Grip { marker: _ } = self;
     }
 }

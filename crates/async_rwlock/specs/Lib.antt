@@ -1,4 +1,5 @@
 pub mod Guards
 pub mod Lent
+pub mod Noted
 pub mod Stages
 pub mod Upgrades

@@ -78,9 +78,13 @@ HasShare (Waits owner) = ⊤
 HasShare _ = ⊥
 
 -- this holds of the lock that it waits for
+abbrev pub AtLock : {O T R : Type 0} → (O → RwLock T R) → Stage O → (RwLock T R → Type 0) → Type 0
+AtLock lock_of (Waits owner) P = P (lock_of owner)
+AtLock lock_of _ P = ⊥
+
+-- and of its words
 abbrev pub At : {O T R : Type 0} → (O → RwLock T R) → Stage O → (RawRwLock → Type 0) → Type 0
-At lock_of (Waits owner) P = P (lock_of owner).raw
-At lock_of _ P = ⊥
+At lock_of stage P = AtLock lock_of stage (λ lock. P lock.raw)
 
 -- the source with which whoever has this seat registers
 abbrev pub source_of : RawRwLock → Seated ⊎ turn.Seated → ℕ

@@ -4,7 +4,7 @@ ghost use Rattle.std.specs.Prelude.{◌≡◌, true, false, []};
 ghost use Rattle.access_core.specs.Accesses.{IsOf, seated};
 
 use crate::rwlock::RwLock;
-use access_vault::{Glance, Grip};
+use access_vault::{Glance, Grip, Memo};
 use rwlock_core::{Pledge, Seat};
 
 impl<T, R> RwLock<T, R> {
@@ -34,29 +34,32 @@ impl<T, R> RwLock<T, R> {
         self.raw.access.redeem(pledge)
     }
 
-    // Lends the value for writing, against a seat that writes.
-    pub(crate) fn lend_write(&self, seat: Seat) -> (Grip<T>, Pledge)
+    // Lends the value for writing, against a seat that writes: it is the memo's.
+    pub(crate) fn lend_write(&self, seat: Seat, memo: &mut Memo<T>) -> (Grip<T>, Pledge)
         requires of { IsOf self.now.raw.access seat }
         requires writes { seat.writes ≡ true }
+        requires memo { memo.old.vault_id ≡ self.now.vault.vault_id }
+        ensures value { (result.0.value ≡ memo.old.value) × (memo.new ≡ memo.old) }
         ensures vault { result.0.vault_id ≡ self.now.vault.vault_id }
         ensures seat { (seated self.now.raw.access.table result.0.id result.0.view ≡ seat) × (result.0.view.has_lists ≡ false) }
         ensures pledged { result.1.badge.views ≡ [] }
     {
         let access = &self.raw.access;
         let mut pledge = access.pledge(seat);
-        let grip = self.vault.write(access.shared(), &mut pledge.badge);
+        let grip = self.vault.write(access.shared(), &mut pledge.badge, memo);
         (grip, pledge)
     }
 
-    // Takes the value back that was lent for writing. The seat is what it was.
-    pub(crate) fn end_write(&self, grip: Grip<T>, pledge: Pledge) -> Seat
-        requires vault { grip.vault_id ≡ self.now.vault.vault_id }
+    // Takes the value back that was lent for writing. The seat is what it was, and the memo is of that value.
+    pub(crate) fn end_write(&self, grip: Grip<T>, pledge: Pledge, memo: &mut Memo<T>) -> Seat
+        requires vault { (grip.vault_id ≡ self.now.vault.vault_id) × (memo.old.vault_id ≡ self.now.vault.vault_id) }
         requires lists { grip.view.has_lists ≡ false }
         requires pledged { pledge.badge.views ≡ [] }
-        ensures { result ≡ seated self.now.raw.access.table grip.id grip.view }
+        ensures seat { result ≡ seated self.now.raw.access.table grip.id grip.view }
+        ensures value { (memo.new.vault_id ≡ self.now.vault.vault_id) × (memo.new.value ≡ grip.value) }
     {
         let mut pledge = pledge;
-        grip.give_back(&self.vault, &mut pledge.badge);
+        grip.give_back(&self.vault, &mut pledge.badge, memo);
         self.raw.access.redeem(pledge)
     }
 }

@@ -12,6 +12,7 @@
 mod calls;
 mod lending;
 mod lends;
+mod noted;
 mod owns;
 mod read;
 mod read_guard;

@@ -3,7 +3,7 @@
 ghost use Rattle.std.specs.Prelude.{◌≡◌, ◌≤◌, ◌%◌, ◌/◌, ◌⊎◌, MatchResult};
 ghost use Rattle.access_core.specs.Accesses.{IsOf, IsIdle, IsReading, with_downgrade};
 ghost use Rattle.mutex_core.specs.Outcomes.{IsHeldOf};
-ghost use Rattle.rwlock_core.specs.Parties.{IsReaderOf, IsUpgradableOf, IsWriterOf};
+ghost use Rattle.rwlock_core.specs.Parties.{AreSeatsOf, IsReaderOf, IsUpgradableOf, IsWriterOf};
 ghost use Rattle.rwlock_core.specs.Vain.{IsVainUpgradable, IsVainWrite};
 
 use rwlock_core::{InVain, RawRwLock, Reader, Seat, Turn, Upgradable, Writer};
@@ -48,10 +48,10 @@ pub trait Releases {
         ensures of { IsReaderOf lock.now result }
         ensures same { result.seat ≡ with_downgrade writer.seat };
 
-    /// The same, with the right to upgrade.
+    /// The same, with the right to upgrade: the turn stays.
     fn downgrade_to_upgradable(&self, lock: &RawRwLock, writer: Writer) -> Upgradable
-        requires { IsWriterOf lock.now writer }
-        ensures of { IsUpgradableOf lock.now result }
+        requires { AreSeatsOf lock.now writer.seat writer.turn }
+        ensures turn { result.turn ≡ writer.turn }
         ensures same { result.seat ≡ with_downgrade writer.seat };
 }
 

@@ -20,7 +20,7 @@ pub struct RwLock<T, R> {
     lease: SendLease<T, Global>,
     heap: Global,
     pub(crate) rt: R,
-    ghost tied: { vault.vault_id.table ≡ raw.access.table },
+    ghost tied: { (vault.vault_id.table ≡ raw.access.table) × (vault.vault_id.turn ≡ raw.turn.room) },
     ghost leased: { (lease_ptr lease.lease ≡ vault.at) × (lease_len lease.lease ≡ 1) × (lease_heap lease.lease ≡ heap) },
 }
 
@@ -54,7 +54,7 @@ impl<T: Drop, R: AllocGlobal + Drop> RwLock<T, R> {
         };
         let (mut row, lease) = reserved;
         row.put(0, value);
-        let vault = Vault::deal(Strip::of(row), raw.access.shared());
+        let vault = Vault::deal(Strip::of(row), raw.access.shared(), raw.turn.room());
         Ok(RwLock {
             raw,
             vault,

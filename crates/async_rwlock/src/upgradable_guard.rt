@@ -1,11 +1,13 @@
 //! A reader that may become the writer.
 
-ghost use Rattle.std.specs.Prelude.{◌≡◌, ◌≢◌, IfOk, IfErr, Some};
+ghost use Rattle.std.specs.Prelude.{◌≡◌, ◌≢◌, IfOk, IfErr, MatchResult, Some};
 ghost use Rattle.lock_program.specs.declared.refusal.Refusal.{Refusal};
-ghost use Rattle.access_core.specs.Accesses.{with_found, with_writing};
+ghost use Rattle.access_core.specs.Accesses.{IsOf as IsSeatOf, IsReading, with_found, with_writing};
 ghost use Rattle.rwlock_core.specs.Parties.{IsUpgradableOf};
+ghost use Rattle.async_rwlock.specs.Noted.{IsNotedOf};
 ghost use Rattle.async_rwlock.specs.Stages.{At, IsOf};
 
+use crate::noted::NotedTurn;
 use crate::owns::Owns;
 use crate::read_guard::ReadGuard;
 use crate::releases::Releases;
@@ -15,7 +17,7 @@ use crate::write_guard::WriteGuard;
 use access_vault::Glance;
 use async_driver::wait_for;
 use lock_program::Refusal;
-use rwlock_core::{Pledge, Turn, Upgradable};
+use rwlock_core::{Pledge, Seat, Upgradable, Writer};
 use std::alloc::AllocGlobal;
 use std::fmt;
 use std::marker::{Model, PhantomData};
@@ -34,22 +36,22 @@ pub struct UpgradableGuard<T, R: Releases, O: Owns<Value = T, Runtime = R>> {
     glance: Glance<T>,
     // The seat, while what it says is lent.
     pledge: Pledge,
-    // The turn.
-    turn: Turn,
+    // The turn, with the memo of the value.
+    noted: NotedTurn<T>,
     runtime: PhantomData<R>,
 }
 
 impl<T, R: Releases, O: Owns<Value = T, Runtime = R>> Model for UpgradableGuard<T, R, O> {
     ghost use Rattle.std.specs.Prelude.{◌≡◌, false, [], Some};
     ghost use Rattle.async_rwlock.specs.Guards.{Held};
-    ghost use Rattle.mutex_core.specs.Outcomes.{IsHeldOf};
+    ghost use Rattle.async_rwlock.specs.Noted.{IsNotedOf};
     ghost use Rattle.access_core.specs.Accesses.{IsReading, seated};
 
     ghost Value = { Held T R };
 
-    ghost view = { λ g. record { lock = O.lock_of g.owner; value = g.glance.value; seat = seated (O.lock_of g.owner).raw.access.table g.glance.id g.glance.view; turn_seat = Some g.turn.seat.id } };
+    ghost view = { λ g. record { lock = O.lock_of g.owner; value = g.glance.value; seat = seated (O.lock_of g.owner).raw.access.table g.glance.id g.glance.view; turn_seat = Some g.noted.turn.seat.id } };
 
-    ghost invariant = { λ g. (g.glance.vault_id ≡ (O.lock_of g.owner).vault.vault_id) × (g.glance.view.has_lists ≡ false) × IsReading (seated (O.lock_of g.owner).raw.access.table g.glance.id g.glance.view) × IsHeldOf (O.lock_of g.owner).raw.turn g.turn × (g.pledge.badge.views ≡ []) };
+    ghost invariant = { λ g. (g.glance.vault_id ≡ (O.lock_of g.owner).vault.vault_id) × (g.glance.view.has_lists ≡ false) × IsReading (seated (O.lock_of g.owner).raw.access.table g.glance.id g.glance.view) × IsNotedOf (O.lock_of g.owner) g.noted × (g.noted.memo.value ≡ g.glance.value) × (g.pledge.badge.views ≡ []) };
 }
 
 impl<T, R: Releases, O: Owns<Value = T, Runtime = R>> UpgradableGuard<T, R, O> {
@@ -61,12 +63,29 @@ impl<T, R: Releases, O: Owns<Value = T, Runtime = R>> UpgradableGuard<T, R, O> {
         ensures turn { result.turn_seat ≡ Some upgradable.turn.seat.id }
     {
         let Upgradable { seat, turn } = upgradable;
-        let (glance, pledge) = owner.lock().lend_read(seat);
+        let noted = owner.lock().lend_memo(turn);
+        UpgradableGuard::noted(owner, seat, noted)
+    }
+
+    // The guard of a seat that reads, with the turn: the value is the memo's.
+    #[inline]
+    pub(crate) fn noted(owner: O, seat: Seat, noted: NotedTurn<T>) -> UpgradableGuard<T, R, O>
+        requires of { IsSeatOf (O.lock_of owner).raw.access seat × IsNotedOf (O.lock_of owner) noted }
+        requires reads { IsReading seat }
+        ensures lock { result.lock ≡ O.lock_of owner }
+        ensures seat { result.seat ≡ seat }
+        ensures turn { result.turn_seat ≡ Some noted.turn.seat.id }
+        ensures value { result.value ≡ noted.memo.value }
+    {
+        let NotedTurn { turn, mut memo } = noted;
+        let lock = owner.lock();
+        let (mut glance, pledge) = lock.lend_read(seat);
+        memo.agrees(&mut glance, &lock.vault);
         UpgradableGuard {
             owner,
             glance,
             pledge,
-            turn,
+            noted: NotedTurn { turn, memo },
             runtime: PhantomData,
         }
     }
@@ -92,15 +111,29 @@ impl<T, R: Releases, O: Owns<Value = T, Runtime = R>> UpgradableGuard<T, R, O> {
         ensures party { IsUpgradableOf self.lock.raw result.1 }
         ensures same { result.1.seat ≡ self.seat }
     {
+        let (owner, seat, noted) = self.into_noted();
+        let turn = owner.lock().end_memo(noted);
+        (owner, Upgradable { seat, turn })
+    }
+
+    // Who has the lock, and its seat, with the turn and the memo of the value, which isn't lent any more.
+    #[inline]
+    fn into_noted(self) -> (O, Seat, NotedTurn<T>)
+        ensures owner { O.lock_of result.0 ≡ self.lock }
+        ensures of { IsSeatOf self.lock.raw.access result.1 × IsNotedOf self.lock result.2 }
+        ensures reads { IsReading result.1 }
+        ensures same { result.1 ≡ self.seat }
+        ensures value { result.2.memo.value ≡ self.value }
+    {
         let Self {
             owner,
             glance,
             pledge,
-            turn,
+            noted,
             runtime: _,
         } = self;
         let seat = owner.lock().end_read(glance, pledge);
-        (owner, Upgradable { seat, turn })
+        (owner, seat, noted)
     }
 
     /// Reads on without the right to upgrade: upgradable readers and writers that wait may go on. It is the same seat, and what it knows of
@@ -118,11 +151,11 @@ impl<T, R: Releases, O: Owns<Value = T, Runtime = R>> UpgradableGuard<T, R, O> {
             owner,
             glance,
             pledge,
-            turn,
+            noted,
             runtime,
         } = guard;
         let lock = owner.lock();
-        lock.rt.downgrade_turn(&lock.raw, turn);
+        lock.rt.downgrade_turn(&lock.raw, lock.end_memo(noted));
         ReadGuard {
             owner,
             glance,
@@ -133,7 +166,8 @@ impl<T, R: Releases, O: Owns<Value = T, Runtime = R>> UpgradableGuard<T, R, O> {
 
     /// Writes, if nobody else reads. Otherwise the guard comes back: by the contract its seat has found another reader (`beside`).
     ///
-    /// It is the same seat, by one try (`writes`, `reads`): at no time has it neither right, so nobody writes in between.
+    /// It is the same seat, by one try (`writes`, `reads`): at no time has it neither right, so nobody writes in between. The value stays
+    /// (`value`).
     ///
     /// ```
     /// let Ok(mut writer) = RwLockUpgradableReadGuard::try_upgrade(upgradable) else {
@@ -145,18 +179,24 @@ impl<T, R: Releases, O: Owns<Value = T, Runtime = R>> UpgradableGuard<T, R, O> {
         ensures writes { IfOk result (λ writer. (writer.lock ≡ guard.lock) × (writer.seat ≡ with_writing guard.seat)) }
         ensures reads { IfErr result (λ reader. (reader.lock ≡ guard.lock) × (reader.seat ≡ with_found reader.seat.found guard.seat)) }
         ensures beside { IfErr result (λ reader. reader.seat.found ≢ 2) }
+        ensures value { MatchResult result (λ writer. writer.value ≡ guard.value) (λ reader. reader.value ≡ guard.value) }
     {
-        let (owner, upgradable) = guard.into_party();
-        match owner.lock().raw.try_upgrade(upgradable) {
-            Ok(writer) => Ok(WriteGuard::new(owner, writer)),
-            Err(upgradable) => Err(UpgradableGuard::new(owner, upgradable)),
+        let (owner, seat, noted) = guard.into_noted();
+        let NotedTurn { turn, memo } = noted;
+        match owner.lock().raw.try_upgrade(Upgradable { seat, turn }) {
+            Ok(Writer { seat, turn }) => {
+                Ok(WriteGuard::noted(owner, seat, NotedTurn { turn, memo }))
+            }
+            Err(Upgradable { seat, turn }) => {
+                Err(UpgradableGuard::noted(owner, seat, NotedTurn { turn, memo }))
+            }
         }
     }
 }
 
 impl<T, R: Wait, O: Owns<Value = T, Runtime = R>> UpgradableGuard<T, R, O> {
     /// Begins to write: from now on nobody begins to read. The future is ready once no other reader is left. Until then it lends
-    /// nothing. It is the same seat, in the future and in the guard that it gives (`same`).
+    /// nothing. It is the same seat, in the future and in the guard that it gives (`same`), and the value stays (`value`).
     ///
     /// ```
     /// let upgrade = RwLockUpgradableReadGuard::upgrade(upgradable);
@@ -167,11 +207,13 @@ impl<T, R: Wait, O: Owns<Value = T, Runtime = R>> UpgradableGuard<T, R, O> {
     pub fn upgrade(guard: Self) -> UpgradeFuture<T, R, O>
         ensures lock { IsOf O.lock_of result.stage guard.lock }
         ensures same { result.seat ≡ Some guard.seat.id }
+        ensures value { result.value ≡ Some guard.value }
     {
-        let (owner, upgradable) = guard.into_party();
+        let (owner, seat, noted) = guard.into_noted();
+        let NotedTurn { turn, memo } = noted;
         let lock = owner.lock();
-        let begun = lock.raw.begin_upgrade(&lock.rt, upgradable);
-        UpgradeFuture::new(owner, begun)
+        let begun = lock.raw.begin_upgrade(&lock.rt, Upgradable { seat, turn });
+        UpgradeFuture::new(owner, begun, memo)
     }
 }
 
@@ -254,7 +296,8 @@ impl<
     O: Owns<Value = T, Runtime = R>,
 > UpgradableGuard<T, R, O> {
     /// Writes once nobody else reads, blocking the calling thread until then. It takes no memory where nobody else reads now. If it is
-    /// refused, which is for memory alone, the right is given up. It is the same seat (`same`), so nobody writes in between.
+    /// refused, which is for memory alone, the right is given up. It is the same seat (`same`), so nobody writes in between, and the value
+    /// stays (`value`).
     /// Don't call it in an async context: it blocks the thread that runs the other tasks, and may deadlock.
     ///
     /// ```
@@ -264,6 +307,7 @@ impl<
     pub fn upgrade_blocking(guard: Self) -> Result<WriteGuard<T, R, O>, Refusal>
         ensures lock { IfOk result (λ writer. writer.lock ≡ guard.lock) }
         ensures same { IfOk result (λ writer. writer.seat.id ≡ guard.seat.id) }
+        ensures value { IfOk result (λ writer. writer.value ≡ guard.value) }
         ensures memory { IfErr result (λ refusal. refusal ≡ Refusal.Memory) }
     {
         let guard = match UpgradableGuard::try_upgrade(guard) {

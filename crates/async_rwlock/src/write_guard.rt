@@ -1,17 +1,19 @@
 //! The writer.
 
 ghost use Rattle.std.specs.Prelude.{◌≡◌, Some};
+ghost use Rattle.async_rwlock.specs.Noted.{IsNotedOf};
 ghost use Rattle.async_rwlock.specs.Stages.{At, IsOf};
-ghost use Rattle.access_core.specs.Accesses.{with_downgrade};
+ghost use Rattle.access_core.specs.Accesses.{IsOf as IsSeatOf, IsWriting, with_downgrade};
 ghost use Rattle.rwlock_core.specs.Parties.{IsWriterOf};
 
+use crate::noted::NotedTurn;
 use crate::owns::Owns;
 use crate::read_guard::ReadGuard;
 use crate::releases::Releases;
 use crate::stage::Stage;
 use crate::upgradable_guard::UpgradableGuard;
 use access_vault::Grip;
-use rwlock_core::{Pledge, Turn, Writer};
+use rwlock_core::{Pledge, Seat, Upgradable, Writer};
 use std::fmt;
 use std::marker::{Model, PhantomData};
 use std::ops::Deref;
@@ -26,22 +28,22 @@ pub struct WriteGuard<T, R: Releases, O: Owns<Value = T, Runtime = R>> {
     pub(crate) grip: Grip<T>,
     // The seat, while what it says is lent.
     pledge: Pledge,
-    // The turn.
-    turn: Turn,
+    // The turn, with a memo of the value that was there first.
+    noted: NotedTurn<T>,
     runtime: PhantomData<R>,
 }
 
 impl<T, R: Releases, O: Owns<Value = T, Runtime = R>> Model for WriteGuard<T, R, O> {
     ghost use Rattle.std.specs.Prelude.{◌≡◌, false, [], Some};
     ghost use Rattle.async_rwlock.specs.Guards.{Held};
-    ghost use Rattle.mutex_core.specs.Outcomes.{IsHeldOf};
+    ghost use Rattle.async_rwlock.specs.Noted.{IsNotedOf};
     ghost use Rattle.access_core.specs.Accesses.{IsWriting, seated};
 
     ghost Value = { Held T R };
 
-    ghost view = { λ g. record { lock = O.lock_of g.owner; value = g.grip.value; seat = seated (O.lock_of g.owner).raw.access.table g.grip.id g.grip.view; turn_seat = Some g.turn.seat.id } };
+    ghost view = { λ g. record { lock = O.lock_of g.owner; value = g.grip.value; seat = seated (O.lock_of g.owner).raw.access.table g.grip.id g.grip.view; turn_seat = Some g.noted.turn.seat.id } };
 
-    ghost invariant = { λ g. (g.grip.vault_id ≡ (O.lock_of g.owner).vault.vault_id) × (g.grip.view.has_lists ≡ false) × IsWriting (seated (O.lock_of g.owner).raw.access.table g.grip.id g.grip.view) × IsHeldOf (O.lock_of g.owner).raw.turn g.turn × (g.pledge.badge.views ≡ []) };
+    ghost invariant = { λ g. (g.grip.vault_id ≡ (O.lock_of g.owner).vault.vault_id) × (g.grip.view.has_lists ≡ false) × IsWriting (seated (O.lock_of g.owner).raw.access.table g.grip.id g.grip.view) × IsNotedOf (O.lock_of g.owner) g.noted × (g.pledge.badge.views ≡ []) };
 }
 
 impl<T, R: Releases, O: Owns<Value = T, Runtime = R>> WriteGuard<T, R, O> {
@@ -53,12 +55,27 @@ impl<T, R: Releases, O: Owns<Value = T, Runtime = R>> WriteGuard<T, R, O> {
         ensures turn { result.turn_seat ≡ Some writer.turn.seat.id }
     {
         let Writer { seat, turn } = writer;
-        let (grip, pledge) = owner.lock().lend_write(seat);
+        let noted = owner.lock().lend_memo(turn);
+        WriteGuard::noted(owner, seat, noted)
+    }
+
+    // The guard of a seat that writes, with the turn: the value is the memo's.
+    #[inline]
+    pub(crate) fn noted(owner: O, seat: Seat, noted: NotedTurn<T>) -> WriteGuard<T, R, O>
+        requires of { IsSeatOf (O.lock_of owner).raw.access seat × IsNotedOf (O.lock_of owner) noted }
+        requires writes { IsWriting seat }
+        ensures lock { result.lock ≡ O.lock_of owner }
+        ensures seat { result.seat ≡ seat }
+        ensures turn { result.turn_seat ≡ Some noted.turn.seat.id }
+        ensures value { result.value ≡ noted.memo.value }
+    {
+        let NotedTurn { turn, mut memo } = noted;
+        let (grip, pledge) = owner.lock().lend_write(seat, &mut memo);
         WriteGuard {
             owner,
             grip,
             pledge,
-            turn,
+            noted: NotedTurn { turn, memo },
             runtime: PhantomData,
         }
     }
@@ -83,15 +100,30 @@ impl<T, R: Releases, O: Owns<Value = T, Runtime = R>> WriteGuard<T, R, O> {
         ensures party { IsWriterOf self.lock.raw result.1 }
         ensures same { result.1.seat ≡ self.seat }
     {
+        let (owner, seat, noted) = self.into_noted();
+        let turn = owner.lock().end_memo(noted);
+        (owner, Writer { seat, turn })
+    }
+
+    // Who has the lock, and its seat, with the turn and the memo of the value, which isn't lent any more.
+    #[inline]
+    fn into_noted(self) -> (O, Seat, NotedTurn<T>)
+        ensures owner { O.lock_of result.0 ≡ self.lock }
+        ensures of { IsSeatOf self.lock.raw.access result.1 × IsNotedOf self.lock result.2 }
+        ensures writes { IsWriting result.1 }
+        ensures same { result.1 ≡ self.seat }
+        ensures value { result.2.memo.value ≡ self.value }
+    {
         let Self {
             owner,
             grip,
             pledge,
-            turn,
+            noted,
             runtime: _,
         } = self;
-        let seat = owner.lock().end_write(grip, pledge);
-        (owner, Writer { seat, turn })
+        let NotedTurn { turn, mut memo } = noted;
+        let seat = owner.lock().end_write(grip, pledge, &mut memo);
+        (owner, seat, NotedTurn { turn, memo })
     }
 
     /// Reads in place of writing, and notifies the readers that wait. Upgradable readers and writers that wait may go on.
@@ -112,7 +144,7 @@ impl<T, R: Releases, O: Owns<Value = T, Runtime = R>> WriteGuard<T, R, O> {
     }
 
     /// Reads in place of writing, with the right to upgrade, and notifies the readers that wait. It is the same seat, by one step
-    /// (`same`).
+    /// (`same`), and the value stays (`value`).
     ///
     /// ```
     /// let upgradable = RwLockWriteGuard::downgrade_to_upgradable(writer);
@@ -120,11 +152,14 @@ impl<T, R: Releases, O: Owns<Value = T, Runtime = R>> WriteGuard<T, R, O> {
     pub fn downgrade_to_upgradable(guard: Self) -> UpgradableGuard<T, R, O>
         ensures lock { result.lock ≡ guard.lock }
         ensures same { result.seat ≡ with_downgrade guard.seat }
+        ensures value { result.value ≡ guard.value }
     {
-        let (owner, writer) = guard.into_party();
+        let (owner, seat, noted) = guard.into_noted();
+        let NotedTurn { turn, memo } = noted;
+        let writer = Writer { seat, turn };
         let lock = owner.lock();
-        let upgradable = lock.rt.downgrade_to_upgradable(&lock.raw, writer);
-        UpgradableGuard::new(owner, upgradable)
+        let Upgradable { seat, turn } = lock.rt.downgrade_to_upgradable(&lock.raw, writer);
+        UpgradableGuard::noted(owner, seat, NotedTurn { turn, memo })
     }
 }
 

@@ -36,10 +36,6 @@ module _ (raw : RawRwLock) where
   abbrev pub IsUpgradingOf : Upgrading → Type 0
   IsUpgradingOf u = IsOf raw.access u.seat × IsHeldOf raw.turn u.turn
 
-  abbrev pub IsBegunOf : Begun → Type 0
-  IsBegunOf (Writes w) = IsWriterOf w
-  IsBegunOf (Awaits u) = IsUpgradingOf u
-
   -- what a write waits for, at this lock
   abbrev pub WaitsAt : WaitsFor → Type 0
   WaitsAt (Turn w) = turn.IsOf raw.turn w.seat
@@ -50,11 +46,29 @@ module _ (raw : RawRwLock) where
   HasReceipt cx (Turn w) = IsReceipt raw.turn.source cx w.whose
   HasReceipt cx (Readers w held) = IsReceipt raw.access.source cx w.whose
 
+  -- A seat of this lock, and one of its turn that has that. The right to the turn's room may be elsewhere while they go on together.
+  abbrev pub AreSeatsOf : Seated → Held Unit → Type 0
+  AreSeatsOf s held = IsOf raw.access s × turn.IsOf raw.turn held.seat
+
+  abbrev pub IsBegunOf : Begun → Type 0
+  IsBegunOf (Writes w) = AreSeatsOf w.seat w.turn
+  IsBegunOf (Awaits u) = AreSeatsOf u.seat u.turn
+
   -- how a poll of an upgrade went
   abbrev pub OnUpgraded : Context → Upgraded → Type 0
-  OnUpgraded cx (upgraded.Got w) = IsWriterOf w
-  OnUpgraded cx (upgraded.Waits w held) = IsOf raw.access w.seat × IsHeldOf raw.turn held × IsReceipt raw.access.source cx w.whose
-  OnUpgraded cx (upgraded.NoMemory u) = IsUpgradingOf u
+  OnUpgraded cx (upgraded.Got w) = AreSeatsOf w.seat w.turn
+  OnUpgraded cx (upgraded.Waits w held) = AreSeatsOf w.seat held × IsReceipt raw.access.source cx w.whose
+  OnUpgraded cx (upgraded.NoMemory u) = AreSeatsOf u.seat u.turn
+
+-- with which turn an upgrade goes on
+abbrev pub begun_turn : Begun → Held Unit
+begun_turn (Writes w) = w.turn
+begun_turn (Awaits u) = u.turn
+
+abbrev pub upgraded_turn : Upgraded → Held Unit
+upgraded_turn (upgraded.Got w) = w.turn
+upgraded_turn (upgraded.Waits w held) = held
+upgraded_turn (upgraded.NoMemory u) = u.turn
 
 -- The seat is the same one.
 abbrev pub IsSeatOf : Seated → Seated → Type 0

@@ -9,7 +9,7 @@ ghost use Rattle.lock_program.specs.declared.end.Next.TheVariants as next;
 ghost use Rattle.sync_program.specs.declared.rwlock.Place.TheVariants as at;
 ghost use Rattle.rwlock_core.specs.Courses.{next_in, without_memory};
 ghost use Rattle.rwlock_core.specs.Outcomes.{OnAwaited};
-ghost use Rattle.rwlock_core.specs.Parties.{IsUpgradedBy, UpgradesAs, IsUpgradableOf, IsWriterOf, IsUpgradingOf, IsBegunOf, OnUpgraded, IsSameSeat};
+ghost use Rattle.rwlock_core.specs.Parties.{AreSeatsOf, IsUpgradedBy, UpgradesAs, IsUpgradingOf, IsBegunOf, OnUpgraded, IsSameSeat, begun_turn, upgraded_turn};
 
 use crate::course::Course;
 use crate::party::{Awaited, Begun, Turn, Upgradable, Upgraded, Upgrading, WaitsToWrite, Writer};
@@ -21,11 +21,12 @@ use std::sync::Wait;
 use sync_program::rwlock::{Ending, Place, RwLockCall};
 
 impl RawRwLock {
-    /// Writes in place of reading, if nobody else reads: one step of the same seat, which has a right before and after. Else it reads on.
+    /// Writes in place of reading, if nobody else reads: one step of the same seat, which has a right before and after. Else it reads on. It keeps
+    /// the turn (`turn`).
     #[inline]
     pub fn try_upgrade(&self, upgradable: Upgradable) -> Result<Writer, Upgradable>
-        requires { IsUpgradableOf self.now upgradable }
-        ensures of { MatchResult result (IsWriterOf self.now) (IsUpgradableOf self.now) }
+        requires { AreSeatsOf self.now upgradable.seat upgradable.turn }
+        ensures turn { MatchResult result (λ writer. writer.turn ≡ upgradable.turn) (λ reader. reader.turn ≡ upgradable.turn) }
         ensures writes { IfOk result (λ writer. writer.seat ≡ with_writing upgradable.seat) }
         ensures reads { IfErr result (λ reader. (reader.seat ≡ with_found reader.seat.found upgradable.seat) × (reader.seat.found ≢ 2)) }
     {
@@ -42,11 +43,12 @@ impl RawRwLock {
     }
 
     /// Sets the writer's bit in place of reading: one step of the same seat, beside which nobody else can write. It writes at once where nobody else
-    /// reads, else it waits until none does.
+    /// reads, else it waits until none does. It keeps the turn (`turn`).
     #[inline]
     pub fn begin_upgrade<R: Wait>(&self, rt: &R, upgradable: Upgradable) -> Begun
-        requires { IsUpgradableOf self.now upgradable }
+        requires { AreSeatsOf self.now upgradable.seat upgradable.turn }
         ensures of { IsBegunOf self.now result }
+        ensures turn { begun_turn result ≡ upgradable.turn }
         ensures same { IsSameSeat upgradable.seat result }
     {
         let Upgradable { mut seat, turn } = upgradable;
@@ -60,7 +62,7 @@ impl RawRwLock {
         }
     }
 
-    /// Polls an upgrade for the first time, or one that was refused.
+    /// Polls an upgrade for the first time, or one that was refused. It keeps the turn (`turn`).
     #[inline]
     pub fn poll_upgrade<R: Wait>(
         &self,
@@ -68,8 +70,9 @@ impl RawRwLock {
         cx: &mut Context<'_>,
         upgrading: Upgrading,
     ) -> Upgraded
-        requires { IsUpgradingOf self.now upgrading }
+        requires { AreSeatsOf self.now upgrading.seat upgrading.turn }
         ensures outcome { OnUpgraded self.now cx.new result }
+        ensures turn { upgraded_turn result ≡ upgrading.turn }
         ensures same { IsUpgradedBy upgrading.seat result }
         ensures kept { Keeps cx.old cx.new }
     {
@@ -80,7 +83,7 @@ impl RawRwLock {
         upgraded_so(awaited, turn, course)
     }
 
-    /// Polls an upgrade that waits.
+    /// Polls an upgrade that waits. It keeps the turn (`turn`).
     #[inline]
     pub fn poll_upgrade_later<R: Wait>(
         &self,
@@ -89,9 +92,9 @@ impl RawRwLock {
         waiting: WaitsToWrite,
         turn: Turn,
     ) -> Upgraded
-        requires seat { IsOf self.now.access waiting.seat }
-        requires turn { IsHeldOf self.now.turn turn }
+        requires { AreSeatsOf self.now waiting.seat turn }
         ensures outcome { OnUpgraded self.now cx.new result }
+        ensures turn { upgraded_turn result ≡ turn }
         ensures same { IsUpgradedBy waiting.seat result }
         ensures kept { Keeps cx.old cx.new }
     {

@@ -13,7 +13,7 @@ ghost use Rattle.lock_program.specs.declared.end.Next.TheVariants as next;
 ghost use Rattle.sync_program.specs.declared.rwlock.Place.TheVariants as at;
 ghost use Rattle.rwlock_core.specs.Courses.{next_in, without_memory};
 ghost use Rattle.rwlock_core.specs.Outcomes.{OnAwaited, OnOutcome, IsUpgradableRefusal, IsWriteRefusal};
-ghost use Rattle.rwlock_core.specs.Parties.{HasTurn, IsTaking, WaitsAs, WaitsOn, WritesAs, WritesOn, IsReaderOf, IsUpgradableOf, IsWriterOf, WaitsAt, HasReceipt};
+ghost use Rattle.rwlock_core.specs.Parties.{AreSeatsOf, HasTurn, IsTaking, WaitsAs, WaitsOn, WritesAs, WritesOn, IsReaderOf, IsUpgradableOf, IsWriterOf, WaitsAt, HasReceipt};
 ghost use Rattle.rwlock_core.specs.Vain.{IsVainUpgradable, IsVainWrite};
 
 use crate::course::Course;
@@ -361,8 +361,8 @@ impl RawRwLock {
     /// Reads in place of writing, by one step of the same seat, and keeps the turn. It notifies the first that waits to read.
     #[inline]
     pub fn downgrade_to_upgradable<R: Wait>(&self, rt: &R, writer: Writer) -> Upgradable
-        requires { IsWriterOf self.now writer }
-        ensures of { IsUpgradableOf self.now result }
+        requires { AreSeatsOf self.now writer.seat writer.turn }
+        ensures turn { result.turn ≡ writer.turn }
         ensures same { result.seat ≡ with_downgrade writer.seat }
     {
         let Writer { mut seat, turn } = writer;

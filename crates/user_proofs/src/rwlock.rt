@@ -39,6 +39,37 @@ fn downgraded_reads_agree<R: Wait>(guard: RwLockUpgradableReadGuard<'_, u64, R>)
     before == *reader
 }
 
+/// As [`reads_agree`], where the right is upgraded in between, or is tried to be.
+fn tried_reads_agree<R: Wait>(guard: RwLockUpgradableReadGuard<'_, u64, R>) -> bool
+    ensures { result ≡ true }
+{
+    let before = *guard;
+    match RwLockUpgradableReadGuard::try_upgrade(guard) {
+        Ok(writer) => before == *writer,
+        Err(reader) => before == *reader,
+    }
+}
+
+/// As [`reads_agree`], where the right is upgraded in between, once nobody else reads.
+fn upgraded_reads_agree<R: Wait + Clock + RandomSource + AllocGlobal>(
+    guard: RwLockUpgradableReadGuard<'_, u64, R>,
+) -> Result<bool, Refusal>
+    ensures { IfOk result (λ same. same ≡ true) }
+{
+    let before = *guard;
+    let writer = RwLockUpgradableReadGuard::upgrade_blocking(guard)?;
+    Ok(before == *writer)
+}
+
+/// What a writer has written is read by it after it stepped down to a reader that may be upgraded.
+fn stepped_down_reads_agree<R: Wait>(guard: RwLockWriteGuard<'_, u64, R>) -> bool
+    ensures { result ≡ true }
+{
+    let before = *guard;
+    let reader = RwLockWriteGuard::downgrade_to_upgradable(guard);
+    before == *reader
+}
+
 /// As [`reads_agree`], by the writer.
 fn writers_reads_agree<R: Wait>(guard: &RwLockWriteGuard<'_, u64, R>) -> bool
     ensures { result ≡ true }
@@ -116,8 +147,11 @@ where
     let readers_agree = reads_agree(&reader) && upgradable_reads_agree(&upgradable);
     drop(reader);
     let downgraded_agree = downgraded_reads_agree(upgradable);
+    let tried_agree = tried_reads_agree(first_to_read_upgradably(first, second)?);
+    let upgraded_agree = upgraded_reads_agree(first_to_read_upgradably(first, second)?)?;
     let writer = first_to_write(first, second)?;
-    Ok(readers_agree && downgraded_agree && writers_reads_agree(&writer))
+    let writers_agree = writers_reads_agree(&writer) && stepped_down_reads_agree(writer);
+    Ok(readers_agree && downgraded_agree && tried_agree && upgraded_agree && writers_agree)
 }
 
 fn owned<R>(rt: R, number: u64) -> Result<Arc<RwLock<u64, R>>, Refusal>

@@ -45,7 +45,7 @@ agrees_spec 𝓤 𝓛 𝓜 𝓡 wired T L =
     move ! (5 ∷ []) $ rewrite ! 0 (λ (i : VaultId). ‵ (Owns g i)) asked.0 refl $ fpick ! (λ u. fsplit3 ! $ let r : Round = round_of R u.1.1 g.value in let r' : Round = round_of R u'.1.1 g'.value in
     let w : Cell View = reading g.id g.view u.1.0 r in let w' : Cell View = reading g'.id g'.view u'.1.0 r' in
     -- account, token, sight, account', token', sight', data', data, cell', obor', obs', auth', cell, obor, obs, auth, m, κ2, others
-    move ! (16 ∷ 0 ∷ 3 ∷ []) $ use3 𝓛 (later (given (r ≡ r') (‵ (Acc u.0 w) ⊛ ‵ (Acc u'.0 w')))) (alike_now 𝓛 R (param_laws 0 T L).shr_laws z.room views rights z.table z.desk x.1.1 u.0 u'.0 w w' refl refl) $
+    move ! (16 ∷ 0 ∷ 3 ∷ []) $ use3 𝓛 (later (given (r ≡ r') (‵ (Acc u.0 w) ⊛ ‵ (Acc u'.0 w')))) (alike_now 𝓛 R (param_laws 0 T L).shr_laws z.room views rights z.table z.desk z.memo z.turn x.1.1 u.0 u'.0 w w' refl refl) $
     await ! tt $ learn ! (λ e. let shown : g.value ≡ g'.value = R.coded.inj g.value g'.value (ap (λ (s : Round). s.1) e) in split ! $
     -- account, account', token, sight, token', sight', data', data, cell', obor', obs', auth', cell, obor, obs, auth, κ2, others
     move ! (0 ∷ 2 ∷ 3 ∷ []) $ fjoin3 ! $ fpack ! (ℕ × (Share × ℕ)) (glance_with R z g.id g.view g.value) u $ rewrite ! 0 (λ (i : VaultId). ‵ (Owns g i)) (sym asked.0) refl $ move ! (5 ∷ 0 ∷ []) $ fjoin ! $

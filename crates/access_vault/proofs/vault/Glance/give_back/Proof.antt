@@ -36,7 +36,7 @@ give_back_spec 𝓤 𝓛 𝓜 𝓡 wired T L =
     use1 𝓛 (‵ (hidden_shr (VaultData R) κ (t.at, tt) b o) ⊛ ‵ (fhide (vault.the_lent R t (block_ptr b o) κ))) (lent_out 𝓛 (vault.struct R) (vault.the_codes T.Denot R.coded) (vault.the_heap R) (vault.the_lent R) κ t b o) $
     split ! $ drop ! $ unhide ! $ fsplit ! $ drop ! $ fpick ! (λ x. fsplit3 ! $ drop ! $ drop ! $ move ! (3 ∷ []) $ rewrite ! 0 (λ (i : VaultId). ‵ (glance_owns R i g.id g.view g.value)) asked.0 refl $ fpick ! (λ u. fsplit3 ! $
     join ! $ move ! (2 ∷ 0 ∷ []) $
-    use2 𝓛 (later (‵ (seat views.code rights z.table g.id g.view))) (reads_no_more 𝓛 R (param_laws 0 T L).shr_laws z.room views rights z.table z.desk x.1.1 g.id g.view u.1.0 (round_of R u.1.1 g.value) u.0) $ await ! tt $
+    use2 𝓛 (later (‵ (seat views.code rights z.table g.id g.view))) (reads_no_more 𝓛 R (param_laws 0 T L).shr_laws z.room views rights z.table z.desk z.memo z.turn x.1.1 g.id g.view u.1.0 (round_of R u.1.1 g.value) u.0) $ await ! tt $
     move ! (2 ∷ 3 ∷ 5 ∷ []) $ opens ! tt Br b' o' (λ ts. move ! (1 ∷ []) $ fsplit ! $ move ! (0 ∷ 6 ∷ 2 ∷ 3 ∷ 4 ∷ 5 ∷ []) $ fjoin ! $ move ! (1 ∷ 0 ∷ []) $
     closes ! tt Br d' ts b' o' $ feq_i ! (List Val) (vptr b' o' ∷ []) (vptr b' o' ∷ []) refl $ fjoin3 ! $ nothing ! $ move ! (1 ∷ 0 ∷ []) $ fjoin ! $ nothing ! $ fjoin ! $ nothing ! $ fjoin ! $
     move ! (1 ∷ 5 ∷ []) $ join ! $ move ! (4 ∷ 0 ∷ []) $ join ! $

@@ -24,10 +24,10 @@ get_mut_spec 𝓤 𝓛 𝓜 𝓡 wired T L =
     proved 𝓛 En hs c 𝓜 𝓡 (Goes-spent_ref 𝓛 2 (0 ∷ []) tt (plain (λ _. Row)), (Goes-dropped 𝓛 2 own no (λ κs x f. refl), tt)) (#self inst) fn closed
     (λ κs. (mut_vals, ((λ _. token_val ∷ []), tt))) (λ κs. (mut_Tells (named 0) κs.0 Row, ((λ x vs so. renewal_told R vs so.0), tt))) (λ κs qs bounds a gh are.
     let t : Row.Denot = a.0.now in let b : ℕ = a.0.ref_ptr.0 in let o : ℕ = a.0.ref_ptr.1 in let γ : ℕ = a.0.ghost_name in let κ : Lft = κs.0 in let q : Share = qs.0 in
-    let id : VaultId = a.1.0.vault_id in let i : RoomId = id.room in let p : Ptr = t.at in let D : RattleType = VaultData R in let others : Fml = fsep (flft κs.1.0 qs.1.0) ftrue in let Asked : Type 0 = (id.table ≡ t.vault_id.table) × (p ≡ place i) in
+    let id : VaultId = a.1.0.vault_id in let i : RoomId = id.room in let p : Ptr = t.at in let D : RattleType = VaultData R in let others : Fml = fsep (flft κs.1.0 qs.1.0) ftrue in let Asked : Type 0 = (id.table ≡ t.vault_id.table) × (id.turn ≡ t.vault_id.turn) × (p ≡ place i) in
     let y : (walk_of 𝓛 En hs c).Ghost = ((κs, qs, bounds, a, (vptr b o ∷ [], (token_val ∷ [], tt))), gh) in let Post : Val → SProp 𝓤 = (walk_of 𝓛 En hs c).post y in
     qed 𝓛 (((‵ (flft κ q) ⊛ ‵ others) ⊛ ‵ (owns (types_at En.signature.params κs) a y.0.4)) ∷ raw (fact 𝓤 _) ∷ raw (fact 𝓤 Asked) ∷ []) ∵
-    keep ! (2 ∷ 0 ∷ []) $ heard ! Asked (λ asked. let tables : id.table ≡ t.vault_id.table = asked.0 in let lies : p ≡ place i = asked.1 in
+    keep ! (2 ∷ 0 ∷ []) $ heard ! Asked (λ asked. let tables : id.table ≡ t.vault_id.table = asked.0 in let lies : p ≡ place i = asked.2 in
     split ! $ split ! $ move ! (2 ∷ []) $ fsplit3 ! $ fsplit3 ! $ move ! (3 ∷ []) $ fsplit ! $ keep ! (3 ∷ 4 ∷ 6 ∷ 1 ∷ 7 ∷ []) $
     -- obs, bor, κ, renewal, others
     enter ! 𝓣.C 𝓣.Λ fn (vptr b o ∷ token_val ∷ []) Post $ alloc_all ! (λ l. pass_all ! refl ((tt, tt), ((tt, (tt, tt)), tt)) $ let Ev = env fn.locals l in

@@ -30,10 +30,10 @@ next_age_spec 𝓤 𝓛 𝓜 𝓡 wired T L =
     enter ! 𝓣.C 𝓣.Λ fn (vptr b o ∷ []) Post $ alloc_all ! (λ l. pass_all ! refl ((tt, tt), tt) $
     use1 𝓛 (‵ (hidden_shr (VaultData R) κ (p, tt) b o) ⊛ ‵ (fhide (vault.the_lent R s (block_ptr b o) κ))) (lent_out 𝓛 (vault.struct R) (vault.the_codes T.Denot R.coded) (vault.the_heap R) (vault.the_lent R) κ s b o) $
     split ! $ drop ! $ unhide ! $ fsplit ! $ fsplit ! $ move ! (1 ∷ []) $ fpick ! (λ at. drop ! $ drop ! $ drop ! $
-    use0 𝓛 (later (some (λ (u : (ℕ × ℕ) × ℕ). ‵ (renewal_owns R (next_of 𝓛 R z.room z.table u))))) (marks 𝓛 R z.room z.table) $ await ! tt $ pick ! (λ u. let n : VaultId = next_of 𝓛 R z.room z.table u in
-    let r : Nx.Denot = record { marker = record {}; vault_id = n } in let Told : Type 0 = (z.table ≡ z.table) × (p ≡ place n.room) in
+    use0 𝓛 (later (some (λ (u : (ℕ × ℕ) × (ℕ × ℕ)). ‵ (renewal_owns R (next_of 𝓛 R z.room z.table z.turn u))))) (marks 𝓛 R z.room z.table z.turn) $ await ! tt $ pick ! (λ u. let n : VaultId = next_of 𝓛 R z.room z.table z.turn u in
+    let r : Nx.Denot = record { marker = record {}; vault_id = n } in let Told : Type 0 = (z.table ≡ z.table) × (z.turn ≡ z.turn) × (p ≡ place n.room) in
     use0 𝓛 (‵ ((RenewalData R).own_val (tt, tt) (token_val ∷ []))) (renewal_made R 𝓛) $ fjoin ! $
     sets ! (agg ! (no_more !)) refl (tt, tt) $ sets ! (agg ! (and_then ! (get ! refl) (no_more !))) refl (tt, (tt, tt)) $
-    use0 𝓛 (raw (fact 𝓤 Told)) (fact_i 𝓤 Told (emp 𝓤) (refl, at.0)) $ nothing ! $ nothing ! $ fjoin ! $
+    use0 𝓛 (raw (fact 𝓤 Told)) (fact_i 𝓤 Told (emp 𝓤) (refl, refl, at.0)) $ nothing ! $ nothing ! $ fjoin ! $
     -- rests, fact, value, tokens
     returns ! (look_at ! 0 refl) $ free_all ! refl $ keep ! (3 ∷ 0 ∷ 2 ∷ 1 ∷ []) $ by ! (leaves 𝓛 En hs c y token_val r (tt, tt) (tt, tt))))))

@@ -1,5 +1,5 @@
 -- The seat goes into pledge, and the value is lent for writing.
-use Rattle.atomic_table.proofs.Names.{◌≡◌, ℕ, List, [], ◌∷◌, refl, ◌∙◌, a_type, named, Val, vptr, inst_fn, SProp, emp, Lft, Fml, ftrue, fsep, flft, ‵, raw, ◌⊛◌, some, later, ◌$◌, ◌∵◌, !, qed, by, move, keep, drop, split, split3, join, fsplit, fsplit3, fjoin, fjoin3, pick, use0, use1, use3, await, rewrite, feq_i, no_more, and_then, returns, enter, alloc_all, pass_all, free_all, look_at, get, sets, agg, tables, yes, RattleType, owns, types_at, plain, block_ptr, nothing, heard, param, layouts, Stays, stay_dropped, stay_ref, walk_of, Goes-dropped, Goes-ref, fact, fact_i, RefOf, shr_vals, shr_Tells, mut_vals, mut_Tells, unhide, lent_out, hidden_shr, opens, closes, Tuple, shr_bor-open, obor_close, tokens_halve}
+use Rattle.atomic_table.proofs.Names.{◌≡◌, ℕ, List, [], ◌∷◌, refl, sym, ◌∙◌, a_type, named, Val, vptr, inst_fn, SProp, emp, Lft, Fml, ftrue, fsep, flft, ‵, raw, ◌⊛◌, some, later, ◌$◌, ◌∵◌, !, qed, by, move, keep, drop, split, split3, join, fsplit, fsplit3, fjoin, fjoin3, pick, use0, use1, use2, use3, await, rewrite, feq_i, no_more, and_then, returns, enter, alloc_all, pass_all, free_all, look_at, get, sets, agg, tables, yes, RattleType, owns, types_at, plain, block_ptr, nothing, heard, param, layouts, Stays, stay_dropped, stay_ref, walk_of, Goes-dropped, Goes-ref, fact, fact_i, RefOf, shr_vals, shr_Tells, mut_vals, mut_Tells, unhide, lent_out, hidden_shr, opens, closes, Tuple, shr_bor-open, obor_close, tokens_halve}
 use types.Kit.{fpick}
 use base.Fml.{fhide}
 use denote.Builtin.{unit}
@@ -20,13 +20,14 @@ use Rattle.words_access.proofs.Keeps.{alone_with}
 use Rattle.access_core.specs.Contents.{readers_of, writer_of}
 use Rattle.access_core.specs.declared.lists.Lists.{Lists}
 use Rattle.access_core.specs.contracts.lists.ListsContent.TheImpl as content
-use Rattle.access_vault.specs.Vault.{writing, pledge, stock}
+use Rattle.access_vault.specs.Vault.{writing, pledge, stock, memo}
 use base.Fraction.{full_share}
 use Rattle.access_vault.proofs.Grips.{grips}
 use Rattle.access_vault.proofs.Lending.{writes}
-use Rattle.access_vault.specs.Kept.{VaultId, rights, views, Holds, grip_owns}
+use Rattle.access_vault.specs.Kept.{VaultId, rights, views, Holds, grip_owns, memo_owns}
 use Rattle.access_vault.specs.contracts.vault.Vault as vault
 use Rattle.access_vault.specs.contracts.vault.Grip as grip
+use Rattle.access_vault.specs.contracts.memo.Memo as memos
 use Rattle.access_vault.proofs.Fields.{token_val, grip_made, VaultData}
 use Rattle.access_vault.specs.contracts.vault.Vault.write.{ended, clauses}
 use Rattle.access_vault.specs.contracts.vault.Vault.write.Key.{name as #self}
@@ -39,44 +40,52 @@ write_spec 𝓤 𝓛 𝓜 𝓡 wired T L =
     let H = 𝓛.H in let A = 𝓛.A in let 𝓣 = tables 𝓤 H 𝓜 𝓡 𝓡.env in let R : RattleType = param 0 T in let En = ended T in let c = clauses T 𝓛 𝓜.mem 𝓡.returns in
     let inst = layouts (a_type ∷ []) (T, tt) in let fn = inst_fn inst code.function in let closed = code.unfolded 𝓤 H 𝓜 𝓡 wired (T, tt) in
     let So : RattleType = slot.the_row in let Vw : RattleType = view.the_row in let Ru : RattleType = rule.the_row in
-    let Row : RattleType = table.the_row So Vw unit Ru (imp.ghosts slot.the_row content.ghosts imp.no_dict) in let Vt : RattleType = vault.the_row R in let Br : RattleType = badge.the_row Vw in let Gl : RattleType = grip.the_row R in
-    let self = RefOf (0 ∷ []) tt (plain (λ _. Vt)) (λ _. tt) in let at = RefOf (1 ∷ []) tt (plain (λ _. Row)) (λ _. tt) in let it = plain (λ _. Br) in
-    let hs : Stays En.signature.params En.kept = (stay_dropped self yes, (stay_dropped at yes, (stay_ref (2 ∷ []) tt it, tt))) in
-    proved 𝓛 En hs c 𝓜 𝓡 (Goes-dropped 𝓛 4 self yes (λ κs x f. refl), (Goes-dropped 𝓛 4 at yes (λ κs x f. refl), (Goes-ref 𝓛 4 2 tt it, tt))) (#self inst) fn closed
-    (λ κs. (shr_vals, (shr_vals, (mut_vals, tt)))) (λ κs. (shr_Tells (named 0) κs.0 Vt, (shr_Tells (named 1) κs.1.0 Row, (mut_Tells (named 2) κs.1.1.0 Br, tt)))) (λ κs qs bounds a gh are.
+    let Row : RattleType = table.the_row So Vw unit Ru (imp.ghosts slot.the_row content.ghosts imp.no_dict) in let Vt : RattleType = vault.the_row R in let Br : RattleType = badge.the_row Vw in let Gl : RattleType = grip.the_row R in let Mr : RattleType = memos.the_row R in
+    let self = RefOf (0 ∷ []) tt (plain (λ _. Vt)) (λ _. tt) in let at = RefOf (1 ∷ []) tt (plain (λ _. Row)) (λ _. tt) in let it = plain (λ _. Br) in let own = plain (λ _. Mr) in
+    let hs : Stays En.signature.params En.kept = (stay_dropped self yes, (stay_dropped at yes, (stay_ref (2 ∷ []) tt it, (stay_ref (3 ∷ []) tt own, tt)))) in
+    proved 𝓛 En hs c 𝓜 𝓡 (Goes-dropped 𝓛 5 self yes (λ κs x f. refl), (Goes-dropped 𝓛 5 at yes (λ κs x f. refl), (Goes-ref 𝓛 5 2 tt it, (Goes-ref 𝓛 5 3 tt own, tt)))) (#self inst) fn closed
+    (λ κs. (shr_vals, (shr_vals, (mut_vals, (mut_vals, tt))))) (λ κs. (shr_Tells (named 0) κs.0 Vt, (shr_Tells (named 1) κs.1.0 Row, (mut_Tells (named 2) κs.1.1.0 Br, (mut_Tells (named 3) κs.1.1.1.0 Mr, tt))))) (λ κs qs bounds a gh are.
     let s : Vt.Denot = a.0.now in let b : ℕ = a.0.ref_ptr.0 in let o : ℕ = a.0.ref_ptr.1 in let t : Row.Denot = a.1.0.now in let c' : ℕ = a.1.0.ref_ptr.0 in let e' : ℕ = a.1.0.ref_ptr.1 in
-    let d : Br.Denot = a.1.1.0.now in let b' : ℕ = a.1.1.0.ref_ptr.0 in let o' : ℕ = a.1.1.0.ref_ptr.1 in let z : VaultId = s.vault_id in let α : Lft = tb.age z.table in let κ : Lft = κs.0 in let κ' : Lft = κs.1.0 in
-    let AskedT : Type 0 = (t.table_id ≡ z.table) × (d.table_id ≡ t.table_id) in let AskedR : Type 0 = (v : View) × (d.views ≡ v ∷ []) × (v.writes ≡ mathlib.Core.Bool.true) in let others : Fml = fsep (flft κs.1.1.1.0 qs.1.1.1.0) ftrue in
-    let y : (walk_of 𝓛 En hs c).Ghost = ((κs, qs, bounds, a, (vptr b o ∷ [], (vptr c' e' ∷ [], (vptr b' o' ∷ [], tt)))), gh) in let Post : Val → SProp 𝓤 = (walk_of 𝓛 En hs c).post y in
-    qed 𝓛 (((‵ (flft κs.0 qs.0) ⊛ ‵ (flft κs.1.0 qs.1.0) ⊛ ‵ (flft κs.1.1.0 qs.1.1.0) ⊛ ‵ others) ⊛ ‵ (owns (types_at En.signature.params κs) a y.0.4)) ∷ raw (fact 𝓤 _) ∷ raw (fact 𝓤 AskedT) ∷ raw (fact 𝓤 AskedR) ∷ []) ∵
-    keep ! (2 ∷ 3 ∷ 0 ∷ []) $ heard ! AskedT (λ asked. heard ! AskedR (λ right. let v : View = right.0 in split ! $ split3 ! $ move ! (2 ∷ []) $ split ! $ move ! (4 ∷ []) $ fsplit3 ! $
-    -- ref, ref, mut, κ2, others, κ0, κ1
-    fsplit ! $ move ! (2 ∷ []) $ fsplit ! $ move ! (4 ∷ []) $ fsplit ! $ fsplit3 ! $ keep ! (5 ∷ 7 ∷ 1 ∷ 2 ∷ 8 ∷ 11 ∷ 10 ∷ 9 ∷ []) $
-    -- table, vault, obs, bor, κ2, κ1, κ0, others
-    enter ! 𝓣.C 𝓣.Λ fn (vptr b o ∷ vptr c' e' ∷ vptr b' o' ∷ []) Post $ alloc_all ! (λ l. pass_all ! refl ((tt, tt), ((tt, tt), ((tt, tt), tt))) $
+    let d : Br.Denot = a.1.1.0.now in let b' : ℕ = a.1.1.0.ref_ptr.0 in let o' : ℕ = a.1.1.0.ref_ptr.1 in let me : Mr.Denot = a.1.1.1.0.now in let mb : ℕ = a.1.1.1.0.ref_ptr.0 in let mo : ℕ = a.1.1.1.0.ref_ptr.1 in let w : T.Denot = me.value in let z : VaultId = s.vault_id in let α : Lft = tb.age z.table in let κ : Lft = κs.0 in let κ' : Lft = κs.1.0 in
+    let AskedT : Type 0 = (t.table_id ≡ z.table) × (d.table_id ≡ t.table_id) in let AskedR : Type 0 = (v : View) × (d.views ≡ v ∷ []) × (v.writes ≡ mathlib.Core.Bool.true) in let AskedM : Type 0 = me.vault_id ≡ z in let others : Fml = fsep (flft κs.1.1.1.1.0 qs.1.1.1.1.0) ftrue in
+    let y : (walk_of 𝓛 En hs c).Ghost = ((κs, qs, bounds, a, (vptr b o ∷ [], (vptr c' e' ∷ [], (vptr b' o' ∷ [], (vptr mb mo ∷ [], tt))))), gh) in let Post : Val → SProp 𝓤 = (walk_of 𝓛 En hs c).post y in
+    qed 𝓛 (((‵ (flft κs.0 qs.0) ⊛ ‵ (flft κs.1.0 qs.1.0) ⊛ ‵ (flft κs.1.1.0 qs.1.1.0) ⊛ ‵ (flft κs.1.1.1.0 qs.1.1.1.0) ⊛ ‵ others) ⊛ ‵ (owns (types_at En.signature.params κs) a y.0.4)) ∷ raw (fact 𝓤 _) ∷ raw (fact 𝓤 AskedT) ∷ raw (fact 𝓤 AskedR) ∷ raw (fact 𝓤 AskedM) ∷ []) ∵
+    keep ! (2 ∷ 3 ∷ 4 ∷ 0 ∷ []) $ heard ! AskedT (λ asked. heard ! AskedR (λ right. heard ! AskedM (λ mine. let v : View = right.0 in split ! $ split3 ! $ move ! (2 ∷ []) $ split3 ! $ move ! (5 ∷ []) $ fsplit3 ! $
+    -- ref, ref, muts, κ2, κ3, others, κ0, κ1
+    fsplit ! $ move ! (2 ∷ []) $ fsplit ! $ move ! (4 ∷ []) $ fsplit ! $ fsplit3 ! $ move ! (3 ∷ []) $ fsplit ! $ fsplit3 ! $ keep ! (8 ∷ 10 ∷ 5 ∷ 6 ∷ 11 ∷ 15 ∷ 14 ∷ 13 ∷ 1 ∷ 2 ∷ 12 ∷ []) $
+    -- table, vault, obs, bor, κ2, κ1, κ0, others, the memo's obs, bor, κ3
+    enter ! 𝓣.C 𝓣.Λ fn (vptr b o ∷ vptr c' e' ∷ vptr b' o' ∷ vptr mb mo ∷ []) Post $ alloc_all ! (λ l. pass_all ! refl ((tt, tt), ((tt, tt), ((tt, tt), ((tt, tt), tt)))) $
     use1 𝓛 (‵ (hidden_shr (HandData So Vw unit Ru (imp.ghosts slot.the_row content.ghosts imp.no_dict)) κ' (t.words, (t.slots, (tt, tt))) c' e') ⊛ ‵ (fhide (table.the_lent So Vw unit Ru (imp.ghosts slot.the_row content.ghosts imp.no_dict) t (block_ptr c' e') κ')))
     (lent_out 𝓛 (table.struct So Vw unit Ru (imp.ghosts slot.the_row content.ghosts imp.no_dict)) (table.the_codes So.Denot Vw.Denot unit.Denot Ru.Denot So.coded Vw.coded unit.coded Ru.coded (marker.the_row (Tuple (Ru ∷ Vw ∷ unit ∷ []))).coded) (table.the_heap So Vw unit Ru (imp.ghosts slot.the_row content.ghosts imp.no_dict)) (table.the_lent So Vw unit Ru (imp.ghosts slot.the_row content.ghosts imp.no_dict)) κ' t c' e') $
     split ! $ drop ! $ unhide ! $ fsplit ! $ move ! (1 ∷ []) $ drop ! $ rewrite ! 0 (λ (x : TableId). ‵ (lasts x κ')) asked.0 refl $ move ! (0 ∷ 5 ∷ []) $
     shr_bor-open ! tt (tokens_halve 𝓛 α) (λ q'. move ! (2 ∷ []) $
     use1 𝓛 (‵ (hidden_shr (VaultData R) κ (s.at, tt) b o) ⊛ ‵ (fhide (vault.the_lent R s (block_ptr b o) κ))) (lent_out 𝓛 (vault.struct R) (vault.the_codes T.Denot R.coded) (vault.the_heap R) (vault.the_lent R) κ s b o) $
     split ! $ drop ! $ unhide ! $ fsplit ! $ drop ! $ fpick ! (λ x. fsplit3 ! $ fpick ! (λ ne. drop ! $
-    -- n, m, open, token, obs, bor, κ2, κ0, others
+    -- n, m, open, token, obs, bor, κ2, κ0, others, the memo's
     move ! (4 ∷ 5 ∷ 6 ∷ []) $ opens ! tt Br b' o' (λ us. move ! (1 ∷ []) $ fsplit ! $ move ! (1 ∷ []) $
     rewrite ! 0 (λ (vs : List View). ‵ (badge_owns views.code d.table_id d.id vs)) right.1 refl $ rewrite ! 0 (λ (i : TableId). ‵ (badge_owns views.code i d.id (v ∷ []))) (asked.1 ∙ asked.0) refl $
-    -- seat, data, cell, obor, obs, auth, n, m, open, token, κ0, others
-    move ! (9 ∷ 0 ∷ []) $ join ! $ move ! (6 ∷ 7 ∷ 0 ∷ []) $
-    use3 𝓛 (later (some (λ (u : ℕ × (ℕ × T.Denot)). ‵ (pledge R z.room views rights z.table z.desk u.0 (writing d.id v)) ⊛ ‵ (stock R z.room u.1.0 full_share u.1.1)) ⊛ ‵ (flft α q')))
-    (writes 𝓛 R (param_laws 0 T L).shr_laws z.room views rights z.table z.desk So Holds (alone_with Lists readers_of writer_of) x.0.0 x.0.1 x.1.0 x.1.1 ne q' d.id v right.2) $ await ! tt $ split ! $
-    use1 𝓛 (later (some (λ (y' : T.Denot). ‵ (grip_owns R z d.id v y')))) (grips 𝓛 R z d.id v) $ await ! tt $ pick ! (λ w.
-    -- grip, token, data, cell, obor, obs, auth, open, κ0, others
-    move ! (7 ∷ 1 ∷ []) $ obor_close ! tt $ drop ! $
-    -- κ1, glance, data, cell, obor, obs, auth, κ0, others
+    -- seat, data, cell, obor, obs, auth, n, m, open, token, κ0, others, the memo's
+    move ! (12 ∷ 13 ∷ 14 ∷ []) $ opens ! tt Mr mb mo (λ ms. move ! (1 ∷ []) $ fsplit ! $ move ! (1 ∷ []) $
+    rewrite ! 0 (λ (i : VaultId). ‵ (memo_owns R i w)) mine refl $ fsplit ! $ move ! (7 ∷ 0 ∷ []) $ fjoin ! $ move ! (15 ∷ 0 ∷ []) $ join ! $
+    -- what the step asks, the turn's borrow, the memo's data, cell, obor, obs, auth, data, cell, obor, obs, auth, n, m, open, κ0, others
+    move ! (12 ∷ 13 ∷ 0 ∷ []) $
+    use3 𝓛 (later (some (λ (u : ℕ × ℕ). ‵ (pledge R z.room views rights z.table z.desk u.0 (writing d.id v)) ⊛ ‵ (stock R z.room u.1 full_share w) ⊛ ‵ (memo R z.memo w)) ⊛ ‵ (flft α q')))
+    (writes 𝓛 R (param_laws 0 T L).shr_laws z.room views rights z.table z.desk z.memo z.turn So Holds (alone_with Lists readers_of writer_of) x.0.0 x.0.1 x.1.0 x.1.1 ne q' d.id v w right.2) $ await ! tt $ split ! $
+    pick ! (λ u. split3 ! $ use2 𝓛 (later (‵ (grip_owns R z d.id v w))) (grips 𝓛 R z d.id v w u) $ await ! tt $
+    -- grip, memo, token, the turn's borrow, the memo's data, cell, obor, obs, auth, data, cell, obor, obs, auth, open, κ0, others
+    move ! (1 ∷ 3 ∷ []) $ fjoin ! $ rewrite ! 0 (λ (i : VaultId). ‵ (memo_owns R i w)) (sym mine) refl $ move ! (3 ∷ 0 ∷ []) $ fjoin ! $ move ! (3 ∷ 0 ∷ 4 ∷ 5 ∷ 6 ∷ []) $
+    closes ! tt Mr me ms mb mo $ feq_i ! (List Val) (vptr mb mo ∷ []) (vptr mb mo ∷ []) refl $ fjoin3 ! $
+    -- the memo, κ3, grip, token, data, cell, obor, obs, auth, open, κ0, others
+    move ! (9 ∷ 3 ∷ []) $ obor_close ! tt $ drop ! $
+    -- κ1, the memo, κ3, grip, data, cell, obor, obs, auth, κ0, others
     let d' : Br.Denot = record { marker = d.marker; table_id = d.table_id; id = d.id; views = [] } in let r : Gl.Denot = record { marker = record {}; vault_id = z; id = d.id; view = v; value = w } in
-    let Told : Type 0 = (z ≡ z) × (d.id ≡ d.id) × (d.views ≡ v ∷ []) × (d'.views ≡ d'.views) in
-    move ! (2 ∷ []) $ nothing ! $ move ! (1 ∷ 0 ∷ []) $ fjoin ! $ move ! (3 ∷ 0 ∷ 4 ∷ 5 ∷ 6 ∷ []) $ closes ! tt Br d' us b' o' $ feq_i ! (List Val) (vptr b' o' ∷ []) (vptr b' o' ∷ []) refl $ fjoin3 ! $
-    nothing ! $ move ! (1 ∷ 0 ∷ []) $ fjoin ! $ nothing ! $ fjoin ! $ nothing ! $ fjoin ! $ move ! (1 ∷ 5 ∷ []) $ join ! $ move ! (2 ∷ 0 ∷ []) $ join ! $ move ! (3 ∷ 0 ∷ []) $ join ! $
+    let Told : Type 0 = (z ≡ z) × (d.id ≡ d.id) × (d.views ≡ v ∷ []) × (d'.views ≡ d'.views) in let Known : Type 0 = (w ≡ w) × (me ≡ me) in
+    move ! (4 ∷ []) $ nothing ! $ move ! (1 ∷ 0 ∷ []) $ fjoin ! $ move ! (5 ∷ 0 ∷ 6 ∷ 7 ∷ 8 ∷ []) $ closes ! tt Br d' us b' o' $ feq_i ! (List Val) (vptr b' o' ∷ []) (vptr b' o' ∷ []) refl $ fjoin3 ! $
+    -- the badge, κ2, κ1, the memo, κ3, grip, κ0, others
+    move ! (3 ∷ []) $ nothing ! $ move ! (1 ∷ 0 ∷ []) $ fjoin ! $ move ! (1 ∷ 0 ∷ []) $ fjoin ! $ nothing ! $ fjoin ! $ nothing ! $ fjoin ! $
+    move ! (3 ∷ 6 ∷ []) $ join ! $ move ! (2 ∷ 0 ∷ []) $ join ! $ move ! (2 ∷ 0 ∷ []) $ join ! $ move ! (3 ∷ 0 ∷ []) $ join ! $
     -- tokens, owned, glance
     move ! (2 ∷ []) $ use0 𝓛 (‵ ((Rattle.access_vault.proofs.Fields.GripData R).own_val (tt, tt) (token_val ∷ []))) (grip_made R 𝓛) $ fjoin ! $
     sets ! (agg ! (no_more !)) refl (tt, tt) $ sets ! (agg ! (and_then ! (get ! refl) (no_more !))) refl (tt, (tt, tt)) $
-    use0 𝓛 (raw (fact 𝓤 Told)) (fact_i 𝓤 Told (emp 𝓤) (refl, refl, right.1, refl)) $
-    returns ! (look_at ! 0 refl) $ free_all ! refl $ keep ! (2 ∷ 3 ∷ 1 ∷ 0 ∷ []) $ by ! (leaves 𝓛 En hs c y token_val r (tt, (tt, (d', tt))) (tt, (tt, (tt, tt)))))))))))))
+    use0 𝓛 (raw (fact 𝓤 Known)) (fact_i 𝓤 Known (emp 𝓤) (refl, refl)) $ use0 𝓛 (raw (fact 𝓤 Told)) (fact_i 𝓤 Told (emp 𝓤) (refl, refl, right.1, refl)) $ join ! $
+    returns ! (look_at ! 0 refl) $ free_all ! refl $ keep ! (2 ∷ 3 ∷ 1 ∷ 0 ∷ []) $ by ! (leaves 𝓛 En hs c y token_val r (tt, (tt, (d', (me, tt)))) (tt, (tt, (tt, (tt, tt))))))))))))))))
