@@ -1,5 +1,6 @@
 -- What contracts see of a mutex's future, and what a poll answers.
 use Rattle.std.specs.Prelude.{◌≡◌, ℕ, Bool, true, false, ⊤, Option, Some, None, IsSomeAnd}
+use Rattle.std.specs.declared.time.Instant.{Instant}
 use Rattle.futures.specs.Task.{Covers}
 use Rattle.futures.specs.declared.task.context.Context.{Context}
 use Rattle.async_driver.specs.declared.turn.Turn.{Turn}
@@ -16,7 +17,7 @@ use Rattle.lock_program.specs.declared.end.Next.TheVariants.{Do}
 use Rattle.lock_program.specs.declared.mutex.Place.TheVariants as at
 use Rattle.mutex_core.specs.Courses.{pending}
 use Rattle.mutex_core.specs.Locks.{IsOf, IsSameSeat, Seated}
-use Rattle.mutex_core.specs.Outcomes.{IsGivenUp, IsHeldOf}
+use Rattle.mutex_core.specs.Outcomes.{IsGivenUp, IsHeldOf, IsKept as IsStill}
 use Rattle.lock_queue.specs.Receipts.{IsKept}
 use Rattle.mutex_core.specs.declared.turn.Held.{Held}
 use Rattle.mutex_core.specs.declared.turn.Outcome.{Outcome}
@@ -25,10 +26,11 @@ use Rattle.mutex_core.specs.declared.turn.Vain.{Vain}
 use Rattle.mutex_core.specs.declared.turn.Waiting.{Waiting}
 use Rattle.lock_queue.specs.declared.whose.Whose.{Whose}
 
--- an entry in a mutex's list: the seat whose it is, and whose waker it keeps
+-- an entry in a mutex's list: the seat whose it is, whose waker it keeps, and since when it waits
 pub record Listed : Type 0 where
   pub seat : Seated
   pub keeps : Whose
+  pub since : Option Instant
 
 -- how far it is, and its entry in the mutex's list
 pub record Future (O : Type 0) : Type 0 where
@@ -41,7 +43,7 @@ future stage entry = record { stage = stage; entry = entry }
 -- the entry of what waits
 abbrev pub entry_of : {T : Type 0} → Option (Waiting T) → Option Listed
 entry_of None = None
-entry_of (Some q) = Some (record { seat = q.seat; keeps = q.whose })
+entry_of (Some q) = Some (record { seat = q.seat; keeps = q.whose; since = q.since })
 
 abbrev pub OnWaits : {T : Type 0} → Outcome T → (Waiting T → Type 0) → Type 0
 OnWaits (outcome.Waits q) fact = fact q
@@ -98,6 +100,11 @@ abbrev pub GoesOnBy : {G : Type 0} → (G → ℕ) → Seated → Turn G → Opt
 GoesOnBy seat_of seat (Ready got) entry = seat_of got ≡ seat.id
 GoesOnBy seat_of seat Pending entry = IsSomeAnd entry (λ e. IsSameSeat seat e.seat)
 GoesOnBy seat_of seat (Refused refusal) entry = ⊤
+
+-- Whoever waits on, and isn't counted as starved, waits since then.
+abbrev pub WaitsOn : {G : Type 0} → Option Instant → Turn G → Option Listed → Type 0
+WaitsOn then Pending entry = IsSomeAnd entry (λ e. e.seat.starved ≡ false → IsStill then e.since)
+WaitsOn then _ entry = ⊤
 
 -- Ready, what was got is this and the future is over. One that is over is refused as finished and stays so; no other is, and none for
 -- another reason than memory or too many starved waiters.

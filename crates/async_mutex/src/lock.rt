@@ -4,7 +4,7 @@ ghost use Rattle.std.specs.Prelude.{◌≡◌, false, IfSome, None};
 ghost use Rattle.futures.specs.Task.{Covers, Keeps};
 ghost use Rattle.async_mutex.specs.Stages.{IsOf, is_finished};
 ghost use Rattle.async_driver.specs.Turns.{OnPending};
-ghost use Rattle.async_mutex.specs.Futures.{GoesOnBy, HasReceipt, IsTurn, OnRefused, WaitsAt, future};
+ghost use Rattle.async_mutex.specs.Futures.{GoesOnBy, HasReceipt, IsTurn, OnRefused, WaitsAt, WaitsOn, future};
 
 use crate::guard::Guard;
 use crate::mutex::Mutex;
@@ -67,7 +67,7 @@ impl<T, R: Wait + Clock, O: Owns<Value = T, Runtime = R>> LockFuture<T, R, O> {
     /// Pending, it has an entry in the mutex's list that keeps a waker of the task that polls (`receipt`). The task has registered
     /// with the mutex's source (`registered`), and keeps what it had registered before (`kept`). Until it is ready the future keeps
     /// its mutex (`share`). It waits by one seat, from the poll that joined the list to the guard (`same`): so it gets the mutex by no
-    /// other way, and keeps its wait.
+    /// other way, and keeps its wait. If it waits on, it waits since it first did, until it counts as starved (`since`).
     ///
     /// ```
     /// match future.poll(cx) {
@@ -81,6 +81,7 @@ impl<T, R: Wait + Clock, O: Owns<Value = T, Runtime = R>> LockFuture<T, R, O> {
         ensures turn { IsTurn (λ guard. IsOf O.lock_of self.old.stage guard.mutex) (is_finished self.old.stage) result (is_finished self.new.stage) }
         ensures share { is_finished self.new.stage ≡ false → self.new.stage ≡ self.old.stage }
         ensures same { IfSome self.old.entry (λ e. GoesOnBy (λ guard. guard.seat) e.seat result self.new.entry) }
+        ensures since { IfSome self.old.entry (λ e. WaitsOn e.since result self.new.entry) }
         ensures refused { OnRefused result (self.new.entry ≡ None) }
         ensures receipt { OnPending result (HasReceipt O.lock_of self.old.stage cx.new self.new.entry) }
         ensures registered { OnPending result (Covers cx.new (WaitsAt O.lock_of self.old.stage)) }

@@ -117,7 +117,7 @@ pub(crate) fn into_turn<T, R: Wait, O: Owns<Value = T, Runtime = R>>(
             put(waiting, waits);
             Turn::Pending
         }
-        Outcome::Refused(refusal) => Turn::Refused(refusal),
+        Outcome::Refused(gave_up) => Turn::Refused(gave_up.refusal()),
     }
 }
 

@@ -155,6 +155,6 @@ fn came_to(locked: &Locked<Arrivals>) -> Found
     match locked {
         Locked::Got(_) => Found::Lock(Step::End(End::Got)),
         Locked::Waits(_) => Found::Lock(Step::End(End::Pending)),
-        Locked::Refused(refusal) => Found::Lock(Step::End(End::Refused(*refusal))),
+        Locked::Refused(gave_up) => Found::Lock(Step::End(End::Refused(gave_up.refusal()))),
     }
 }

@@ -232,7 +232,7 @@ impl RawBarrier {
             Locked::Waits(waiting) => {
                 Outcome::Pending(Resting::Locking(Aim::Check(arrival), waiting))
             }
-            Locked::Refused(refusal) => Outcome::Refused(refusal, Aim::Check(arrival)),
+            Locked::Refused(gave_up) => Outcome::Refused(gave_up.refusal(), Aim::Check(arrival)),
         }
     }
 
@@ -255,7 +255,7 @@ impl RawBarrier {
             Locked::Waits(waiting) => {
                 Outcome::Pending(Resting::Locking(Aim::Arrive(course), waiting))
             }
-            Locked::Refused(refusal) => Outcome::Refused(refusal, Aim::Arrive(course)),
+            Locked::Refused(gave_up) => Outcome::Refused(gave_up.refusal(), Aim::Arrive(course)),
         }
     }
 
@@ -405,9 +405,9 @@ impl RawBarrier {
                             let aim = Aim::Check(Arrival { seat, generation });
                             return Outcome::Pending(Resting::Locking(aim, waiting));
                         }
-                        Locked::Refused(refusal) => {
+                        Locked::Refused(gave_up) => {
                             let aim = Aim::Check(Arrival { seat, generation });
-                            return Outcome::Refused(refusal, aim);
+                            return Outcome::Refused(gave_up.refusal(), aim);
                         }
                     }
                 }

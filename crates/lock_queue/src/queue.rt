@@ -5,7 +5,7 @@ ghost use Rattle.futures.specs.Task.{Keeps};
 ghost use Rattle.lock_queue.specs.Asking.{ByHeard};
 ghost use Rattle.lock_queue.specs.Queues.{entries_of};
 ghost use Rattle.lock_queue.specs.Entries.{IsKept, HasJoined, IsTold, AreTold, IsGone, HasLeft};
-ghost use Rattle.lock_queue.specs.Receipts.{IsReceipt};
+ghost use Rattle.lock_queue.specs.Receipts.{KeepsAt, IsReceipt};
 
 use crate::due::{AllDue, Due};
 use crate::heard::Heard;
@@ -79,7 +79,7 @@ impl Queue {
         requires { IsSome self.old.entries }
         ensures joined { IfOk result (λ joined. HasJoined (entries_of self.old) (entries_of self.new) joined.0.number) }
         ensures refused { OnErr result (entries_of self.new ≡ entries_of self.old) }
-        ensures keeps { IfOk result (λ joined. IsReceipt source.now.id cx.new joined.1) }
+        ensures keeps { IfOk result (λ joined. KeepsAt joined.0 joined.1 (entries_of self.new) × IsReceipt source.now.id cx.new joined.1) }
         ensures kept { Keeps cx.old cx.new }
     {
         match &mut self.entries {
@@ -97,7 +97,7 @@ impl Queue {
     ) -> Result<(EntryId, Whose), Memory>
         ensures joined { IfOk result (λ joined. HasJoined (entries_of self.old) (entries_of self.new) joined.0.number) }
         ensures refused { OnErr result (entries_of self.new ≡ entries_of self.old) }
-        ensures keeps { IfOk result (λ joined. IsReceipt source.now.id cx.new joined.1) }
+        ensures keeps { IfOk result (λ joined. KeepsAt joined.0 joined.1 (entries_of self.new) × IsReceipt source.now.id cx.new joined.1) }
         ensures kept { Keeps cx.old cx.new }
     {
         match self.make(alloc) {
@@ -162,7 +162,7 @@ impl Queue {
     /// An entry asks for its notification. One that waits keeps a waker of the task of `cx`, which registers with `source`.
     pub fn ask(&mut self, id: EntryId, source: &Source, cx: &mut Context<'_>) -> Heard<Whose>
         ensures asked { ByHeard result (IsGone (entries_of self.old) (entries_of self.new) id.number) (λ _. IsKept (entries_of self.old) (entries_of self.new)) }
-        ensures waits { ByHeard result (cx.new ≡ cx.old) (IsReceipt source.now.id cx.new) }
+        ensures waits { ByHeard result (cx.new ≡ cx.old) (λ whose. KeepsAt id whose (entries_of self.new) × IsReceipt source.now.id cx.new whose) }
         ensures kept { Keeps cx.old cx.new }
     {
         match &mut self.entries {

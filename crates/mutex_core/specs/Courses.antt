@@ -4,6 +4,7 @@ use Rattle.std.specs.Coded.{Coded}
 use Rattle.lock_program.specs.Mutex.{start_of}
 use Rattle.lock_program.specs.contracts.end.Next as next
 use Rattle.lock_program.specs.contracts.mutex.Place as place
+use Rattle.lock_program.specs.contracts.refusal.Refusal as refusal
 use Rattle.lock_program.specs.declared.end.End.TheVariants.{Got, Pending, GivenBack, Refused}
 use Rattle.lock_program.specs.declared.end.Next.{Next}
 use Rattle.lock_program.specs.declared.end.Next.TheVariants.{Do, End}
@@ -19,6 +20,10 @@ Course = Next Place Place
 
 abbrev pub course_coded : Coded Course
 course_coded = (next.the_row place.the_row place.the_row).coded
+
+-- why a call gave up
+abbrev pub refusal_coded : Coded Refusal
+refusal_coded = refusal.the_row.coded
 
 -- outside every call, with nothing
 abbrev pub outside : Course

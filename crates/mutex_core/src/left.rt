@@ -5,6 +5,7 @@ ghost use Rattle.atomic_table.specs.Table.{rest};
 ghost use Rattle.mutex_core.specs.Cells.{cell_entries, cell_marked, HasRightOf};
 ghost use Rattle.lock_program.specs.declared.mutex.Action.TheVariants as act;
 ghost use Rattle.lock_program.specs.declared.mutex.Found.TheVariants as finds;
+ghost use Rattle.mutex_core.specs.Courses.{IsOutside};
 ghost use Rattle.mutex_core.specs.Locks.{IsAt, IsOf, goes, with_got, with_held, with_look};
 ghost use Rattle.mutex_core.specs.Outcomes.{IsRightOf};
 ghost use Rattle.mutex_core.specs.declared.cell.Cell.{Cell};
@@ -38,9 +39,10 @@ impl WasHeld {
         WasHeld { seal: () }
     }
 
-    // This seat holds it, and is forgotten.
+    // This seat holds it, outside every call, and is forgotten.
     fn by<T>(seat: Seat<T>) -> WasHeld
-        requires { seat.holds ≡ true }
+        requires course { IsOutside seat.course }
+        requires holds { seat.holds ≡ true }
     {
         seat.stay();
         WasHeld { seal: () }

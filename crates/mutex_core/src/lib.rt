@@ -22,7 +22,7 @@ pub use calls::Joined;
 pub use cell::Cell;
 pub use left::WasHeld;
 pub use lock_place::{Hold, Room};
-pub use seat::Seat;
+pub use seat::{GaveUp, Seat};
 pub use turn::{Held, Outcome, Vain, Waiting};
 pub use words::{STARVED_LIMIT, Words};
 pub use words_mutex::{Content, Full, MutexRule, View, no_lost_wakeup};

@@ -14,7 +14,7 @@ ghost use Rattle.mutex_core.specs.Outcomes.{IsBySeat, IsGivenUp, IsHeldOf, IsKep
 ghost use Rattle.std.specs.declared.time.Instant.{Instant};
 
 use crate::patience::{first_of, now};
-use crate::seat::Seat;
+use crate::seat::{GaveUp, Seat};
 use crate::turn::{Held, Outcome, Vain, Waiting};
 use crate::words::Words;
 use futures::task::Context;
@@ -382,24 +382,24 @@ impl<T> Words<T> {
     // Refuses a party that isn't counted and has no entry: it notifies, if it took a notification during this poll.
     #[cold]
     #[inline(never)]
-    fn refuse<R: Wait>(&self, rt: &R, seat: Seat<T>, told: bool, refusal: Refusal) -> Refusal
+    fn refuse<R: Wait>(&self, rt: &R, seat: Seat<T>, told: bool, refusal: Refusal) -> GaveUp
         requires of { IsOf self.now seat }
         requires idle { (seat.holds ≡ false) × (seat.starved ≡ false) × (seat.owes ≡ false) × (seat.listed ≡ false) × (seat.fresh ≡ false) }
         requires course { seat.course ≡ refusing told refusal }
+        requires reason { IsGivenUp refusal }
         ensures { result ≡ refusal }
     {
         let mut seat = seat;
         if told {
             self.notify(rt, &mut seat, notifying(refusal));
         }
-        seat.rise();
-        refusal
+        seat.give_up(refusal)
     }
 
     // Refuses a starved party for whose entry there was no memory: its count goes off, and it notifies.
     #[cold]
     #[inline(never)]
-    fn refuse_starved<R: Wait>(&self, rt: &R, seat: Seat<T>) -> Refusal
+    fn refuse_starved<R: Wait>(&self, rt: &R, seat: Seat<T>) -> GaveUp
         requires of { IsOf self.now seat }
         requires owing { (seat.holds ≡ false) × (seat.starved ≡ true) × (seat.listed ≡ false) × (seat.fresh ≡ false) }
         requires course { seat.course ≡ Do at.RefuseUncount }
@@ -408,8 +408,7 @@ impl<T> Words<T> {
         let mut seat = seat;
         self.uncount(&mut seat, Place::RefuseUncount);
         self.notify(rt, &mut seat, Place::RefuseNotifyMemory);
-        seat.rise();
-        Refusal::Memory
+        seat.give_up(Refusal::Memory)
     }
 }
 

@@ -1,7 +1,7 @@
 //! What a party steps with.
 
 ghost use Rattle.std.specs.Prelude.{◌≡◌, [], true, false};
-ghost use Rattle.mutex_core.specs.Courses.{IsOutside, IsStart, outside};
+ghost use Rattle.mutex_core.specs.Courses.{IsOutside, IsStart, outside, refusing};
 ghost use Rattle.mutex_core.specs.Locks.{HasSlots, goes, seated, with_begun};
 ghost use Rattle.words_mutex.specs.Rule.{first_view};
 
@@ -10,7 +10,7 @@ use crate::course::Course;
 use crate::list_steps::Listing;
 use atomic_table::Seat as TableSeat;
 use lock_program::mutex::{Found, LockCall, Place, decide};
-use lock_program::{End, Next};
+use lock_program::{End, Next, Refusal};
 use std::marker::Model;
 use words_mutex::steps::WORD;
 use words_mutex::{Keep, View, never_two};
@@ -82,9 +82,21 @@ impl<T> Seat<T> {
         drop(inner);
     }
 
-    // Leaves the lock held for good.
+    // Ends the seat of a call that gave up, for the reason that its course ended by.
+    pub(crate) fn give_up(self, refusal: Refusal) -> GaveUp
+        requires course { self.course ≡ refusing false refusal }
+        requires has { (self.holds ≡ false) × (self.starved ≡ false) × (self.listed ≡ false) × (self.fresh ≡ false) }
+        requires owes { self.owes ≡ false }
+        ensures { result ≡ refusal }
+    {
+        self.rise();
+        GaveUp { refusal }
+    }
+
+    // Leaves the lock held for good, outside every call: no guard's seat is that.
     pub(crate) fn stay(self)
-        requires { self.holds ≡ true }
+        requires course { IsOutside self.course }
+        requires holds { self.holds ≡ true }
     {
         let Self { inner, course: _ } = self;
         drop(inner);
@@ -103,5 +115,33 @@ impl<T> Seat<T> {
             course: _,
         } = other;
         never_two(shared, inner, second);
+    }
+}
+
+/// Why a poll gave up: the end of its table by which its seat's call was over. Nobody else can make one, so a poll is refused as
+/// [`Refusal::Starved`] only past a count that found the limit, and as [`Refusal::Memory`] only past a join without memory.
+#[derive(Drop)]
+pub struct GaveUp {
+    refusal: Refusal,
+}
+
+impl Model for GaveUp {
+    ghost use Rattle.lock_program.specs.declared.refusal.Refusal.{Refusal};
+    ghost use Rattle.mutex_core.specs.Courses.{refusal_coded};
+
+    ghost Value = { Refusal };
+
+    ghost coded = { refusal_coded };
+
+    ghost view = { λ g. g.refusal };
+}
+
+impl GaveUp {
+    /// Returns the reason.
+    #[inline(always)]
+    pub fn refusal(&self) -> Refusal
+        ensures { result ≡ self.now }
+    {
+        self.refusal
     }
 }

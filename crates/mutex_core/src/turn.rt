@@ -4,10 +4,9 @@ ghost use Rattle.std.specs.Prelude.{◌≡◌, true, false};
 ghost use Rattle.mutex_core.specs.Courses.{IsOutside, holding, pending};
 ghost use Rattle.mutex_core.specs.Locks.{IsHolding};
 
-use crate::seat::Seat;
+use crate::seat::{GaveUp, Seat};
 use lock_event::EntryId;
 use lock_place::Hold;
-use lock_program::Refusal;
 use lock_queue::Whose;
 use std::time::Instant;
 
@@ -127,5 +126,5 @@ pub enum Outcome<T> {
     /// It waits.
     Waits(Waiting<T>),
     /// It gave up, and has nothing: memory was refused for its entry, or as many waiters are starved as may be.
-    Refused(Refusal),
+    Refused(GaveUp),
 }

@@ -108,7 +108,7 @@ impl RawRwLock {
         match self.turn.poll_first(rt, cx, vain) {
             TurnOutcome::Got(turn) => self.upgradable_with(rt, turn),
             TurnOutcome::Waits(waiting) => Outcome::Waits(waiting),
-            TurnOutcome::Refused(refusal) => Outcome::Refused(refusal),
+            TurnOutcome::Refused(gave_up) => Outcome::Refused(gave_up.refusal()),
         }
     }
 
@@ -128,7 +128,7 @@ impl RawRwLock {
         match self.turn.poll_later(rt, cx, waiting) {
             TurnOutcome::Got(turn) => self.upgradable_with(rt, turn),
             TurnOutcome::Waits(waiting) => Outcome::Waits(waiting),
-            TurnOutcome::Refused(refusal) => Outcome::Refused(refusal),
+            TurnOutcome::Refused(gave_up) => Outcome::Refused(gave_up.refusal()),
         }
     }
 
@@ -253,7 +253,7 @@ impl RawRwLock {
         match self.turn.poll_first(rt, cx, vain) {
             TurnOutcome::Got(turn) => self.write_with(rt, cx, turn),
             TurnOutcome::Waits(waiting) => Outcome::Waits(WaitsFor::Turn(waiting)),
-            TurnOutcome::Refused(refusal) => Outcome::Refused(refusal),
+            TurnOutcome::Refused(gave_up) => Outcome::Refused(gave_up.refusal()),
         }
     }
 
@@ -274,7 +274,7 @@ impl RawRwLock {
             WaitsFor::Turn(waiting) => match self.turn.poll_later(rt, cx, waiting) {
                 TurnOutcome::Got(turn) => self.write_with(rt, cx, turn),
                 TurnOutcome::Waits(waiting) => Outcome::Waits(WaitsFor::Turn(waiting)),
-                TurnOutcome::Refused(refusal) => Outcome::Refused(refusal),
+                TurnOutcome::Refused(gave_up) => Outcome::Refused(gave_up.refusal()),
             },
             WaitsFor::Readers(waiting, turn) => {
                 let at = Place::AwaitNoReaders { upgrade: false };
