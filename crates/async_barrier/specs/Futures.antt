@@ -4,8 +4,8 @@ use Rattle.async_barrier.specs.declared.barrier.Barrier.{Barrier}
 use Rattle.async_barrier.specs.declared.result.BarrierWaitResult.{BarrierWaitResult}
 use Rattle.async_driver.specs.declared.turn.Turn.{Turn}
 use Rattle.async_driver.specs.declared.turn.Turn.TheVariants.{Pending, Ready, Refused}
-use Rattle.barrier_core.specs.Barriers.{Barrier as RawBarrier, Seated, IsSameSeat}
-use Rattle.barrier_core.specs.Outcomes.{HasReceipt, IsGivenUp, LocksBy, RestsAt, RestsBy, StaysCounted, counted_in}
+use Rattle.barrier_core.specs.Barriers.{Barrier as RawBarrier, Seated, HasEnded, IsOf, IsSameSeat}
+use Rattle.barrier_core.specs.Outcomes.{HasReceipt, IsGivenUp, LocksBy, RestsAt, RestsBy, counted_in}
 use Rattle.barrier_core.specs.declared.turn.Aim.TheVariants as aim
 use Rattle.barrier_core.specs.declared.turn.Resting.{Resting}
 use Rattle.barrier_core.specs.declared.turn.Resting.TheVariants as resting
@@ -38,6 +38,15 @@ abbrev pub IsInNoList : Option Resting → Type 0
 IsInNoList None = ⊤
 IsInNoList (Some (resting.Counted arrival)) = ⊤
 IsInNoList (Some r) = ⊥
+
+-- The wait has ended by a seat of this barrier: it leads by one that has finished a generation, and follows by one whose arrival was counted, and that has
+-- found that arrival's generation finished.
+abbrev pub IsResultAt : RawBarrier → BarrierWaitResult → Type 0
+IsResultAt raw result = IsOf raw result.by.seat × HasEnded result.is_leader result.by.seat
+
+-- Such a result, and its seat is the one by which the future has ended.
+abbrev pub IsEndOf : RawBarrier → Option Seated → BarrierWaitResult → Type 0
+IsEndOf raw ended result = IsResultAt raw result × (ended ≡ Some result.by.seat)
 
 -- a fact of a poll after which the future goes on
 abbrev pub OnAgain : Turn BarrierWaitResult → Type 0 → Type 0

@@ -1,6 +1,7 @@
 //! The barrier.
 
 ghost use Rattle.std.specs.Prelude.{◌≡◌, IfErr, IfOk, None, false};
+ghost use Rattle.async_barrier.specs.Futures.{IsResultAt};
 ghost use Rattle.barrier_core.specs.Outcomes.{IsGivenUp};
 ghost use Rattle.lock_program.specs.declared.refusal.Refusal.{Refusal};
 
@@ -37,7 +38,8 @@ impl<R: AllocGlobal + Drop> Barrier<R> {
     /// Creates a barrier for `n` tasks, at which nobody has arrived. If memory is refused, it returns [`Refusal::Memory`].
     ///
     /// The first `n` - 1 arrivals of a generation wait, and the last leads and ends their wait. At a barrier for 0 or 1 each
-    /// arrival leads.
+    /// arrival leads. Its limits are the greatest: `u64::MAX` generations (`barrier`), and 1,073,741,823 arrivals at once that wait starved
+    /// for its inner lock, as for a mutex (`limit`).
     ///
     /// ```
     /// let barrier = Barrier::new(rt, 2)?;
@@ -45,6 +47,7 @@ impl<R: AllocGlobal + Drop> Barrier<R> {
     pub fn new(rt: R, n: usize) -> Result<Barrier<R>, Refusal>
         ensures memory { IfErr result (λ refusal. refusal ≡ Refusal.Memory) }
         ensures barrier { IfOk result (λ barrier. (barrier.raw.size ≡ n) × (barrier.raw.most ≡ u64.MAX)) }
+        ensures limit { IfOk result (λ barrier. barrier.raw.inner.limit ≡ 1073741823) }
     {
         Barrier::with_limit(rt, n, GENERATIONS_LIMIT)
     }
@@ -53,6 +56,7 @@ impl<R: AllocGlobal + Drop> Barrier<R> {
     pub fn with_limit(rt: R, n: usize, most: u64) -> Result<Barrier<R>, Refusal>
         ensures memory { IfErr result (λ refusal. refusal ≡ Refusal.Memory) }
         ensures barrier { IfOk result (λ barrier. (barrier.raw.size ≡ n) × (barrier.raw.most ≡ most)) }
+        ensures limit { IfOk result (λ barrier. barrier.raw.inner.limit ≡ 1073741823) }
     {
         match RawBarrier::new(rt.alloc(), n as u64, most) {
             Ok(raw) => Ok(Barrier { raw, rt }),
@@ -90,12 +94,16 @@ impl<R: Wait + Clock + RandomSource + AllocGlobal> Barrier<R> {
     /// Waits at this barrier, blocking the calling thread until its generation is finished. Any error of the executor is
     /// [`Refusal::Memory`]. It is refused by the names by which a wait gives up, and never as finished (`refused`).
     ///
+    /// Its result leads by a seat of this barrier that has finished a generation, or follows by one that found its arrival's generation
+    /// finished (`found`).
+    ///
     /// Don't call it in an async context: it blocks the thread that runs the other tasks, and may deadlock.
     ///
     /// ```
     /// let first = barrier.wait_blocking()?.is_leader();
     /// ```
     pub fn wait_blocking(&self) -> Result<BarrierWaitResult, Refusal>
+        ensures found { IfOk result (IsResultAt self.now.raw) }
         ensures refused { IfErr result IsGivenUp }
     {
         match self.raw.try_lead(&self.rt) {
@@ -109,6 +117,7 @@ impl<R: Wait + Clock + RandomSource + AllocGlobal> Barrier<R> {
     #[cold]
     #[inline(never)]
     fn wait_asleep(&self) -> Result<BarrierWaitResult, Refusal>
+        ensures found { IfOk result (IsResultAt self.now.raw) }
         ensures refused { IfErr result IsGivenUp }
     {
         wait_for(&self.rt, self.wait())

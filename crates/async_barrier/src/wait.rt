@@ -2,8 +2,8 @@
 
 ghost use Rattle.std.specs.Prelude.{◌≡◌, false, None, IfSome};
 ghost use Rattle.futures.specs.Task.{Covers, Keeps};
-ghost use Rattle.async_driver.specs.Turns.{OnPending};
-ghost use Rattle.async_barrier.specs.Futures.{GoesOnBy, IsInNoList, IsReceipt, IsTurn, OnAgain, OnRefused, counted_of};
+ghost use Rattle.async_driver.specs.Turns.{OnPending, OnReady};
+ghost use Rattle.async_barrier.specs.Futures.{GoesOnBy, IsEndOf, IsInNoList, IsReceipt, IsTurn, OnAgain, OnRefused, counted_of};
 ghost use Rattle.barrier_core.specs.Outcomes.{StaysCounted};
 
 use crate::barrier::Barrier;
@@ -59,7 +59,8 @@ impl<'a, R: Wait> BarrierWait<'a, R> {
 }
 
 impl<R: Wait + Clock> BarrierWait<'_, R> {
-    /// Polls once: ready with whether this wait led its generation, or pending.
+    /// Polls once: ready with whether this wait led its generation, or pending. A ready wait leads by a seat of its barrier that has finished
+    /// a generation, or follows by one that found its arrival's generation finished, and has ended by that seat (`found`).
     ///
     /// It is refused as [`Refusal::Memory`] if memory for an entry was refused, as [`Refusal::Starved`] if as many wait starved
     /// for the inner lock as may, and as [`Refusal::Generations`] if the arrival would finish a generation past the limit. Then
@@ -76,6 +77,7 @@ impl<R: Wait + Clock> BarrierWait<'_, R> {
     pub fn poll(&mut self, cx: &mut Context<'_>) -> Turn<BarrierWaitResult>
         ensures turn { IsTurn self.old.is_over result self.new.is_over }
         ensures barrier { self.new.barrier ≡ self.old.barrier }
+        ensures found { OnReady result (IsEndOf self.old.barrier.raw self.new.ended) }
         ensures refused { OnRefused result (IsInNoList self.new.waiting) }
         ensures same { IfSome self.old.waiting (λ r. GoesOnBy r result self.new.waiting self.new.ended) }
         ensures counted { OnAgain result (StaysCounted (counted_of self.old.waiting) (counted_of self.new.waiting)) }
@@ -116,7 +118,9 @@ impl<R: Wait + Clock> BarrierWait<'_, R> {
 impl<R: Wait + Clock> Polled for BarrierWait<'_, R> {
     type Got = BarrierWaitResult;
 
-    ghost use Rattle.async_barrier.specs.Futures.{CanRefuse};
+    ghost use Rattle.async_barrier.specs.Futures.{CanRefuse, IsResultAt};
+
+    ghost gives = { λ wait got. IsResultAt wait.barrier.raw got };
 
     ghost refuses = { λ wait. CanRefuse wait.is_over };
 

@@ -104,6 +104,11 @@ HasFollowed s = IsIdle s × (s.counted ≡ true) × (s.found ≢ s.generation) �
 abbrev pub HasLed : Seated → Type 0
 HasLed s = IsIdle s × (s.led ≡ true) × (s.course ≡ ready true)
 
+-- A wait that leads has ended by it, or one that follows.
+abbrev pub HasEnded : Bool → Seated → Type 0
+HasEnded true s = HasLed s
+HasEnded false s = HasFollowed s
+
 module _ (at : Place) where
   -- its call has come to this place, whose action is this
   abbrev pub IsAt : Action → Seated → Type 0

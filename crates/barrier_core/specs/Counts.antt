@@ -38,5 +38,4 @@ seat_by (verdict.Followed followed) = followed.seat
 
 -- It was found at this barrier.
 abbrev pub IsFoundAt : Barrier → Verdict → Type 0
-IsFoundAt barrier (verdict.Led led) = IsOf barrier led.seat
-IsFoundAt barrier (verdict.Followed followed) = IsOf barrier followed.seat
+IsFoundAt barrier v = IsOf barrier (seat_by v)

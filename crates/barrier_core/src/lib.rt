@@ -9,6 +9,7 @@
 mod actions;
 mod arrivals;
 mod calls;
+mod ended_by;
 mod list;
 mod list_steps;
 mod locking;
@@ -21,6 +22,7 @@ mod watch;
 
 pub use arrivals::{Arrivals, Looked};
 pub use calls::Joined;
+pub use ended_by::EndedBy;
 pub use list::Entries;
 pub use lock_queue::Whose;
 pub use raw::RawBarrier;

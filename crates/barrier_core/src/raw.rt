@@ -54,9 +54,11 @@ impl Model for RawBarrier {
 }
 
 impl RawBarrier {
-    /// Creates a barrier at which nobody has arrived. It fails only if memory is refused.
+    /// Creates a barrier at which nobody has arrived, whose inner lock has the greatest limit of starved waiters. It fails only if memory is
+    /// refused.
     pub fn new(alloc: Global, size: u64, most: u64) -> Result<RawBarrier, AllocError>
-        ensures { IfOk result (λ raw. (raw.size ≡ size) × (raw.most ≡ most)) }
+        ensures barrier { IfOk result (λ raw. (raw.size ≡ size) × (raw.most ≡ most)) }
+        ensures limit { IfOk result (λ raw. raw.inner.limit ≡ 1073741823) }
     {
         let inner = Words::new(alloc, Arrivals::new())?;
         let table = empty_table(alloc)?;

@@ -131,11 +131,13 @@ pub enum Verdict {
 }
 
 impl Verdict {
+    ghost use Rattle.barrier_core.specs.Barriers.{HasEnded};
     ghost use Rattle.barrier_core.specs.Counts.{leads, seat_by};
 
-    /// Ends the evidence, says whether the arrival led, and shows which seat it was.
+    /// Ends the evidence, says whether the arrival led, and shows which seat it was, and that it has ended so.
     pub fn told(self) -> (bool, Ended)
-        ensures { (result.0 ≡ leads self) × (result.1 ≡ seat_by self) }
+        ensures told { (result.0 ≡ leads self) × (result.1 ≡ seat_by self) }
+        ensures ended { HasEnded result.0 result.1 }
     {
         match self {
             Verdict::Led(led) => {
