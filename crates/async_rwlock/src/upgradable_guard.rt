@@ -3,7 +3,8 @@
 ghost use Rattle.std.specs.Prelude.{◌≡◌, ◌≢◌, IfOk, IfErr, MatchResult, Some};
 ghost use Rattle.lock_program.specs.declared.refusal.Refusal.{Refusal};
 ghost use Rattle.access_core.specs.Accesses.{IsOf as IsSeatOf, IsReading, with_found, with_writing};
-ghost use Rattle.rwlock_core.specs.Parties.{IsUpgradableOf};
+ghost use Rattle.rwlock_core.specs.Parties.{IsUpgradableLetIn, IsUpgradableOf};
+ghost use Rattle.async_rwlock.specs.Guards.{HasFoundRoom};
 ghost use Rattle.async_rwlock.specs.Noted.{IsNotedOf};
 ghost use Rattle.async_rwlock.specs.Stages.{At, IsOf};
 
@@ -93,9 +94,10 @@ impl<T, R: Releases, O: Owns<Value = T, Runtime = R>> UpgradableGuard<T, R, O> {
     /// The guard of a future that got the right, with who has the lock.
     #[inline]
     pub(crate) fn of_stage(stage: Stage<O>, upgradable: Upgradable) -> UpgradableGuard<T, R, O>
-        requires { At O.lock_of stage (λ raw. IsUpgradableOf raw upgradable) }
+        requires { At O.lock_of stage (λ raw. IsUpgradableLetIn raw upgradable) }
         ensures lock { IsOf O.lock_of stage result.lock }
         ensures seat { result.seat ≡ upgradable.seat }
+        ensures few { HasFoundRoom result }
         ensures turn { result.turn_seat ≡ Some upgradable.turn.seat.id }
     {
         match stage {

@@ -35,8 +35,8 @@ module _ (S : Type 0) (readers_of writer_of : S → Listed) where
         (λ other. let many : 1 < n = omega (arith, odd, other) in (saw_readers_of n me.0, keeps, tt, sees_readers S readers_of writer_of s id me r at many odd, ((λ bit. absurd (other bit)), λ _. (many, refl))))
 
     pub entered : (old new : ℕ) → old % 2 ≡ 0 → old / 2 < 1073741823 → new ≡ old + 2 → me.0.reads ≡ false → Allows R slots id me 0 (λ x. either (eqb x old) new x) (λ n m'. Entered old me n m')
-    entered old new even few two not = exchanged R slots id me 0 old new (reading_of me.0) (λ n. having_found n me.0)
-        (λ s r at hit. subst (λ n. R (stepped s 0 n id me.1 (reading_of me.0) keeps)) (ap (λ n. n + 2) hit ∙ sym two) (enters S readers_of writer_of s id me r at (subst (λ n. n % 2 ≡ 0) (sym hit) even) (subst (λ n. n / 2 < 1073741823) (sym hit) few) not))
+    entered old new even few two not = exchanged R slots id me 0 old new (reading_of old me.0) (λ n. having_found n me.0)
+        (λ s r at hit. subst (λ n. R (stepped s 0 n id me.1 (reading_of old me.0) keeps)) (ap (λ n. n + 2) hit ∙ sym two) (enters S readers_of writer_of s id me r at (subst (λ n. n % 2 ≡ 0) (sym hit) even) (subst (λ n. n / 2 < 1073741823) (sym hit) few) not old))
         (λ s r at. finds S readers_of writer_of s id me r at (get_or s.words 0 0))
 
     pub left : me.0.reads ≡ true → Allows R slots id me 0 (λ n. (n + (2 ^ 64 - 2)) % 2 ^ 64) (λ n m'. Left me n m')

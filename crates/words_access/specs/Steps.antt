@@ -19,9 +19,9 @@ module _ {S : Type 0} where
   abbrev pub LookedLeft : Me S View → ℕ → Me S View → Type 0
   LookedLeft m r m' = (r ≡ 1 → m' ≡ (writing_of m.0, m.1)) × (r ≢ 1 → (1 < r) × (m' ≡ (saw_readers_of r m.0, m.1)))
 
-  -- A step from the word that was expected found r.
+  -- A step from the word that was expected found r. A reader's seat knows that word.
   abbrev pub Entered : ℕ → Me S View → ℕ → Me S View → Type 0
-  Entered seen m r m' = (r ≡ seen → m' ≡ (reading_of m.0, m.1)) × (r ≢ seen → m' ≡ (having_found r m.0, m.1))
+  Entered seen m r m' = (r ≡ seen → m' ≡ (reading_of seen m.0, m.1)) × (r ≢ seen → m' ≡ (having_found r m.0, m.1))
 
   abbrev pub Upgraded : ℕ → Me S View → ℕ → Me S View → Type 0
   Upgraded seen m r m' = (r ≡ seen → m' ≡ (upgraded_of m.0, m.1)) × (r ≢ seen → m' ≡ (having_found r m.0, m.1))
