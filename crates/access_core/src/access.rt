@@ -189,12 +189,13 @@ impl Access {
         }
     }
 
-    /// Writes in place of reading, by the reader that is alone: one exchange. Returns whether it writes.
+    /// Writes in place of reading, by the reader that is alone: one exchange. Returns whether it writes. If not, it has found another reader,
+    /// or the writer's bit.
     #[inline]
     pub fn try_upgrade(&self, seat: &mut Seat) -> bool
         requires of { IsOf self.now seat.old }
         requires reads { seat.old.reads ≡ true }
-        ensures { MatchBool result (seat.new ≡ with_writing seat.old) ((seat.new ≡ with_found seat.new.found seat.old) × (seat.new.found ≢ 2)) }
+        ensures { MatchBool result (seat.new ≡ with_writing seat.old) ((seat.new ≡ with_found seat.new.found seat.old) × (2 < seat.new.found)) }
     {
         try_upgrade(&self.table.shared, &mut seat.inner) == READER
     }

@@ -133,7 +133,7 @@ impl RawRwLock {
         requires of { IsOf self.now.access seat.old }
         requires course { IsAt at act.TryUpgrade course.old }
         requires reads { seat.old.reads ≡ true }
-        ensures step { MatchBool result (seat.new ≡ with_writing seat.old) ((seat.new ≡ with_found seat.new.found seat.old) × (seat.new.found ≢ 2)) }
+        ensures step { MatchBool result (seat.new ≡ with_writing seat.old) ((seat.new ≡ with_found seat.new.found seat.old) × (2 < seat.new.found)) }
         ensures goes { MatchBool result (Goes at finds.Done course.new) (Goes at finds.NotFree course.new) }
     {
         let writes = self.access.try_upgrade(seat);

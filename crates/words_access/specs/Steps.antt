@@ -30,6 +30,10 @@ module _ {S : Type 0} where
   abbrev pub Won : ℕ → Me S View → ℕ → Me S View → Type 0
   Won free m r m' = (r ≡ free → m' ≡ (writing_of m.0, m.1)) × (r ≢ free → m' ≡ (having_found r m.0, m.1))
 
+  -- A reader's step that gets to write found r: no other reader, and the seat writes; or another reader, or the writer's bit.
+  abbrev pub Raised : Me S View → ℕ → Me S View → Type 0
+  Raised m r m' = (r ≡ 2 → m' ≡ (writing_of m.0, m.1)) × (r ≢ 2 → (2 < r) × (m' ≡ (having_found r m.0, m.1)))
+
   -- The step that sets the writer's bit found r: nobody inside, and the seat writes; readers, and it waits; or the bit, which another had set.
   abbrev pub Marked : Me S View → ℕ → Me S View → Type 0
   Marked m r m' = (r ≡ 0 → m' ≡ (writing_of m.0, m.1)) × (r ≢ 0 → r % 2 ≡ 0 → m' ≡ (marking_of m.0, m.1)) × (r % 2 ≡ 1 → m' ≡ (having_found r m.0, m.1))
