@@ -1,5 +1,5 @@
 -- What contracts see of a lock's state and lists, and of a seat there.
-use Rattle.std.specs.Prelude.{◌≡◌, ℕ, Bool, true, false, refl}
+use Rattle.std.specs.Prelude.{◌≡◌, ℕ, ◌/◌, ◌<◌, Bool, true, false, refl}
 use Rattle.std.specs.Coded.{Coded, code_by, coded×, coded_ℕ, coded_bool}
 use Rattle.atomic_table.specs.Seated.{TableId, table_id_coded}
 use Rattle.words_access.specs.declared.view.View.{View}
@@ -14,7 +14,7 @@ abbrev pub lock_coded : Coded Lock
 lock_coded = code_by (TableId × (ℕ × ℕ)) (coded× table_id_coded (coded× coded_ℕ coded_ℕ)) (λ l. (l.table, (l.source, l.limit))) (λ p. record { table = p.0; source = p.1.0; limit = p.1.1 }) (λ _. refl)
 
 -- A seat: of which table it is, and which seat there; whether it has set the writer's bit, reads, and writes; what it owes; in which list it has an
--- entry, of which number, and whether it has not looked since it joined, or found its right free; and what its last look found.
+-- entry, of which number, and whether it has not looked since it joined, or found its right free; and what its last look, or its step into the readers, found.
 pub record Seated : Type 0 where
   pub table : TableId
   pub id : ℕ
@@ -42,6 +42,10 @@ seated table id v = record { table = table; id = id; marks = v.marks; reads = v.
 -- The seat is one of the lock.
 abbrev pub IsOf : Lock → Seated → Type 0
 IsOf lock seat = seat.table ≡ lock.table
+
+-- It is one of the lock, and came in where it found fewer readers than the lock's own limit.
+abbrev pub IsLetIn : Lock → Seated → Type 0
+IsLetIn lock seat = IsOf lock seat × (seat.found / 2 < lock.limit)
 
 -- a seat with nothing
 abbrev pub entering : Lock → ℕ → Seated

@@ -118,12 +118,12 @@ impl Access {
     }
 
     /// Reads, if the state is what somebody has `seen` there, with the writer's bit clear and below the limit: one exchange, with no look of
-    /// its own. Returns whether it reads.
+    /// its own. Returns whether it reads; then the seat has found what was seen.
     #[inline]
     pub fn read_from(&self, seat: &mut Seat, seen: u64) -> bool
         requires of { IsOf self.now seat.old }
         requires idle { seat.old.reads ≡ false }
-        ensures { MatchBool result ((seat.new ≡ with_reading seat.new.found seat.old) × (seen / 2 < self.now.limit)) (seat.new ≡ with_found seat.new.found seat.old) }
+        ensures { MatchBool result ((seat.new ≡ with_reading seen seat.old) × (seen / 2 < self.now.limit)) (seat.new ≡ with_found seat.new.found seat.old) }
     {
         if seen % READER == MARK || seen / READER >= self.limit {
             return false;
@@ -189,12 +189,13 @@ impl Access {
         }
     }
 
-    /// Writes in place of reading, by the reader that is alone: one exchange. Returns whether it writes.
+    /// Writes in place of reading, by the reader that is alone: one exchange. Returns whether it writes. If not, it has found another reader,
+    /// or the writer's bit.
     #[inline]
     pub fn try_upgrade(&self, seat: &mut Seat) -> bool
         requires of { IsOf self.now seat.old }
         requires reads { seat.old.reads ≡ true }
-        ensures { MatchBool result (seat.new ≡ with_writing seat.old) ((seat.new ≡ with_found seat.new.found seat.old) × (seat.new.found ≢ 2)) }
+        ensures { MatchBool result (seat.new ≡ with_writing seat.old) ((seat.new ≡ with_found seat.new.found seat.old) × (2 < seat.new.found)) }
     {
         try_upgrade(&self.table.shared, &mut seat.inner) == READER
     }
@@ -242,12 +243,13 @@ impl Access {
         unmark(&self.table.shared, &mut seat.inner);
     }
 
-    /// Reads, if the writer's bit is clear and fewer read than may be, however often the state changes meanwhile.
+    /// Reads, if the writer's bit is clear and fewer read than may be, however often the state changes meanwhile. Whoever it lets in has found
+    /// fewer readers than the lock's own limit.
     #[inline]
     pub fn enter<R: Wait>(&self, rt: &R, seat: &mut Seat) -> Entering
         requires of { IsOf self.now seat.old }
         requires idle { (seat.old.reads ≡ false) × (seat.old.in_writer ≡ false) }
-        ensures { OnEntering result (seat.new ≡ with_reading seat.new.found seat.old) ((seat.new ≡ with_saw_writer seat.new.found seat.old) × (seat.new.found % 2 ≡ 1)) ((seat.new ≡ with_found seat.new.found seat.old) × (self.now.limit ≤ seat.new.found / 2)) }
+        ensures { OnEntering result ((seat.new ≡ with_reading seat.new.found seat.old) × (seat.new.found / 2 < self.now.limit)) ((seat.new ≡ with_saw_writer seat.new.found seat.old) × (seat.new.found % 2 ≡ 1)) ((seat.new ≡ with_found seat.new.found seat.old) × (self.now.limit ≤ seat.new.found / 2)) }
     {
         for _ in rt.forever() {
             match self.read(seat) {
@@ -261,12 +263,13 @@ impl Access {
     }
 
     /// Reads, by a party that has the turn, if fewer read than may. No writer's bit is set then: the call would look again until it is clear.
+    /// Whoever it lets in has found fewer readers than the lock's own limit.
     #[inline]
     pub fn add<R: Wait>(&self, rt: &R, seat: &mut Seat) -> bool
         requires of { IsOf self.now seat.old }
         requires idle { IsIdle seat.old }
         ensures same { (seat.new.table ≡ seat.old.table) × (seat.new.id ≡ seat.old.id) }
-        ensures step { MatchBool result (IsReading seat.new) (IsIdle seat.new × (self.now.limit ≤ seat.new.found / 2)) }
+        ensures step { MatchBool result (IsReading seat.new × (seat.new.found / 2 < self.now.limit)) (IsIdle seat.new × (self.now.limit ≤ seat.new.found / 2)) }
     {
         for _ in rt.forever() {
             match self.read(seat) {

@@ -5,7 +5,7 @@ use Rattle.async_driver.specs.declared.turn.Turn.{Turn}
 use Rattle.async_driver.specs.declared.turn.Turn.TheVariants.{Pending, Ready, Refused}
 use Rattle.async_once_cell.specs.Stages.{Future, Listed}
 use Rattle.async_once_cell.specs.declared.makers.Given.{Given}
-use Rattle.cell_core.specs.Cells.{Seated, IsSameSeat}
+use Rattle.cell_core.specs.Cells.{Cell, HasFound, Seated, IsSameSeat}
 use Rattle.lock_program.specs.declared.refusal.Refusal.{Refusal}
 use Rattle.lock_program.specs.declared.refusal.Refusal.TheVariants.{Finished, Memory}
 
@@ -84,6 +84,16 @@ IsSet value (Err v) = value ≡ Some v
 abbrev pub OnReady : {G : Type 0} → Turn G → Type 0 → Type 0
 OnReady (Ready got) F = F
 OnReady _ F = ⊤
+
+-- a fact of a poll that was ready with a value, and not with how its maker failed
+abbrev pub OnValue : {V E : Type 0} → Turn (Result V E) → Type 0 → Type 0
+OnValue (Ready (Ok value)) F = F
+OnValue _ F = ⊤
+
+-- Ready with the cell's value, its seat has found the cell full, or made it so. It ends without a seat only if it had none before.
+abbrev pub IsFoundBy : Cell → Option Seated → Option Seated → Type 0
+IsFoundBy cell was None = was ≡ None
+IsFoundBy cell was (Some seat) = HasFound cell seat
 
 -- how the maker failed, it promised
 abbrev pub FailsSo : {T E M : Type 0} → (M → Result T E → Type 0) → Option M → Result (Bor T) E → Type 0

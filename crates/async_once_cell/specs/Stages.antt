@@ -92,7 +92,7 @@ IsKept u new cell stage = KeptBy u new cell stage.maker (resting_in stage.party)
 
 -- Its first look found the cell full, before its party had a seat: it is over.
 abbrev pub IsFound : {M : Type 0} → Stage M → Stage M → Type 0
-IsFound old new = (is_over_in old ≡ false) × (resting_in old.party ≡ None) × (new ≡ record old { maker = None })
+IsFound old new = (is_over_in old ≡ false) × (old.party ≡ parties.Out) × (new ≡ record old { maker = None })
 
 -- what its drop needs: that its party is one of the cell
 abbrev pub CanDrop : {M : Type 0} → Cell → Stage M → Type 0

@@ -4,7 +4,7 @@ ghost use Rattle.std.specs.Prelude.{◌≡◌, ⊤, Some, IfSome, IsSomeAnd, fal
 ghost use Rattle.futures.specs.Task.{Keeps};
 ghost use Rattle.async_driver.specs.Turns.{OnPending};
 ghost use Rattle.async_once_cell.specs.Closures.{CanMake, CanTry, MakeGives, MakeNeeds, TryGives, TryNeeds, is_new_make, is_new_try};
-ghost use Rattle.async_once_cell.specs.Futures.{FailsSo, GoesOnBy, IsTurn, OnMemory};
+ghost use Rattle.async_once_cell.specs.Futures.{FailsSo, GoesOnBy, IsFoundBy, IsTurn, OnMemory, OnReady, OnValue};
 ghost use Rattle.async_once_cell.specs.Stages.{IsAwaiting};
 ghost use Rattle.async_once_cell.specs.declared.makers.Trying.TheVariants as tries;
 ghost use Rattle.async_once_cell.specs.declared.makers.Making.TheVariants as makes;
@@ -91,7 +91,9 @@ impl<
     /// keeps a waker of the polling task, and the task has registered with the cell's source. Or it makes the value, and its closure's
     /// future has registered with what it waits for. What the task had registered before stays registered (`kept`).
     ///
-    /// It goes on by one seat, from the poll that joined the list, or took the right to make, to its end (`same`).
+    /// It goes on by one seat, from the poll that joined the list, or took the right to make, to its end (`same`). If it is ready with the
+    /// cell's value, that seat has found the cell full, or made it so. It is ready without a seat only if it had none before (`found`): then
+    /// the first look of the poll found the value, which no clause says.
     #[inline]
     pub fn poll(&mut self, cx: &mut Context<'_>) -> Turn<Result<&'a T, E>>
         requires { IfSome self.old.maker (CanTry F.pre F.post Fut.can_poll) }
@@ -101,6 +103,7 @@ impl<
         ensures memory { OnMemory result ((self.new.entry ≡ None) × (self.new.maker ≡ self.old.maker) × IsSomeAnd self.new.maker is_new_try) }
         ensures cell { self.new.cell ≡ self.old.cell }
         ensures same { GoesOnBy self.old.seat result self.new.seat self.new.ended }
+        ensures found { OnValue result (IsFoundBy self.old.cell.raw self.old.seat self.new.ended) }
         ensures receipt { OnPending result (IsAwaiting (TryGives F.post Fut.gives) (TryNeeds Fut.needs) self.old.cell.raw cx.new self.old.maker self.new.maker self.new.entry) }
         ensures kept { Keeps cx.old cx.new }
     {
@@ -220,6 +223,7 @@ impl<'a, T: Drop, R: Wait + Clock, F: FnOnce() -> Fut, Fut: Future<Output = T>> 
         ensures memory { OnMemory result ((self.new.entry ≡ None) × (self.new.maker ≡ self.old.maker) × IsSomeAnd self.new.maker is_new_make) }
         ensures cell { self.new.cell ≡ self.old.cell }
         ensures same { GoesOnBy self.old.seat result self.new.seat self.new.ended }
+        ensures found { OnReady result (IsFoundBy self.old.cell.raw self.old.seat self.new.ended) }
         ensures receipt { OnPending result (IsAwaiting {E = Infallible} (MakeGives F.post Fut.gives) (MakeNeeds Fut.needs) self.old.cell.raw cx.new self.old.maker self.new.maker self.new.entry) }
         ensures kept { Keeps cx.old cx.new }
     {

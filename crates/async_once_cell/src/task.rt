@@ -98,8 +98,8 @@ pub(crate) fn find<'a, T: Drop, M: Drop, R>(
     ensures none { IfNone result (stage.new ≡ stage.old) }
 {
     match &stage.party {
-        Party::Rests(_) => return None,
-        Party::Out | Party::Ended(_) => {}
+        Party::Rests(_) | Party::Ended(_) => return None,
+        Party::Out => {}
     }
     if stage.maker.is_none() {
         return None;

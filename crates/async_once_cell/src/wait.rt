@@ -5,7 +5,7 @@ ghost use Rattle.futures.specs.Task.{Keeps};
 ghost use Rattle.async_driver.specs.Turns.{OnPending};
 ghost use Rattle.cell_core.specs.Cells.{IsOf};
 ghost use Rattle.cell_core.specs.Outcomes.{IsWaitedBySeat, OnWaited};
-ghost use Rattle.async_once_cell.specs.Futures.{GoesOnBy, IsTurn, OnMemory, seat_in};
+ghost use Rattle.async_once_cell.specs.Futures.{GoesOnBy, IsFoundBy, IsTurn, OnMemory, OnReady, seat_in};
 ghost use Rattle.async_once_cell.specs.Stages.{HasReceiptPassive, passive_of};
 
 use crate::cell::OnceCell;
@@ -43,7 +43,7 @@ impl<'a, T, R: Waits> Model for Wait<'a, T, R> {
 
     ghost view = { λ w. record { cell = w.cell.now; is_over = w.is_over; entry = passive_of w.waiting; ended = w.ended } };
 
-    ghost invariant = { λ w. IfSome w.waiting (λ q. IsOf w.cell.now.raw q.seat) × (w.is_over ≡ true → is_some w.waiting ≡ false) };
+    ghost invariant = { λ w. IfSome w.waiting (λ q. IsOf w.cell.now.raw q.seat) × (w.is_over ≡ true → is_some w.waiting ≡ false) × (w.is_over ≡ false → is_some w.ended ≡ false) };
 }
 
 impl<'a, T: Drop, R: Waits> Wait<'a, T, R> {
@@ -78,7 +78,8 @@ fn poll_on<'a, T: Drop, R: Waits + Clock>(
 }
 
 impl<'a, T: Drop, R: Waits + Clock> Wait<'a, T, R> {
-    /// Polls once: ready with the cell's value, or pending.
+    /// Polls once: ready with the cell's value, or pending. The seat by which it is ready has found the cell full. It is ready without a seat
+    /// only if it stood in no list (`found`): then the first look of the poll found the value, which no clause says.
     ///
     /// It is refused as [`Refusal::Memory`](crate::Refusal) if memory for its entry was refused; then it stands in no list and may be
     /// polled again. Once it was ready it is refused as `Refusal::Finished`, and nothing changes (`turn`, `over`).
@@ -93,6 +94,7 @@ impl<'a, T: Drop, R: Waits + Clock> Wait<'a, T, R> {
         ensures memory { OnMemory result (self.new.entry ≡ None) }
         ensures cell { self.new.cell ≡ self.old.cell }
         ensures same { GoesOnBy (seat_in self.old.entry) result (seat_in self.new.entry) self.new.ended }
+        ensures found { OnReady result (IsFoundBy self.old.cell.raw (seat_in self.old.entry) self.new.ended) }
         ensures receipt { OnPending result (HasReceiptPassive self.old.cell.raw cx.new self.new.entry) }
         ensures kept { Keeps cx.old cx.new }
     {

@@ -1,5 +1,5 @@
 -- What contracts see of a guard.
-use Rattle.std.specs.Prelude.{ℕ, Option}
+use Rattle.std.specs.Prelude.{ℕ, ◌/◌, ◌<◌, Option}
 use Rattle.access_core.specs.Accesses.{Seated}
 use Rattle.async_rwlock.specs.declared.rwlock.RwLock.{RwLock}
 
@@ -10,3 +10,7 @@ pub record Held (T R : Type 0) : Type 0 where
   pub value : T
   pub seat : Seated
   pub turn_seat : Option ℕ
+
+-- Its seat came in where it found fewer readers than its lock's own limit.
+abbrev pub HasFoundRoom : {T R : Type 0} → Held T R → Type 0
+HasFoundRoom guard = guard.seat.found / 2 < guard.lock.raw.access.limit

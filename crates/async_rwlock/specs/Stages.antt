@@ -131,6 +131,11 @@ abbrev pub CanRefuse : (Refusal → Type 0) → Bool → Refusal → Type 0
 CanRefuse refuses true refusal = refusal ≡ Finished
 CanRefuse refuses false refusal = refuses refusal
 
+-- a fact of what a poll got
+abbrev pub OnGot : {G : Type 0} → Turn G → (G → Type 0) → Type 0
+OnGot (Ready got) fact = fact got
+OnGot _ fact = ⊤
+
 abbrev pub OnRefused : {G : Type 0} → Turn G → Type 0 → Type 0
 OnRefused (Refused refusal) fact = fact
 OnRefused _ fact = ⊤

@@ -1,9 +1,11 @@
 //! The calls of a read-write lock.
 
 ghost use Rattle.std.specs.Prelude.{◌≡◌, IfErr, IfOk, IfSome, None};
+ghost use Rattle.access_core.specs.Accesses.{IsLetIn};
+ghost use Rattle.async_rwlock.specs.Guards.{HasFoundRoom};
 ghost use Rattle.async_rwlock.specs.Stages.{IsFor, IsOf};
 ghost use Rattle.rwlock_core.specs.Outcomes.{IsReadRefusal, IsUpgradableRefusal, IsWriteRefusal};
-ghost use Rattle.rwlock_core.specs.Parties.{IsReaderOf, IsUpgradableOf, IsWriterOf};
+ghost use Rattle.rwlock_core.specs.Parties.{IsUpgradableLetIn, IsWriterOf};
 ghost use Rattle.std.specs.Arc.{arc_value};
 
 use crate::lock_futures::{Read, ReadArc, UpgradableRead, UpgradableReadArc, Write, WriteArc};
@@ -32,13 +34,15 @@ use std::time::Clock;
 impl<T, R: Releases> RwLock<T, R> {
     /// Attempts to acquire a right to read: it does if nobody writes or waits for readers to leave, and fewer read than may.
     ///
-    /// The contract guarantees that a returned guard belongs to this lock. That a free lock is acquired is only tested.
+    /// The contract guarantees that a returned guard belongs to this lock, and that its seat has found fewer readers than the lock's own
+    /// limit (`few`). That a free lock is acquired is only tested.
     ///
     /// ```
     /// let is_shared = lock.try_read().is_some();
     /// ```
     pub fn try_read(&self) -> Option<RwLockReadGuard<'_, T, R>>
-        ensures { IfSome result (λ guard. guard.lock ≡ self.now) }
+        ensures lock { IfSome result (λ guard. guard.lock ≡ self.now) }
+        ensures few { IfSome result HasFoundRoom }
     {
         match self.rt.try_read(&self.raw) {
             Ok(reader) => Some(ReadGuard::new(self, reader)),
@@ -56,7 +60,8 @@ impl<T, R: Releases> RwLock<T, R> {
     /// let is_free = lock.try_upgradable_read().is_some();
     /// ```
     pub fn try_upgradable_read(&self) -> Option<RwLockUpgradableReadGuard<'_, T, R>>
-        ensures { IfSome result (λ guard. guard.lock ≡ self.now) }
+        ensures lock { IfSome result (λ guard. guard.lock ≡ self.now) }
+        ensures few { IfSome result HasFoundRoom }
     {
         match self.rt.try_upgradable_read(&self.raw) {
             Ok(upgradable) => Some(UpgradableGuard::new(self, upgradable)),
@@ -135,6 +140,7 @@ impl<T: Drop, R: Wait + Clock + RandomSource + AllocGlobal> RwLock<T, R> {
     /// ```
     pub fn read_blocking(&self) -> Result<RwLockReadGuard<'_, T, R>, Refusal>
         ensures lock { IfOk result (λ guard. guard.lock ≡ self.now) }
+        ensures few { IfOk result HasFoundRoom }
         ensures refused { IfErr result IsReadRefusal }
     {
         if let Some(guard) = self.try_read() {
@@ -155,6 +161,7 @@ impl<T: Drop, R: Wait + Clock + RandomSource + AllocGlobal> RwLock<T, R> {
     /// ```
     pub fn upgradable_read_blocking(&self) -> Result<RwLockUpgradableReadGuard<'_, T, R>, Refusal>
         ensures lock { IfOk result (λ guard. guard.lock ≡ self.now) }
+        ensures few { IfOk result HasFoundRoom }
         ensures refused { IfErr result IsUpgradableRefusal }
     {
         if let Some(guard) = self.try_upgradable_read() {
@@ -189,7 +196,8 @@ impl<T: Drop, R: Releases + Drop> RwLock<T, R> {
     /// let reads = RwLock::try_read_arc(&lock).is_some();
     /// ```
     pub fn try_read_arc(this: &Arc<RwLock<T, R>>) -> Option<RwLockReadGuardArc<T, R>>
-        ensures { IfSome result (λ guard. guard.lock ≡ arc_value this.now) }
+        ensures lock { IfSome result (λ guard. guard.lock ≡ arc_value this.now) }
+        ensures few { IfSome result HasFoundRoom }
     {
         match this.rt.try_read(&this.raw) {
             Ok(reader) => reader_of(this, reader),
@@ -208,7 +216,8 @@ impl<T: Drop, R: Releases + Drop> RwLock<T, R> {
     pub fn try_upgradable_read_arc(
         this: &Arc<RwLock<T, R>>,
     ) -> Option<RwLockUpgradableReadGuardArc<T, R>>
-        ensures { IfSome result (λ guard. guard.lock ≡ arc_value this.now) }
+        ensures lock { IfSome result (λ guard. guard.lock ≡ arc_value this.now) }
+        ensures few { IfSome result HasFoundRoom }
     {
         match this.rt.try_upgradable_read(&this.raw) {
             Ok(upgradable) => upgradable_reader_of(this, upgradable),
@@ -287,6 +296,7 @@ impl<T: Drop, R: Wait + Clock + RandomSource + AllocGlobal + Drop> RwLock<T, R> 
     /// ```
     pub fn read_arc_blocking(this: &Arc<RwLock<T, R>>) -> Result<RwLockReadGuardArc<T, R>, Refusal>
         ensures lock { IfOk result (λ guard. guard.lock ≡ arc_value this.now) }
+        ensures few { IfOk result HasFoundRoom }
         ensures refused { IfErr result IsReadRefusal }
     {
         if let Some(guard) = RwLock::try_read_arc(this) {
@@ -304,6 +314,7 @@ impl<T: Drop, R: Wait + Clock + RandomSource + AllocGlobal + Drop> RwLock<T, R> 
         this: &Arc<RwLock<T, R>>,
     ) -> Result<RwLockUpgradableReadGuardArc<T, R>, Refusal>
         ensures lock { IfOk result (λ guard. guard.lock ≡ arc_value this.now) }
+        ensures few { IfOk result HasFoundRoom }
         ensures refused { IfErr result IsUpgradableRefusal }
     {
         if let Some(guard) = RwLock::try_upgradable_read_arc(this) {
@@ -340,8 +351,9 @@ fn reader_of<T: Drop, R: Releases + Drop>(
     this: &Arc<RwLock<T, R>>,
     reader: Reader,
 ) -> Option<RwLockReadGuardArc<T, R>>
-    requires { IsReaderOf (arc_value this.now).raw reader }
-    ensures { IfSome result (λ guard. guard.lock ≡ arc_value this.now) }
+    requires { IsLetIn (arc_value this.now).raw.access reader.seat }
+    ensures lock { IfSome result (λ guard. guard.lock ≡ arc_value this.now) }
+    ensures few { IfSome result HasFoundRoom }
 {
     match Arc::try_clone(this) {
         Ok(owner) => Some(ReadGuard::new(owner, reader)),
@@ -358,8 +370,9 @@ fn upgradable_reader_of<T: Drop, R: Releases + Drop>(
     this: &Arc<RwLock<T, R>>,
     upgradable: Upgradable,
 ) -> Option<RwLockUpgradableReadGuardArc<T, R>>
-    requires { IsUpgradableOf (arc_value this.now).raw upgradable }
-    ensures { IfSome result (λ guard. guard.lock ≡ arc_value this.now) }
+    requires { IsUpgradableLetIn (arc_value this.now).raw upgradable }
+    ensures lock { IfSome result (λ guard. guard.lock ≡ arc_value this.now) }
+    ensures few { IfSome result HasFoundRoom }
 {
     match Arc::try_clone(this) {
         Ok(owner) => Some(UpgradableGuard::new(owner, upgradable)),

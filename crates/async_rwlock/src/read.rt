@@ -3,10 +3,11 @@
 ghost use Rattle.std.specs.Prelude.{◌≡◌, false, ⊤, IfSome, None, Some};
 ghost use Rattle.futures.specs.Task.{Covers, Keeps};
 ghost use Rattle.async_driver.specs.Turns.{OnPending};
-ghost use Rattle.async_rwlock.specs.Stages.{At, GoesOnBy, HasReceiptAt, IsOf, IsTurn, Looks, OnPolled, OnRefused, OnWaits, WaitsAt, future, is_finished, reads_entry};
-ghost use Rattle.access_core.specs.Accesses.{IsOf as IsSeatAt, IsIdle};
+ghost use Rattle.async_rwlock.specs.Stages.{At, GoesOnBy, HasReceiptAt, IsOf, IsTurn, Looks, OnGot, OnPolled, OnRefused, OnWaits, WaitsAt, future, is_finished, reads_entry};
+ghost use Rattle.async_rwlock.specs.Guards.{HasFoundRoom};
+ghost use Rattle.access_core.specs.Accesses.{IsOf as IsSeatAt, IsIdle, IsLetIn};
 ghost use Rattle.rwlock_core.specs.Outcomes.{IsReadRefusal, OnOutcome};
-ghost use Rattle.rwlock_core.specs.Parties.{IsReaderOf, IsSeatOf};
+ghost use Rattle.rwlock_core.specs.Parties.{IsSeatOf};
 
 use crate::owns::Owns;
 use crate::read_guard::ReadGuard;
@@ -57,7 +58,7 @@ impl<T, R: Wait, O: Owns<Value = T, Runtime = R>> ReadFuture<T, R, O> {
 }
 
 impl<T, R: Wait + Clock, O: Owns<Value = T, Runtime = R>> ReadFuture<T, R, O> {
-    /// Polls once: ready with the guard, or pending.
+    /// Polls once: ready with the guard, whose seat has found fewer readers than the lock's own limit (`few`), or pending.
     ///
     /// It is refused as [`Refusal::Memory`](crate::Refusal::Memory) if memory for its entry was refused, and as
     /// [`Refusal::Readers`](crate::Refusal::Readers) if as many read as may. Then the future is as when it was made, and may be polled
@@ -71,6 +72,7 @@ impl<T, R: Wait + Clock, O: Owns<Value = T, Runtime = R>> ReadFuture<T, R, O> {
         ensures turn { IsTurn IsReadRefusal (λ guard. IsOf O.lock_of self.old.stage guard.lock) (is_finished self.old.stage) result (is_finished self.new.stage) }
         ensures share { is_finished self.new.stage ≡ false → self.new.stage ≡ self.old.stage }
         ensures same { IfSome self.old.waiting (λ e. GoesOnBy (λ guard. guard.seat) (λ guard. guard.turn_seat) e result self.new.waiting) }
+        ensures few { OnGot result HasFoundRoom }
         ensures refused { OnRefused result (self.new.waiting ≡ None) }
         ensures receipt { OnPending result (HasReceiptAt O.lock_of self.old.stage cx.new self.new.waiting) }
         ensures registered { OnPending result (Covers cx.new (WaitsAt O.lock_of self.old.stage self.new.waiting)) }
@@ -104,10 +106,11 @@ impl<T, R: Wait + Clock, O: Owns<Value = T, Runtime = R>> ReadFuture<T, R, O> {
 impl<T, R: Wait + Clock, O: Owns<Value = T, Runtime = R>> Polled for ReadFuture<T, R, O> {
     type Got = ReadGuard<T, R, O>;
 
+    ghost use Rattle.async_rwlock.specs.Guards.{HasFoundRoom};
     ghost use Rattle.async_rwlock.specs.Stages.{CanRefuse, IsOf, is_finished};
     ghost use Rattle.rwlock_core.specs.Outcomes.{IsReadRefusal};
 
-    ghost gives = { λ future guard. IsOf O.lock_of future.stage guard.lock };
+    ghost gives = { λ future guard. IsOf O.lock_of future.stage guard.lock × HasFoundRoom guard };
 
     ghost refuses = { λ future. CanRefuse IsReadRefusal (is_finished future.stage) };
 
@@ -119,7 +122,7 @@ impl<T, R: Wait + Clock, O: Owns<Value = T, Runtime = R>> Polled for ReadFuture<
 // The first look by who has the lock.
 #[inline]
 fn first_look<T, R: Wait, O: Owns<Value = T, Runtime = R>>(stage: &Stage<O>) -> Look<Reader, Seat>
-    ensures { Looks stage.now (λ right. At O.lock_of stage.now (λ raw. IsReaderOf raw right)) (λ seat. At O.lock_of stage.now (λ raw. IsSeatAt raw.access seat × IsIdle seat)) result }
+    ensures { Looks stage.now (λ right. At O.lock_of stage.now (λ raw. IsLetIn raw.access right.seat)) (λ seat. At O.lock_of stage.now (λ raw. IsSeatAt raw.access seat × IsIdle seat)) result }
 {
     match stage {
         Stage::Waits(owner) => {
@@ -141,7 +144,7 @@ fn first_poll<T, R: Wait + Clock, O: Owns<Value = T, Runtime = R>>(
     seat: Seat,
 ) -> Outcome<Reader, WaitsToRead>
     requires { At O.lock_of stage.now (λ raw. IsSeatAt raw.access seat × IsIdle seat) }
-    ensures outcome { OnPolled (λ right. At O.lock_of stage.now (λ raw. IsReaderOf raw right)) (λ w. At O.lock_of stage.now (λ raw. IsSeatAt raw.access w.seat)) IsReadRefusal result }
+    ensures outcome { OnPolled (λ right. At O.lock_of stage.now (λ raw. IsLetIn raw.access right.seat)) (λ w. At O.lock_of stage.now (λ raw. IsSeatAt raw.access w.seat)) IsReadRefusal result }
     ensures receipt { OnWaits result (λ w. HasReceiptAt O.lock_of stage.now cx.new (reads_entry (Some w)) × Covers cx.new (WaitsAt O.lock_of stage.now (reads_entry (Some w)))) }
     ensures kept { Keeps cx.old cx.new }
 {
@@ -163,7 +166,7 @@ fn later_poll<T, R: Wait + Clock, O: Owns<Value = T, Runtime = R>>(
 ) -> Outcome<Reader, WaitsToRead>
     requires { At O.lock_of stage.now (λ raw. IsSeatAt raw.access waiting.seat) }
     ensures same { OnOutcome result (λ right. IsSeatOf waiting.seat right.seat) (λ w. IsSeatOf waiting.seat w.seat) (λ _. ⊤) }
-    ensures outcome { OnPolled (λ right. At O.lock_of stage.now (λ raw. IsReaderOf raw right)) (λ w. At O.lock_of stage.now (λ raw. IsSeatAt raw.access w.seat)) IsReadRefusal result }
+    ensures outcome { OnPolled (λ right. At O.lock_of stage.now (λ raw. IsLetIn raw.access right.seat)) (λ w. At O.lock_of stage.now (λ raw. IsSeatAt raw.access w.seat)) IsReadRefusal result }
     ensures receipt { OnWaits result (λ w. HasReceiptAt O.lock_of stage.now cx.new (reads_entry (Some w)) × Covers cx.new (WaitsAt O.lock_of stage.now (reads_entry (Some w)))) }
     ensures kept { Keeps cx.old cx.new }
 {

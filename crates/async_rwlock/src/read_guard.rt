@@ -1,6 +1,8 @@
 //! A reader.
 
 ghost use Rattle.std.specs.Prelude.{◌≡◌};
+ghost use Rattle.access_core.specs.Accesses.{IsLetIn};
+ghost use Rattle.async_rwlock.specs.Guards.{HasFoundRoom};
 ghost use Rattle.async_rwlock.specs.Stages.{At, IsOf};
 ghost use Rattle.rwlock_core.specs.Parties.{IsReaderOf};
 
@@ -57,9 +59,10 @@ impl<T, R: Releases, O: Owns<Value = T, Runtime = R>> ReadGuard<T, R, O> {
     /// The guard of a future that got the right, with who has the lock.
     #[inline]
     pub(crate) fn of_stage(stage: Stage<O>, reader: Reader) -> ReadGuard<T, R, O>
-        requires { At O.lock_of stage (λ raw. IsReaderOf raw reader) }
+        requires { At O.lock_of stage (λ raw. IsLetIn raw.access reader.seat) }
         ensures lock { IsOf O.lock_of stage result.lock }
         ensures seat { result.seat ≡ reader.seat }
+        ensures few { HasFoundRoom result }
     {
         match stage {
             Stage::Waits(owner) => ReadGuard::new(owner, reader),

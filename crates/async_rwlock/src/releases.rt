@@ -1,9 +1,9 @@
 //! What a guard and a try ask of the runtime.
 
 ghost use Rattle.std.specs.Prelude.{◌≡◌, ◌≤◌, ◌%◌, ◌/◌, ◌⊎◌, MatchResult};
-ghost use Rattle.access_core.specs.Accesses.{IsOf, IsIdle, IsReading, with_downgrade};
+ghost use Rattle.access_core.specs.Accesses.{IsOf, IsIdle, IsLetIn, IsReading, with_downgrade};
 ghost use Rattle.mutex_core.specs.Outcomes.{IsHeldOf};
-ghost use Rattle.rwlock_core.specs.Parties.{AreSeatsOf, IsReaderOf, IsUpgradableOf, IsWriterOf};
+ghost use Rattle.rwlock_core.specs.Parties.{AreSeatsOf, IsReaderOf, IsUpgradableLetIn, IsUpgradableOf, IsWriterOf};
 ghost use Rattle.rwlock_core.specs.Vain.{IsVainUpgradable, IsVainWrite};
 
 use rwlock_core::{InVain, RawRwLock, Reader, Seat, Turn, Upgradable, Writer};
@@ -13,13 +13,13 @@ use std::sync::Wait;
 ///
 /// A function over it has nothing else to wait by: no call waits longer than for a list's short lock, or for a word that others change.
 pub trait Releases {
-    /// Reads at once, if nobody writes or waits for readers to leave, and fewer read than may.
+    /// Reads at once, if nobody writes or waits for readers to leave, and fewer read than may: it has found fewer than the lock's own limit.
     fn try_read(&self, lock: &RawRwLock) -> Result<Reader, Seat>
-        ensures { MatchResult result (IsReaderOf lock.now) (λ seat. IsOf lock.now.access seat × IsIdle seat × ((seat.found % 2 ≡ 1) ⊎ (lock.now.access.limit ≤ seat.found / 2))) };
+        ensures { MatchResult result (λ reader. IsLetIn lock.now.access reader.seat) (λ seat. IsOf lock.now.access seat × IsIdle seat × ((seat.found % 2 ≡ 1) ⊎ (lock.now.access.limit ≤ seat.found / 2))) };
 
     /// Reads at once with the right to upgrade, if nobody has it and nobody is starved for it, and fewer read than may.
     fn try_upgradable_read(&self, lock: &RawRwLock) -> Result<Upgradable, InVain>
-        ensures { MatchResult result (IsUpgradableOf lock.now) (IsVainUpgradable lock.now) };
+        ensures { MatchResult result (IsUpgradableLetIn lock.now) (IsVainUpgradable lock.now) };
 
     /// Writes at once, if nobody is inside and nobody is starved for it.
     fn try_write(&self, lock: &RawRwLock) -> Result<Writer, InVain>

@@ -1,9 +1,10 @@
 //! A reader that may become the writer.
 
-ghost use Rattle.std.specs.Prelude.{◌≡◌, ◌≢◌, IfOk, IfErr, MatchResult, Some};
+ghost use Rattle.std.specs.Prelude.{◌≡◌, ◌<◌, IfOk, IfErr, MatchResult, Some};
 ghost use Rattle.lock_program.specs.declared.refusal.Refusal.{Refusal};
 ghost use Rattle.access_core.specs.Accesses.{IsOf as IsSeatOf, IsReading, with_found, with_writing};
-ghost use Rattle.rwlock_core.specs.Parties.{IsUpgradableOf};
+ghost use Rattle.rwlock_core.specs.Parties.{IsUpgradableLetIn, IsUpgradableOf};
+ghost use Rattle.async_rwlock.specs.Guards.{HasFoundRoom};
 ghost use Rattle.async_rwlock.specs.Noted.{IsNotedOf};
 ghost use Rattle.async_rwlock.specs.Stages.{At, IsOf};
 
@@ -93,9 +94,10 @@ impl<T, R: Releases, O: Owns<Value = T, Runtime = R>> UpgradableGuard<T, R, O> {
     /// The guard of a future that got the right, with who has the lock.
     #[inline]
     pub(crate) fn of_stage(stage: Stage<O>, upgradable: Upgradable) -> UpgradableGuard<T, R, O>
-        requires { At O.lock_of stage (λ raw. IsUpgradableOf raw upgradable) }
+        requires { At O.lock_of stage (λ raw. IsUpgradableLetIn raw upgradable) }
         ensures lock { IsOf O.lock_of stage result.lock }
         ensures seat { result.seat ≡ upgradable.seat }
+        ensures few { HasFoundRoom result }
         ensures turn { result.turn_seat ≡ Some upgradable.turn.seat.id }
     {
         match stage {
@@ -164,7 +166,8 @@ impl<T, R: Releases, O: Owns<Value = T, Runtime = R>> UpgradableGuard<T, R, O> {
         }
     }
 
-    /// Writes, if nobody else reads. Otherwise the guard comes back: by the contract its seat has found another reader (`beside`).
+    /// Writes, if nobody else reads. Otherwise the guard comes back: by the contract its seat has found another reader, or the writer's bit
+    /// (`beside`).
     ///
     /// It is the same seat, by one try (`writes`, `reads`): at no time has it neither right, so nobody writes in between. The value stays
     /// (`value`).
@@ -178,7 +181,7 @@ impl<T, R: Releases, O: Owns<Value = T, Runtime = R>> UpgradableGuard<T, R, O> {
     pub fn try_upgrade(guard: Self) -> Result<WriteGuard<T, R, O>, Self>
         ensures writes { IfOk result (λ writer. (writer.lock ≡ guard.lock) × (writer.seat ≡ with_writing guard.seat)) }
         ensures reads { IfErr result (λ reader. (reader.lock ≡ guard.lock) × (reader.seat ≡ with_found reader.seat.found guard.seat)) }
-        ensures beside { IfErr result (λ reader. reader.seat.found ≢ 2) }
+        ensures beside { IfErr result (λ reader. 2 < reader.seat.found) }
         ensures value { MatchResult result (λ writer. writer.value ≡ guard.value) (λ reader. reader.value ≡ guard.value) }
     {
         let (owner, seat, noted) = guard.into_noted();

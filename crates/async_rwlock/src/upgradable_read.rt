@@ -3,11 +3,12 @@
 ghost use Rattle.std.specs.Prelude.{◌≡◌, false, ⊤, IfSome, None, Some};
 ghost use Rattle.futures.specs.Task.{Covers, Keeps};
 ghost use Rattle.async_driver.specs.Turns.{OnPending};
-ghost use Rattle.async_rwlock.specs.Stages.{At, GoesOnBy, HasReceiptAt, IsOf, IsTurn, Looks, OnPolled, OnRefused, OnWaits, WaitsAt, future, is_finished, turn_entry};
+ghost use Rattle.async_rwlock.specs.Stages.{At, GoesOnBy, HasReceiptAt, IsOf, IsTurn, Looks, OnGot, OnPolled, OnRefused, OnWaits, WaitsAt, future, is_finished, turn_entry};
+ghost use Rattle.async_rwlock.specs.Guards.{HasFoundRoom};
 ghost use Rattle.mutex_core.specs.Locks.{IsOf as IsTurnOf, IsSameSeat};
 ghost use Rattle.mutex_core.specs.Outcomes.{IsHeldOf};
 ghost use Rattle.rwlock_core.specs.Outcomes.{IsUpgradableRefusal, OnOutcome};
-ghost use Rattle.rwlock_core.specs.Parties.{IsTaking, IsUpgradableOf};
+ghost use Rattle.rwlock_core.specs.Parties.{IsTaking, IsUpgradableLetIn};
 
 use crate::owns::Owns;
 use crate::stage::{Look, Stage, no_share};
@@ -59,7 +60,7 @@ impl<T, R: Wait, O: Owns<Value = T, Runtime = R>> UpgradableFuture<T, R, O> {
 }
 
 impl<T, R: Wait + Clock, O: Owns<Value = T, Runtime = R>> UpgradableFuture<T, R, O> {
-    /// Polls once: ready with the guard, or pending.
+    /// Polls once: ready with the guard, whose seat has found fewer readers than the lock's own limit (`few`), or pending.
     ///
     /// It is refused as [`Refusal::Memory`](crate::Refusal::Memory) if memory for its entry was refused, as
     /// [`Refusal::Starved`](crate::Refusal::Starved) if as many waiters are starved for the turn as may be, and as
@@ -74,6 +75,7 @@ impl<T, R: Wait + Clock, O: Owns<Value = T, Runtime = R>> UpgradableFuture<T, R,
         ensures turn { IsTurn IsUpgradableRefusal (λ guard. IsOf O.lock_of self.old.stage guard.lock) (is_finished self.old.stage) result (is_finished self.new.stage) }
         ensures share { is_finished self.new.stage ≡ false → self.new.stage ≡ self.old.stage }
         ensures same { IfSome self.old.waiting (λ e. GoesOnBy (λ guard. guard.seat) (λ guard. guard.turn_seat) e result self.new.waiting) }
+        ensures few { OnGot result HasFoundRoom }
         ensures refused { OnRefused result (self.new.waiting ≡ None) }
         ensures receipt { OnPending result (HasReceiptAt O.lock_of self.old.stage cx.new self.new.waiting) }
         ensures registered { OnPending result (Covers cx.new (WaitsAt O.lock_of self.old.stage self.new.waiting)) }
@@ -104,10 +106,11 @@ impl<T, R: Wait + Clock, O: Owns<Value = T, Runtime = R>> UpgradableFuture<T, R,
 impl<T, R: Wait + Clock, O: Owns<Value = T, Runtime = R>> Polled for UpgradableFuture<T, R, O> {
     type Got = UpgradableGuard<T, R, O>;
 
+    ghost use Rattle.async_rwlock.specs.Guards.{HasFoundRoom};
     ghost use Rattle.async_rwlock.specs.Stages.{CanRefuse, IsOf, is_finished};
     ghost use Rattle.rwlock_core.specs.Outcomes.{IsUpgradableRefusal};
 
-    ghost gives = { λ future guard. IsOf O.lock_of future.stage guard.lock };
+    ghost gives = { λ future guard. IsOf O.lock_of future.stage guard.lock × HasFoundRoom guard };
 
     ghost refuses = { λ future. CanRefuse IsUpgradableRefusal (is_finished future.stage) };
 
@@ -143,7 +146,7 @@ fn with_turn<T, R: Wait + Clock, O: Owns<Value = T, Runtime = R>>(
     turn: Held<()>,
 ) -> Outcome<Upgradable, Waiting<()>>
     requires { At O.lock_of stage.now (λ raw. IsHeldOf raw.turn turn) }
-    ensures outcome { OnPolled (λ right. At O.lock_of stage.now (λ raw. IsUpgradableOf raw right)) (λ w. At O.lock_of stage.now (λ raw. IsTurnOf raw.turn w.seat)) IsUpgradableRefusal result }
+    ensures outcome { OnPolled (λ right. At O.lock_of stage.now (λ raw. IsUpgradableLetIn raw right)) (λ w. At O.lock_of stage.now (λ raw. IsTurnOf raw.turn w.seat)) IsUpgradableRefusal result }
     ensures receipt { OnWaits result (λ w. HasReceiptAt O.lock_of stage.now cx.new (turn_entry (Some w)) × Covers cx.new (WaitsAt O.lock_of stage.now (turn_entry (Some w)))) }
     ensures kept { Keeps cx.old cx.new }
 {
@@ -165,7 +168,7 @@ fn first_poll<T, R: Wait + Clock, O: Owns<Value = T, Runtime = R>>(
     vain: Vain<()>,
 ) -> Outcome<Upgradable, Waiting<()>>
     requires { At O.lock_of stage.now (λ raw. IsTaking raw vain) }
-    ensures outcome { OnPolled (λ right. At O.lock_of stage.now (λ raw. IsUpgradableOf raw right)) (λ w. At O.lock_of stage.now (λ raw. IsTurnOf raw.turn w.seat)) IsUpgradableRefusal result }
+    ensures outcome { OnPolled (λ right. At O.lock_of stage.now (λ raw. IsUpgradableLetIn raw right)) (λ w. At O.lock_of stage.now (λ raw. IsTurnOf raw.turn w.seat)) IsUpgradableRefusal result }
     ensures receipt { OnWaits result (λ w. HasReceiptAt O.lock_of stage.now cx.new (turn_entry (Some w)) × Covers cx.new (WaitsAt O.lock_of stage.now (turn_entry (Some w)))) }
     ensures kept { Keeps cx.old cx.new }
 {
@@ -187,7 +190,7 @@ fn later_poll<T, R: Wait + Clock, O: Owns<Value = T, Runtime = R>>(
 ) -> Outcome<Upgradable, Waiting<()>>
     requires { At O.lock_of stage.now (λ raw. IsTurnOf raw.turn waiting.seat) }
     ensures same { OnOutcome result (λ right. IsSameSeat waiting.seat right.turn.seat) (λ w. IsSameSeat waiting.seat w.seat) (λ _. ⊤) }
-    ensures outcome { OnPolled (λ right. At O.lock_of stage.now (λ raw. IsUpgradableOf raw right)) (λ w. At O.lock_of stage.now (λ raw. IsTurnOf raw.turn w.seat)) IsUpgradableRefusal result }
+    ensures outcome { OnPolled (λ right. At O.lock_of stage.now (λ raw. IsUpgradableLetIn raw right)) (λ w. At O.lock_of stage.now (λ raw. IsTurnOf raw.turn w.seat)) IsUpgradableRefusal result }
     ensures receipt { OnWaits result (λ w. HasReceiptAt O.lock_of stage.now cx.new (turn_entry (Some w)) × Covers cx.new (WaitsAt O.lock_of stage.now (turn_entry (Some w)))) }
     ensures kept { Keeps cx.old cx.new }
 {

@@ -1,5 +1,5 @@
 -- Which lock a party is of.
-use Rattle.std.specs.Prelude.{◌≡◌, false}
+use Rattle.std.specs.Prelude.{◌≡◌, ◌/◌, ◌<◌, false}
 use Rattle.futures.specs.declared.task.context.Context.{Context}
 use Rattle.lock_queue.specs.Receipts.{IsReceipt}
 use Rattle.mutex_core.specs.Locks as turn
@@ -29,6 +29,10 @@ module _ (raw : RawRwLock) where
 
   abbrev pub IsUpgradableOf : Upgradable → Type 0
   IsUpgradableOf u = IsOf raw.access u.seat × IsHeldOf raw.turn u.turn
+
+  -- the same, and it came in where it found fewer readers than the lock's own limit
+  abbrev pub IsUpgradableLetIn : Upgradable → Type 0
+  IsUpgradableLetIn u = IsUpgradableOf u × (u.seat.found / 2 < raw.access.limit)
 
   abbrev pub IsWriterOf : Writer → Type 0
   IsWriterOf w = IsOf raw.access w.seat × IsHeldOf raw.turn w.turn

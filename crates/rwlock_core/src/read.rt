@@ -4,7 +4,7 @@
 
 ghost use Rattle.std.specs.Prelude.{true, ⊤, ◌≡◌, ◌≤◌, ◌%◌, ◌/◌, ◌⊎◌, MatchResult};
 ghost use Rattle.futures.specs.Task.{Keeps};
-ghost use Rattle.access_core.specs.Accesses.{IsOf, IsIdle, IsReading};
+ghost use Rattle.access_core.specs.Accesses.{IsOf, IsIdle, IsLetIn, IsReading};
 ghost use Rattle.lock_program.specs.declared.end.End.TheVariants as ends;
 ghost use Rattle.lock_program.specs.declared.end.Next.TheVariants as next;
 ghost use Rattle.sync_program.specs.ReadWrite.{refuse_read};
@@ -26,10 +26,11 @@ use sync_program::rwlock::{Place, RwLockCall, Wanted};
 
 impl RawRwLock {
     /// The first action of a first poll of a read: reads, if the writer's bit is clear and fewer read than may be. It waits for nobody. Where
-    /// it was in vain, [`RawRwLock::poll_read`] begins again with the seat.
+    /// it was in vain, [`RawRwLock::poll_read`] begins again with the seat. Whoever reads has found fewer readers than the lock's own limit
+    /// (`IsLetIn`), here and by the calls below.
     #[inline]
     pub fn begin_read(&self) -> Result<Reader, Seat>
-        ensures { MatchResult result (λ reader. IsOf self.now.access reader.seat) (λ seat. IsOf self.now.access seat × IsIdle seat) }
+        ensures { MatchResult result (λ reader. IsLetIn self.now.access reader.seat) (λ seat. IsOf self.now.access seat × IsIdle seat) }
     {
         let at = Place::EnterRead { told: false };
         let mut course = Course::begin(RwLockCall::Read, Place::Out, at);
@@ -45,7 +46,7 @@ impl RawRwLock {
     /// Reads at once, if the writer's bit is clear and fewer read than may be. In vain, the seat's last look shows why.
     #[inline]
     pub fn try_read<R: Wait>(&self, rt: &R) -> Result<Reader, Seat>
-        ensures { MatchResult result (λ reader. IsOf self.now.access reader.seat) (λ seat. IsOf self.now.access seat × IsIdle seat × ((seat.found % 2 ≡ 1) ⊎ (self.now.access.limit ≤ seat.found / 2))) }
+        ensures { MatchResult result (λ reader. IsLetIn self.now.access reader.seat) (λ seat. IsOf self.now.access seat × IsIdle seat × ((seat.found % 2 ≡ 1) ⊎ (self.now.access.limit ≤ seat.found / 2))) }
     {
         let mut course = Course::begin(RwLockCall::TryRead, Place::Out, Place::TryRead);
         let (mut seat, seen) = self.access.sit_and_look();
@@ -80,7 +81,7 @@ impl RawRwLock {
     ) -> Outcome<Reader, WaitsToRead>
         requires of { IsOf self.now.access seat }
         requires idle { IsIdle seat }
-        ensures outcome { OnOutcome result (λ reader. IsOf self.now.access reader.seat) (λ waiting. IsOf self.now.access waiting.seat × IsReceipt self.now.access.source cx.new waiting.whose) IsReadRefusal }
+        ensures outcome { OnOutcome result (λ reader. IsLetIn self.now.access reader.seat) (λ waiting. IsOf self.now.access waiting.seat × IsReceipt self.now.access.source cx.new waiting.whose) IsReadRefusal }
         ensures same { OnOutcome result (λ reader. IsSeatOf seat reader.seat) (λ waiting. IsSeatOf seat waiting.seat) (λ _. ⊤) }
         ensures kept { Keeps cx.old cx.new }
     {
@@ -150,7 +151,7 @@ impl RawRwLock {
         waiting: WaitsToRead,
     ) -> Outcome<Reader, WaitsToRead>
         requires of { IsOf self.now.access waiting.seat }
-        ensures outcome { OnOutcome result (λ reader. IsOf self.now.access reader.seat) (λ waiting. IsOf self.now.access waiting.seat × IsReceipt self.now.access.source cx.new waiting.whose) IsReadRefusal }
+        ensures outcome { OnOutcome result (λ reader. IsLetIn self.now.access reader.seat) (λ waiting. IsOf self.now.access waiting.seat × IsReceipt self.now.access.source cx.new waiting.whose) IsReadRefusal }
         ensures same { OnOutcome result (λ reader. IsSeatOf waiting.seat reader.seat) (λ still. IsSeatOf waiting.seat still.seat) (λ _. ⊤) }
         ensures kept { Keeps cx.old cx.new }
     {
@@ -182,7 +183,7 @@ impl RawRwLock {
         requires of { IsOf self.now.access seat }
         requires idle { IsIdle seat }
         requires course { next_in course ≡ next.Do (at.EnterRead true) }
-        ensures outcome { OnOutcome result (λ reader. IsOf self.now.access reader.seat) (λ waiting. IsOf self.now.access waiting.seat × IsReceipt self.now.access.source cx.new waiting.whose) IsReadRefusal }
+        ensures outcome { OnOutcome result (λ reader. IsLetIn self.now.access reader.seat) (λ waiting. IsOf self.now.access waiting.seat × IsReceipt self.now.access.source cx.new waiting.whose) IsReadRefusal }
         ensures same { OnOutcome result (λ reader. IsSeatOf seat reader.seat) (λ waiting. IsSeatOf seat waiting.seat) (λ _. ⊤) }
         ensures kept { Keeps cx.old cx.new }
     {

@@ -45,7 +45,7 @@ impl RawRwLock {
         requires of { IsOf self.now.access seat.old }
         requires course { IsAt at act.Read course.old }
         requires idle { (seat.old.reads ≡ false) × (seat.old.in_writer ≡ false) }
-        ensures step { OnEntering result (seat.new ≡ with_reading seat.new.found seat.old) ((seat.new ≡ with_saw_writer seat.new.found seat.old) × (seat.new.found % 2 ≡ 1)) ((seat.new ≡ with_found seat.new.found seat.old) × (self.now.access.limit ≤ seat.new.found / 2)) }
+        ensures step { OnEntering result ((seat.new ≡ with_reading seat.new.found seat.old) × (seat.new.found / 2 < self.now.access.limit)) ((seat.new ≡ with_saw_writer seat.new.found seat.old) × (seat.new.found % 2 ≡ 1)) ((seat.new ≡ with_found seat.new.found seat.old) × (self.now.access.limit ≤ seat.new.found / 2)) }
         ensures goes { OnEntering result (Goes at finds.Done course.new) (Goes at finds.Writer course.new) (Goes at finds.Full course.new) }
     {
         let entering = self.access.enter(rt, seat);
@@ -69,7 +69,7 @@ impl RawRwLock {
         requires of { IsOf self.now.access seat.old }
         requires course { IsAt at act.Read course.old }
         requires idle { seat.old.reads ≡ false }
-        ensures step { MatchBool result (seat.new ≡ with_reading seat.new.found seat.old) (seat.new ≡ with_found seat.new.found seat.old) }
+        ensures step { MatchBool result ((seat.new ≡ with_reading seat.new.found seat.old) × (seat.new.found / 2 < self.now.access.limit)) (seat.new ≡ with_found seat.new.found seat.old) }
         ensures goes { MatchBool result (Goes at finds.Done course.new) (next_in course.new ≡ next.Do at) }
     {
         let reads = self.access.read_from(seat, seen);
@@ -93,7 +93,7 @@ impl RawRwLock {
         requires course { IsAt at act.Add course.old }
         requires idle { IsIdle seat.old }
         ensures of { IsOf self.now.access seat.new }
-        ensures step { MatchBool result (IsReading seat.new) (IsIdle seat.new × (self.now.access.limit ≤ seat.new.found / 2)) }
+        ensures step { MatchBool result (IsReading seat.new × (seat.new.found / 2 < self.now.access.limit)) (IsIdle seat.new × (self.now.access.limit ≤ seat.new.found / 2)) }
         ensures goes { MatchBool result (Goes at finds.Done course.new) (Goes at finds.Full course.new) }
     {
         if self.access.read_from(seat, seen) {
@@ -133,7 +133,7 @@ impl RawRwLock {
         requires of { IsOf self.now.access seat.old }
         requires course { IsAt at act.TryUpgrade course.old }
         requires reads { seat.old.reads ≡ true }
-        ensures step { MatchBool result (seat.new ≡ with_writing seat.old) ((seat.new ≡ with_found seat.new.found seat.old) × (seat.new.found ≢ 2)) }
+        ensures step { MatchBool result (seat.new ≡ with_writing seat.old) ((seat.new ≡ with_found seat.new.found seat.old) × (2 < seat.new.found)) }
         ensures goes { MatchBool result (Goes at finds.Done course.new) (Goes at finds.NotFree course.new) }
     {
         let writes = self.access.try_upgrade(seat);

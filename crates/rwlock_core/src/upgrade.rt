@@ -1,6 +1,6 @@
 //! Whole calls of who upgrades, action by action as the lock's program has them.
 
-ghost use Rattle.std.specs.Prelude.{true, ◌≡◌, ◌≢◌, ⊤, IfErr, IfOk, MatchResult};
+ghost use Rattle.std.specs.Prelude.{true, ◌≡◌, ◌<◌, ⊤, IfErr, IfOk, MatchResult};
 ghost use Rattle.futures.specs.Task.{Keeps};
 ghost use Rattle.mutex_core.specs.Outcomes.{IsHeldOf};
 ghost use Rattle.access_core.specs.Accesses.{IsOf, IsMarking, IsWriting, with_found, with_writing};
@@ -21,14 +21,14 @@ use std::sync::Wait;
 use sync_program::rwlock::{Ending, Place, RwLockCall};
 
 impl RawRwLock {
-    /// Writes in place of reading, if nobody else reads: one step of the same seat, which has a right before and after. Else it reads on. It keeps
-    /// the turn (`turn`).
+    /// Writes in place of reading, if nobody else reads: one step of the same seat, which has a right before and after. Else it reads on, and its
+    /// seat has found another reader, or the writer's bit (`reads`). It keeps the turn (`turn`).
     #[inline]
     pub fn try_upgrade(&self, upgradable: Upgradable) -> Result<Writer, Upgradable>
         requires { AreSeatsOf self.now upgradable.seat upgradable.turn }
         ensures turn { MatchResult result (λ writer. writer.turn ≡ upgradable.turn) (λ reader. reader.turn ≡ upgradable.turn) }
         ensures writes { IfOk result (λ writer. writer.seat ≡ with_writing upgradable.seat) }
-        ensures reads { IfErr result (λ reader. (reader.seat ≡ with_found reader.seat.found upgradable.seat) × (reader.seat.found ≢ 2)) }
+        ensures reads { IfErr result (λ reader. (reader.seat ≡ with_found reader.seat.found upgradable.seat) × (2 < reader.seat.found)) }
     {
         let Upgradable { mut seat, turn } = upgradable;
         let at = Place::TryUpgrade;

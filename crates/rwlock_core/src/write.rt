@@ -13,7 +13,7 @@ ghost use Rattle.lock_program.specs.declared.end.Next.TheVariants as next;
 ghost use Rattle.sync_program.specs.declared.rwlock.Place.TheVariants as at;
 ghost use Rattle.rwlock_core.specs.Courses.{next_in, without_memory};
 ghost use Rattle.rwlock_core.specs.Outcomes.{OnAwaited, OnOutcome, IsUpgradableRefusal, IsWriteRefusal};
-ghost use Rattle.rwlock_core.specs.Parties.{AreSeatsOf, HasTurn, IsTaking, WaitsAs, WaitsOn, WritesAs, WritesOn, IsReaderOf, IsUpgradableOf, IsWriterOf, WaitsAt, HasReceipt};
+ghost use Rattle.rwlock_core.specs.Parties.{AreSeatsOf, HasTurn, IsTaking, WaitsAs, WaitsOn, WritesAs, WritesOn, IsReaderOf, IsUpgradableLetIn, IsUpgradableOf, IsWriterOf, WaitsAt, HasReceipt};
 ghost use Rattle.rwlock_core.specs.Vain.{IsVainUpgradable, IsVainWrite};
 
 use crate::course::Course;
@@ -37,10 +37,11 @@ impl RawRwLock {
         self.turn.first_look(LockCall::Lock, TurnPlace::Enter)
     }
 
-    /// Reads with the turn at once, if the turn is free, nobody is starved for it, and fewer read than may.
+    /// Reads with the turn at once, if the turn is free, nobody is starved for it, and fewer read than may. Whoever reads has found fewer readers
+    /// than the lock's own limit (`IsUpgradableLetIn`), here and by the calls below.
     #[inline]
     pub fn try_upgradable_read<R: Wait>(&self, rt: &R) -> Result<Upgradable, InVain>
-        ensures { MatchResult result (IsUpgradableOf self.now) (IsVainUpgradable self.now) }
+        ensures { MatchResult result (IsUpgradableLetIn self.now) (IsVainUpgradable self.now) }
     {
         let purpose = Purpose::UpgradableRead;
         let at = Place::TryTurn { purpose };
@@ -72,7 +73,7 @@ impl RawRwLock {
     #[inline]
     pub fn upgradable_with<R: Wait>(&self, rt: &R, turn: Turn) -> Outcome<Upgradable, Waiting<()>>
         requires { IsHeldOf self.now.turn turn }
-        ensures { OnOutcome result (λ upgradable. IsUpgradableOf self.now upgradable × (upgradable.turn ≡ turn)) (λ _. ⊥) IsUpgradableRefusal }
+        ensures { OnOutcome result (λ upgradable. IsUpgradableLetIn self.now upgradable × (upgradable.turn ≡ turn)) (λ _. ⊥) IsUpgradableRefusal }
     {
         let at = Place::Add { trying: false };
         let mut course = Course::with_turn(&turn, at);
@@ -102,7 +103,7 @@ impl RawRwLock {
         vain: Vain<()>,
     ) -> Outcome<Upgradable, Waiting<()>>
         requires { IsTaking self.now vain }
-        ensures outcome { OnOutcome result (IsUpgradableOf self.now) (λ waiting. IsTurnOf self.now.turn waiting.seat × IsReceipt self.now.turn.source cx.new waiting.whose) IsUpgradableRefusal }
+        ensures outcome { OnOutcome result (IsUpgradableLetIn self.now) (λ waiting. IsTurnOf self.now.turn waiting.seat × IsReceipt self.now.turn.source cx.new waiting.whose) IsUpgradableRefusal }
         ensures kept { Keeps cx.old cx.new }
     {
         match self.turn.poll_first(rt, cx, vain) {
@@ -121,7 +122,7 @@ impl RawRwLock {
         waiting: Waiting<()>,
     ) -> Outcome<Upgradable, Waiting<()>>
         requires { IsTurnOf self.now.turn waiting.seat }
-        ensures outcome { OnOutcome result (IsUpgradableOf self.now) (λ waiting. IsTurnOf self.now.turn waiting.seat × IsReceipt self.now.turn.source cx.new waiting.whose) IsUpgradableRefusal }
+        ensures outcome { OnOutcome result (IsUpgradableLetIn self.now) (λ waiting. IsTurnOf self.now.turn waiting.seat × IsReceipt self.now.turn.source cx.new waiting.whose) IsUpgradableRefusal }
         ensures same { OnOutcome result (λ upgradable. IsSameTurn waiting.seat upgradable.turn.seat) (λ w. IsSameTurn waiting.seat w.seat) (λ _. ⊤) }
         ensures kept { Keeps cx.old cx.new }
     {

@@ -1,5 +1,5 @@
 -- Each step on the table keeps its rule: as the table asks it of a call.
-use Rattle.std.proofs.Common.{◌≡◌, ℕ, ◌+◌, ◌-◌, ◌/◌, ◌%◌, ◌^◌, ◌<◌, eqb, bit_or, lt_of_not-le, true, false, List, [], ◌∷◌, ◌++◌, get_or, sym, refl, ap, ◌∙◌, subst, arith, ⊎_elim, inl, inr}
+use Rattle.std.proofs.Common.{◌≡◌, ℕ, ◌+◌, ◌-◌, ◌/◌, ◌%◌, ◌^◌, ◌<◌, eqb, bit_or, lt_of_not-le, true, false, List, [], ◌∷◌, ◌++◌, get_or, sym, refl, ap, ◌∙◌, subst, arith, eq-eqb, ne_eqb, ⊎_elim, inl, inr}
 use mathlib.Core.Logic.{dite}
 use native.Mathlib.Decide.{dec_le, ℕ_discrete}
 use prog.Atomic.{either}
@@ -12,7 +12,7 @@ use Rattle.words_base.proofs.Matched as matched
 use Rattle.words_base.specs.Lists.{Listed}
 use Rattle.words_access.specs.Rule.{first_view, marks_of, reads_of, writes_of, has_lists_out, Nested, Ruled, IsEntryOfReaders, IsEntryOfWriter, LosesNone}
 use Rattle.words_access.specs.Seats.{having_found, saw_writer_of, saw_readers_of, reading_of, left_of, last_left_of, writing_of, marking_of, upgraded_of, down_of, unmarked_of, eased_of, listing_of, back, joined_readers_of, joined_writer_of, told_reader_of, told_writer_of, gone_reader_of, gone_writer_of, paid_readers_of, paid_writer_of}
-use Rattle.words_access.specs.Steps.{Kept, Looked, LookedLeft, Entered, Upgraded, Won, Marked, Left, Peeked, Grabbed, CanJoinReaders, CanJoinWriter, CanHearReader, CanHearWriter, CanLeaveReaders, CanLeaveWriter, CanPayReaders, CanPayWriter, CanStay}
+use Rattle.words_access.specs.Steps.{Kept, Looked, LookedLeft, Entered, Upgraded, Won, Raised, Marked, Left, Peeked, Grabbed, CanJoinReaders, CanJoinWriter, CanHearReader, CanHearWriter, CanLeaveReaders, CanLeaveWriter, CanPayReaders, CanPayWriter, CanStay}
 use Rattle.words_access.specs.declared.view.View.{View}
 use Rattle.words_access.proofs.Flags.{never, SetsLow, or_odd, or_even}
 use Rattle.words_access.proofs.Holding.{joined_last}
@@ -35,8 +35,8 @@ module _ (S : Type 0) (readers_of writer_of : S → Listed) where
         (λ other. let many : 1 < n = omega (arith, odd, other) in (saw_readers_of n me.0, keeps, tt, sees_readers S readers_of writer_of s id me r at many odd, ((λ bit. absurd (other bit)), λ _. (many, refl))))
 
     pub entered : (old new : ℕ) → old % 2 ≡ 0 → old / 2 < 1073741823 → new ≡ old + 2 → me.0.reads ≡ false → Allows R slots id me 0 (λ x. either (eqb x old) new x) (λ n m'. Entered old me n m')
-    entered old new even few two not = exchanged R slots id me 0 old new (reading_of me.0) (λ n. having_found n me.0)
-        (λ s r at hit. subst (λ n. R (stepped s 0 n id me.1 (reading_of me.0) keeps)) (ap (λ n. n + 2) hit ∙ sym two) (enters S readers_of writer_of s id me r at (subst (λ n. n % 2 ≡ 0) (sym hit) even) (subst (λ n. n / 2 < 1073741823) (sym hit) few) not))
+    entered old new even few two not = exchanged R slots id me 0 old new (reading_of old me.0) (λ n. having_found n me.0)
+        (λ s r at hit. subst (λ n. R (stepped s 0 n id me.1 (reading_of old me.0) keeps)) (ap (λ n. n + 2) hit ∙ sym two) (enters S readers_of writer_of s id me r at (subst (λ n. n % 2 ≡ 0) (sym hit) even) (subst (λ n. n / 2 < 1073741823) (sym hit) few) not old))
         (λ s r at. finds S readers_of writer_of s id me r at (get_or s.words 0 0))
 
     pub left : me.0.reads ≡ true → Allows R slots id me 0 (λ n. (n + (2 ^ 64 - 2)) % 2 ^ 64) (λ n m'. Left me n m')
@@ -72,8 +72,10 @@ module _ (S : Type 0) (readers_of writer_of : S → Listed) where
     pub tries_write : Allows R slots id me 0 (λ x. either (eqb x 0) 1 x) (λ n m'. Won 0 me n m')
     tries_write = exchanged R slots id me 0 0 1 (writing_of me.0) (λ n. having_found n me.0) (λ s r at hit. writes_free S readers_of writer_of s id me r at hit) (λ s r at. finds S readers_of writer_of s id me r at (get_or s.words 0 0))
 
-    pub tries_upgrade : me.0.reads ≡ true → Allows R slots id me 0 (λ x. either (eqb x 2) 1 x) (λ n m'. Won 2 me n m')
-    tries_upgrade does = exchanged R slots id me 0 2 1 (writing_of me.0) (λ n. having_found n me.0) (λ s r at hit. writes_alone S readers_of writer_of s id me r at hit does) (λ s r at. finds S readers_of writer_of s id me r at (get_or s.words 0 0))
+    pub tries_upgrade : me.0.reads ≡ true → Allows R slots id me 0 (λ x. either (eqb x 2) 1 x) (λ n m'. Raised me n m')
+    tries_upgrade does s r _ at _ = let n : ℕ = get_or s.words 0 0 in let inside : 1 < n = is_inside S readers_of writer_of s id me r at does in dite (ℕ_discrete n 2)
+        (λ alone. (writing_of me.0, keeps, tt, subst (λ b. R (stepped s 0 (either b 1 n) id me.1 (writing_of me.0) keeps)) (sym (eq-eqb n 2 alone)) (writes_alone S readers_of writer_of s id me r at alone does), ((λ _. refl), λ other. absurd (other alone))))
+        (λ other. let many : 2 < n = omega (arith, inside, other) in (having_found n me.0, keeps, tt, subst (λ b. R (stepped s 0 (either b 1 n) id me.1 (having_found n me.0) keeps)) (sym (ne_eqb n 2 other)) (finds S readers_of writer_of s id me r at n), ((λ alone. absurd (other alone)), λ _. (many, refl))))
 
     pub upgraded : (old new : ℕ) → old % 2 ≡ 0 → 2 < old → new ≡ old - 1 → me.0.reads ≡ true → Allows R slots id me 0 (λ x. either (eqb x old) new x) (λ n m'. Upgraded old me n m')
     upgraded old new even many one does = exchanged R slots id me 0 old new (upgraded_of me.0) (λ n. having_found n me.0)

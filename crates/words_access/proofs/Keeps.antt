@@ -163,9 +163,9 @@ module _ (S : Type 0) (readers_of writer_of : S → Listed) where
     pub bit_of : me.0.marks ≡ true → x % 2 ≡ 1
     bit_of is = let m' : weight (marks_of me.0) ≡ 1 = ap weight is in let m = number-at marks_of s.views id me.0 at in let one = r.state.one_marks in let word = r.state.word in omega arith
 
-    pub enters : x % 2 ≡ 0 → x / 2 < 1073741823 → me.0.reads ≡ false → R (stepped s 0 (x + 2) id me.1 (reading_of me.0) keeps)
-    enters even few not =
-        let w : View = reading_of me.0 in
+    pub enters : x % 2 ≡ 0 → x / 2 < 1073741823 → me.0.reads ≡ false → (n : ℕ) → R (stepped s 0 (x + 2) id me.1 (reading_of n me.0) keeps)
+    enters even few not n =
+        let w : View = reading_of n me.0 in
         let ms = same marks_of w refl in let ws = same writes_of w refl in let rs = number-set reads_of s.views id me.0 w at in
         let r' : weight (reads_of w) ≡ 1 = refl in let r0 : weight (reads_of me.0) ≡ 0 = ap weight not in
         let one = r.state.one_marks in let word = r.state.word in let le = writes_le s.views r.nested in

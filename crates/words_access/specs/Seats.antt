@@ -14,9 +14,9 @@ saw_writer_of n v = record v { owes_readers = false; fresh = false; found = n }
 abbrev pub saw_readers_of : ℕ → View → View
 saw_readers_of n v = record v { owes_writer = false; fresh = false; found = n }
 
--- It reads.
-abbrev pub reading_of : View → View
-reading_of v = record v { reads = true }
+-- It reads, from the state that its exchange found.
+abbrev pub reading_of : ℕ → View → View
+reading_of n v = record v { reads = true; found = n }
 
 -- It reads no more, and readers are left, or nobody has set the bit.
 abbrev pub left_of : ℕ → View → View

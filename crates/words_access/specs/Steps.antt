@@ -19,9 +19,9 @@ module _ {S : Type 0} where
   abbrev pub LookedLeft : Me S View → ℕ → Me S View → Type 0
   LookedLeft m r m' = (r ≡ 1 → m' ≡ (writing_of m.0, m.1)) × (r ≢ 1 → (1 < r) × (m' ≡ (saw_readers_of r m.0, m.1)))
 
-  -- A step from the word that was expected found r.
+  -- A step from the word that was expected found r. A reader's seat knows that word.
   abbrev pub Entered : ℕ → Me S View → ℕ → Me S View → Type 0
-  Entered seen m r m' = (r ≡ seen → m' ≡ (reading_of m.0, m.1)) × (r ≢ seen → m' ≡ (having_found r m.0, m.1))
+  Entered seen m r m' = (r ≡ seen → m' ≡ (reading_of seen m.0, m.1)) × (r ≢ seen → m' ≡ (having_found r m.0, m.1))
 
   abbrev pub Upgraded : ℕ → Me S View → ℕ → Me S View → Type 0
   Upgraded seen m r m' = (r ≡ seen → m' ≡ (upgraded_of m.0, m.1)) × (r ≢ seen → m' ≡ (having_found r m.0, m.1))
@@ -29,6 +29,10 @@ module _ {S : Type 0} where
   -- A step that gets to write from this word alone found r.
   abbrev pub Won : ℕ → Me S View → ℕ → Me S View → Type 0
   Won free m r m' = (r ≡ free → m' ≡ (writing_of m.0, m.1)) × (r ≢ free → m' ≡ (having_found r m.0, m.1))
+
+  -- A reader's step that gets to write found r: no other reader, and the seat writes; or another reader, or the writer's bit.
+  abbrev pub Raised : Me S View → ℕ → Me S View → Type 0
+  Raised m r m' = (r ≡ 2 → m' ≡ (writing_of m.0, m.1)) × (r ≢ 2 → (2 < r) × (m' ≡ (having_found r m.0, m.1)))
 
   -- The step that sets the writer's bit found r: nobody inside, and the seat writes; readers, and it waits; or the bit, which another had set.
   abbrev pub Marked : Me S View → ℕ → Me S View → Type 0

@@ -67,6 +67,15 @@ impl<S> Play<S, View> for Wins {
     ghost then = { λ step m r m'. Won step.first m r m' };
 }
 
+// The step that gets to write in place of reading, by the reader that is alone.
+pub(crate) struct Raises;
+
+impl<S> Play<S, View> for Raises {
+    ghost use Rattle.words_access.specs.Steps.{Raised};
+
+    ghost then = { λ _ m r m'. Raised m r m' };
+}
+
 // The step that sets the bit in place of one reader, beside others, from the word that was seen.
 pub(crate) struct Upgrades;
 

@@ -3,12 +3,12 @@
 ghost use Rattle.std.specs.Prelude.{◌≡◌, ◌≢◌, ◌<◌, ◌%◌, ◌/◌, true, false};
 ghost use Rattle.atomic_table.specs.Table.{rest};
 ghost use Rattle.words_access.specs.Seats.{down_of, unmarked_of, joined_readers_of, joined_writer_of, told_reader_of, told_writer_of, gone_reader_of, gone_writer_of, paid_readers_of, paid_writer_of, back};
-ghost use Rattle.words_access.specs.Steps.{Looked, LookedLeft, Entered, Left, Marked, Won, Upgraded, Peeked, IsHeld, IsSame, CanJoinReaders, CanJoinWriter, CanHearReader, CanHearWriter, CanLeaveReaders, CanLeaveWriter, CanPayReaders, CanPayWriter, CanStay};
+ghost use Rattle.words_access.specs.Steps.{Looked, LookedLeft, Entered, Left, Marked, Won, Raised, Upgraded, Peeked, IsHeld, IsSame, CanJoinReaders, CanJoinWriter, CanHearReader, CanHearWriter, CanLeaveReaders, CanLeaveWriter, CanPayReaders, CanPayWriter, CanStay};
 
 use crate::plays::{
     Downs, Enters, Grabs, HearsReader, HearsWriter, JoinsReaders, JoinsWriter, Leaves,
-    LeavesReaders, LeavesWriter, Looks, LooksLeft, Marks, PaysReaders, PaysWriter, Peeks, Stays,
-    Unmarks, Upgrades, Wins,
+    LeavesReaders, LeavesWriter, Looks, LooksLeft, Marks, PaysReaders, PaysWriter, Peeks, Raises,
+    Stays, Unmarks, Upgrades, Wins,
 };
 use crate::rule::{AccessRule, Content};
 use crate::view::View;
@@ -126,9 +126,9 @@ pub fn try_upgrade<S: Content>(shared: &Ruled<S>, inner: &mut TableSeat<S, View>
     requires table { (inner.old.table_id ≡ shared.now.table_id) × (shared.now.table_id.words ≡ 2) }
     requires reads { inner.old.me.0.reads ≡ true }
     ensures seat { (inner.new.table_id ≡ inner.old.table_id) × (inner.new.id ≡ inner.old.id) }
-    ensures step { Won 2 inner.old.me result inner.new.me }
+    ensures step { Raised inner.old.me result inner.new.me }
 {
-    shared.compare_exchange::<Wins>(inner, STATE, READER, MARK)
+    shared.compare_exchange::<Raises>(inner, STATE, READER, MARK)
 }
 
 /// Sets the writer's bit in place of reading, beside other readers, if the state is still what was seen: one exchange.

@@ -27,7 +27,7 @@ pub struct View {
     pub has_lists: bool,
     /// The number of its entry.
     pub ghost entry: { ℕ },
-    /// What its last look, or try in vain, found in the state word.
+    /// What its last look, its step into the readers, or its try in vain found in the state word.
     pub ghost found: { ℕ },
     /// The readers' list as it was when the seat took the lists out.
     pub ghost readers: { Listed } by { listed_coded },
