@@ -24,8 +24,8 @@ use Rattle.async_rwlock.specs.declared.stage.Look.TheVariants as look
 use Rattle.async_rwlock.specs.declared.stage.Stage.{Stage}
 use Rattle.async_rwlock.specs.declared.stage.Stage.TheVariants.{Unowned, Waits, Finished as Over}
 
--- an entry of what a future wants next: the seat whose it is, at the lock's state or at its turn, and whose waker it keeps; and of a write
--- that waits for readers the number of its seat of the turn, which it has
+-- an entry of what a future wants next: the seat whose it is, at the lock's state or at its writer lock, and whose waker it keeps; and of a write
+-- that waits for readers the number of its seat of the writer lock, which it has
 pub record Listed : Type 0 where
   pub seat : Seated ⊎ turn.Seated
   pub keeps : Whose
@@ -39,7 +39,7 @@ pub record Future (O : Type 0) : Type 0 where
 abbrev pub future : {O : Type 0} → Stage O → Option Listed → Future O
 future stage waiting = record { stage = stage; waiting = waiting }
 
--- the entry of what waits to read, for the turn, and to write
+-- the entry of what waits to read, for the writer lock, and to write
 abbrev pub reads_entry : Option WaitsToRead → Option Listed
 reads_entry None = None
 reads_entry (Some w) = Some (record { seat = inl w.seat; keeps = w.whose; turn_seat = None })
@@ -140,12 +140,12 @@ abbrev pub OnRefused : {G : Type 0} → Turn G → Type 0 → Type 0
 OnRefused (Refused refusal) fact = fact
 OnRefused _ fact = ⊤
 
--- What was got has the seat of whoever waited, and the turn by the same seat; what waited for the turn has that by the seat that waited.
+-- What was got has the seat of whoever waited, and the writer lock by the same seat; what waited for the writer lock has that by the seat that waited.
 abbrev pub GotBy : Seated ⊎ turn.Seated → Option ℕ → Seated → Option ℕ → Type 0
 GotBy (inl s) had got has = (got.id ≡ s.id) × (has ≡ had)
 GotBy (inr s) had got has = has ≡ Some s.id
 
--- It waits by the same seat, and has the turn by the same; a write that waited for the turn may have that now, by the seat that waited.
+-- It waits by the same seat, and has the writer lock by the same; a write that waited for the writer lock may have that now, by the seat that waited.
 abbrev pub StaysBy : Seated ⊎ turn.Seated → Option ℕ → Seated ⊎ turn.Seated → Option ℕ → Type 0
 StaysBy (inl s) had (inl t) has = (t.id ≡ s.id) × (has ≡ had)
 StaysBy (inr s) had (inr t) has = t.id ≡ s.id

@@ -1,4 +1,4 @@
-//! The turn, with a memo of the value.
+//! The writer lock, with a memo of the value.
 
 ghost use Rattle.std.specs.Prelude.{◌≡◌};
 ghost use Rattle.mutex_core.specs.Outcomes.{IsHeldOf};
@@ -9,7 +9,7 @@ use access_vault::Memo;
 use mutex_core::Held;
 use rwlock_core::Turn;
 
-/// The turn of whoever has it, with a memo of the value, for which the vault has the right to the turn's room. So the value is known while the right
+/// The writer lock of whoever has it, with a memo of the value, for which the vault has the right to that lock's room. So the value is known while the right
 /// changes by which it is lent.
 pub(crate) struct NotedTurn<T> {
     pub(crate) turn: Turn,
@@ -17,7 +17,7 @@ pub(crate) struct NotedTurn<T> {
 }
 
 impl<T, R> RwLock<T, R> {
-    // Lends the memo of the value for the right that the turn has.
+    // Lends the memo of the value for the right that the writer lock has.
     #[inline(always)]
     pub(crate) fn lend_memo(&self, turn: Turn) -> NotedTurn<T>
         requires { IsHeldOf self.now.raw.turn turn }
@@ -33,7 +33,7 @@ impl<T, R> RwLock<T, R> {
         }
     }
 
-    // Takes the memo back. The turn has its right again.
+    // Takes the memo back. The writer lock has its right again.
     #[inline(always)]
     pub(crate) fn end_memo(&self, noted: NotedTurn<T>) -> Turn
         requires { IsNotedOf self.now noted }

@@ -38,7 +38,7 @@ pub trait Releases {
     fn release_write(&self, lock: &RawRwLock, writer: Writer)
         requires { IsWriterOf lock.now writer };
 
-    /// Gives back the turn of who may upgrade: its seat, in pledge meanwhile, reads on without the right to.
+    /// Gives back the writer lock of who may upgrade: its seat, in pledge meanwhile, reads on without the right to.
     fn downgrade_turn(&self, lock: &RawRwLock, turn: Turn)
         requires { IsHeldOf lock.now.turn turn };
 
@@ -48,7 +48,7 @@ pub trait Releases {
         ensures of { IsReaderOf lock.now result }
         ensures same { result.seat ≡ with_downgrade writer.seat };
 
-    /// The same, with the right to upgrade: the turn stays.
+    /// The same, with the right to upgrade: the writer lock stays.
     fn downgrade_to_upgradable(&self, lock: &RawRwLock, writer: Writer) -> Upgradable
         requires { AreSeatsOf lock.now writer.seat writer.turn }
         ensures turn { result.turn ≡ writer.turn }

@@ -39,7 +39,7 @@ impl<T: Drop, R: AllocGlobal + Drop> RwLock<T, R> {
         RwLock::with_limits(rt, value, STARVED_LIMIT, READERS_LIMIT)
     }
 
-    /// Creates a free lock as [`RwLock::new`] does, where at most `starved` waiters may be starved for the turn, and at most
+    /// Creates a free lock as [`RwLock::new`] does, where at most `starved` waiters may be starved for the writer lock, and at most
     /// `readers` may read at once. A larger number stands for the greatest limit. It is for tests.
     pub fn with_limits(rt: R, value: T, starved: u64, readers: u64) -> Result<RwLock<T, R>, Refusal>
         ensures memory { IfErr result (λ refusal. refusal ≡ Refusal.Memory) }

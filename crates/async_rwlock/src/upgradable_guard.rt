@@ -30,14 +30,14 @@ use std::time::Clock;
 /// A right to read that one task at a time has, and that can become a right to write; and the value to read. Dropping it ends the
 /// right: who waits to write or to read upgradably is notified.
 ///
-/// Its type keeps that its seat reads and has the lock's turn, and that the value is lent against that. Contracts see the lock,
-/// the value, the seat with what it knows of itself, and the number of its seat of the turn.
+/// Its type keeps that its seat reads and has the writer lock, and that the value is lent against that. Contracts see the lock,
+/// the value, the seat with what it knows of itself, and the number of its seat of the writer lock.
 pub struct UpgradableGuard<T, R: Releases, O: Owns<Value = T, Runtime = R>> {
     owner: O,
     glance: Glance<T>,
     // The seat, while what it says is lent.
     pledge: Pledge,
-    // The turn, with the memo of the value.
+    // The writer lock, with the memo of the value.
     noted: NotedTurn<T>,
     runtime: PhantomData<R>,
 }
@@ -68,7 +68,7 @@ impl<T, R: Releases, O: Owns<Value = T, Runtime = R>> UpgradableGuard<T, R, O> {
         UpgradableGuard::noted(owner, seat, noted)
     }
 
-    // The guard of a seat that reads, with the turn: the value is the memo's.
+    // The guard of a seat that reads, with the writer lock: the value is the memo's.
     #[inline]
     pub(crate) fn noted(owner: O, seat: Seat, noted: NotedTurn<T>) -> UpgradableGuard<T, R, O>
         requires of { IsSeatOf (O.lock_of owner).raw.access seat × IsNotedOf (O.lock_of owner) noted }
@@ -118,7 +118,7 @@ impl<T, R: Releases, O: Owns<Value = T, Runtime = R>> UpgradableGuard<T, R, O> {
         (owner, Upgradable { seat, turn })
     }
 
-    // Who has the lock, and its seat, with the turn and the memo of the value, which isn't lent any more.
+    // Who has the lock, and its seat, with the writer lock and the memo of the value, which isn't lent any more.
     #[inline]
     fn into_noted(self) -> (O, Seat, NotedTurn<T>)
         ensures owner { O.lock_of result.0 ≡ self.lock }

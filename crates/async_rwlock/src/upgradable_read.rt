@@ -63,12 +63,12 @@ impl<T, R: Wait + Clock, O: Owns<Value = T, Runtime = R>> UpgradableFuture<T, R,
     /// Polls once: ready with the guard, whose seat has found fewer readers than the lock's own limit (`few`), or pending.
     ///
     /// It is refused as [`Refusal::Memory`](crate::Refusal::Memory) if memory for its entry was refused, as
-    /// [`Refusal::Starved`](crate::Refusal::Starved) if as many waiters are starved for the turn as may be, and as
+    /// [`Refusal::Starved`](crate::Refusal::Starved) if as many waiters are starved for the writer lock as may be, and as
     /// [`Refusal::Readers`](crate::Refusal::Readers) if as many read as may. Then the future is as when it was made, and may be polled
     /// again (`refused`). Once it was ready it is refused as [`Refusal::Finished`](crate::Refusal::Finished), and nothing changes (`turn`).
     ///
     /// Pending, it has an entry in the list of what it wants next, which keeps a waker of the task that polls (`receipt`). The task
-    /// has registered with the source of that (`registered`), and keeps what it had registered before (`kept`). It waits for the turn by
+    /// has registered with the source of that (`registered`), and keeps what it had registered before (`kept`). It waits for the writer lock by
     /// one seat, from the poll that joined the list to the guard (`same`).
     #[inline]
     pub fn poll(&mut self, cx: &mut Context<'_>) -> Turn<UpgradableGuard<T, R, O>>
@@ -138,7 +138,7 @@ fn first_look<T, R: Wait, O: Owns<Value = T, Runtime = R>>(
     }
 }
 
-// What comes once a first look got the turn.
+// What comes once a first look got the writer lock.
 #[inline(always)]
 fn with_turn<T, R: Wait + Clock, O: Owns<Value = T, Runtime = R>>(
     stage: &Stage<O>,

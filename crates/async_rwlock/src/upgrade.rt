@@ -35,7 +35,7 @@ pub struct UpgradeFuture<T, R: Wait, O: Owns<Value = T, Runtime = R>> {
     stage: Stage<O>,
     // There before the first poll, and where a poll was refused.
     begun: Option<(Begun, Memo<T>)>,
-    // There while it waits, with the turn.
+    // There while it waits, with the writer lock.
     waiting: Option<(WaitsToWrite, NotedTurn<T>)>,
     lock: PhantomData<(T, R)>,
 }
@@ -227,7 +227,7 @@ impl<T, R: Wait, O: Owns<Value = T, Runtime = R>> Drop for UpgradeFuture<T, R, O
     }
 }
 
-// What a dropped upgrade gives back that hasn't been ready: its entry, the writer's bit and the turn, and its share of the lock last. It stands
+// What a dropped upgrade gives back that hasn't been ready: its entry, the writer's bit and the writer lock, and its share of the lock last. It stands
 // apart, so that the drop of one that was ready is short.
 #[inline(never)]
 fn give_back<T, R: Wait, O: Owns<Value = T, Runtime = R>>(

@@ -62,13 +62,13 @@ impl<T, R: Wait + Clock, O: Owns<Value = T, Runtime = R>> WriteFuture<T, R, O> {
     /// Polls once: ready with the guard, or pending.
     ///
     /// It is refused as [`Refusal::Memory`](crate::Refusal::Memory) if memory for its entry was refused, and as
-    /// [`Refusal::Starved`](crate::Refusal::Starved) if as many waiters are starved for the turn as may be. Then the future is as when
+    /// [`Refusal::Starved`](crate::Refusal::Starved) if as many waiters are starved for the writer lock as may be. Then the future is as when
     /// it was made, and may be polled again (`refused`): if it waited for readers, it gives up the right to be next. Once it was ready it is
     /// refused as [`Refusal::Finished`](crate::Refusal::Finished), and nothing changes (`turn`).
     ///
     /// Pending, it has an entry in the list of what it wants next, which keeps a waker of the task that polls (`receipt`). The task
     /// has registered with the source of that (`registered`), and keeps what it had registered before (`kept`). It waits by one seat, from
-    /// the poll that joined a list to the guard, and has the turn by one (`same`).
+    /// the poll that joined a list to the guard, and has the writer lock by one (`same`).
     #[inline]
     pub fn poll(&mut self, cx: &mut Context<'_>) -> Turn<WriteGuard<T, R, O>>
         ensures turn { IsTurn IsWriteRefusal (λ guard. IsOf O.lock_of self.old.stage guard.lock) (is_finished self.old.stage) result (is_finished self.new.stage) }
@@ -135,7 +135,7 @@ fn first_look<T, R: Wait, O: Owns<Value = T, Runtime = R>>(
     }
 }
 
-// What comes once a first look got the turn.
+// What comes once a first look got the writer lock.
 #[inline(always)]
 fn with_turn<T, R: Wait + Clock, O: Owns<Value = T, Runtime = R>>(
     stage: &Stage<O>,

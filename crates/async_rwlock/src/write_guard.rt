@@ -22,13 +22,13 @@ use std::ops::Deref;
 /// those who wait to write or to read upgradably.
 ///
 /// Its type keeps that its seat writes, and that the value is lent against that. Contracts see the lock, the value, the seat with
-/// what it knows of itself, and the number of its seat of the turn.
+/// what it knows of itself, and the number of its seat of the writer lock.
 pub struct WriteGuard<T, R: Releases, O: Owns<Value = T, Runtime = R>> {
     pub(crate) owner: O,
     pub(crate) grip: Grip<T>,
     // The seat, while what it says is lent.
     pledge: Pledge,
-    // The turn, with a memo of the value that was there first.
+    // The writer lock, with a memo of the value that was there first.
     noted: NotedTurn<T>,
     runtime: PhantomData<R>,
 }
@@ -59,7 +59,7 @@ impl<T, R: Releases, O: Owns<Value = T, Runtime = R>> WriteGuard<T, R, O> {
         WriteGuard::noted(owner, seat, noted)
     }
 
-    // The guard of a seat that writes, with the turn: the value is the memo's.
+    // The guard of a seat that writes, with the writer lock: the value is the memo's.
     #[inline]
     pub(crate) fn noted(owner: O, seat: Seat, noted: NotedTurn<T>) -> WriteGuard<T, R, O>
         requires of { IsSeatOf (O.lock_of owner).raw.access seat × IsNotedOf (O.lock_of owner) noted }
@@ -105,7 +105,7 @@ impl<T, R: Releases, O: Owns<Value = T, Runtime = R>> WriteGuard<T, R, O> {
         (owner, Writer { seat, turn })
     }
 
-    // Who has the lock, and its seat, with the turn and the memo of the value, which isn't lent any more.
+    // Who has the lock, and its seat, with the writer lock and the memo of the value, which isn't lent any more.
     #[inline]
     fn into_noted(self) -> (O, Seat, NotedTurn<T>)
         ensures owner { O.lock_of result.0 ≡ self.lock }
