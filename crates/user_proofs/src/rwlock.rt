@@ -138,7 +138,7 @@ fn future_of_first<R: Wait + Drop>(
 }
 
 // Whether two reads agree by each kind of guard.
-fn all_agree<R>(first: &RwLock<u64, R>, second: &RwLock<u64, R>) -> Result<bool, Refusal>
+fn all_agree<'a, R>(first: &'a RwLock<u64, R>, second: &'a RwLock<u64, R>) -> Result<bool, Refusal>
 where
     R: Wait + Clock + RandomSource + AllocGlobal,
 {
