@@ -60,7 +60,7 @@ STEPS = {name for path in glob.glob("crates/words_*/src/steps.rt") for name in r
 
 
 def found_twice(path, text):
-    own = {it for list in re.findall(r"\buse words_\w+::(?:steps::)?([^;]*);", text) for it in re.findall(r"\w+", list)} & STEPS
+    own = {it for names in re.findall(r"\buse words_\w+::(?:steps::)?([^;]*);", text) for it in re.findall(r"\w+", names)} & STEPS
     for _, name, body in FUNCTION.findall(text):
         called = [it for it in re.findall(r"(?<![\w.])(\w+)(?:::<[^>]*>)?\(", body) if it in own]
         if len(called) > len(set(called)) or len(CHANGES.findall(body)) > 1:

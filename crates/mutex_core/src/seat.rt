@@ -119,7 +119,7 @@ impl<T> Seat<T> {
 }
 
 /// Why a poll gave up: the end of its table by which its seat's call was over. Nobody else can make one, so a poll is refused as
-/// [`Refusal::Starved`] only past a count that found the limit, and as [`Refusal::Memory`] only past a join without memory.
+/// [`Refusal::Starved`] only past a count that was refused, and as [`Refusal::Memory`] only past a join that was.
 #[derive(Drop)]
 pub struct GaveUp {
     refusal: Refusal,
