@@ -17,8 +17,9 @@ use base.Fml.{Lft, Share, Fml}
 use types.Logic.{Logic, sem}
 use types.Kit.{‵, raw, ◌⊛◌, later, ◌$◌, ◌∵◌, !, qed, move, use1, split, fsplit, fsplit3, fjoin, fjoin3, fpack, updating, await, now, done}
 use denote.RattleType.{RattleType}
-use Rattle.lock_place.specs.Held.{hold_owns, round}
-use Rattle.lock_place.proofs.Ages.{ends}
+use Rattle.lock_place.specs.Held.{hold_owns}
+use Rattle.access_vault.specs.Rounds.{round}
+use Rattle.access_vault.proofs.Rounds.{ends}
 use Rattle.words_access.specs.declared.view.View.{View}
 use Rattle.access_vault.specs.Vault.{pledge, writing, stock}
 use Rattle.access_vault.specs.Kept.{VaultId, rights, views, grip_with, grip_owns}

@@ -1,3 +1,4 @@
+pub mod Rounds
 pub mod Fills
 pub mod Lending
 pub mod Memos

@@ -21,8 +21,10 @@ use denote.Steps.{nothing}
 use denote.Struct.Lending.{Lends, Lends-first}
 use types.Owned.{named_past}
 use Rattle.atomic_table.specs.Seated as table
-use Rattle.lock_place.specs.Held.{age, room_owns, room_shares, seen_owns}
-use Rattle.lock_place.proofs.Ages.{room_laws, lends_room, begins}
+use Rattle.lock_place.specs.Held.{age, room_owns, room_shares}
+use Rattle.lock_place.proofs.Ages.{room_laws, lends_room}
+use Rattle.access_vault.specs.Rounds.{seen_owns}
+use Rattle.access_vault.proofs.Rounds.{begins}
 use Rattle.access_vault.proofs.Lending.{calm_account}
 use Rattle.access_vault.specs.Vault.{memo, keeps, account}
 use Rattle.access_vault.specs.Kept.{VaultId, rights, views, body, inside, live, live_with, form, vault_owns, vault_shares}

@@ -1,3 +1,4 @@
+pub mod Rounds
 pub mod Vault
 pub mod Kept
 pub mod Lent

@@ -1,4 +1,4 @@
--- A room's age begins and ends, and a round within it. Assumes `Logic`.
+-- A room's age begins and ends. Assumes `Logic`.
 use Rattle.std.proofs.Common.{ℕ, ◌*◌, ◌^◌, ◌<◌, [], ◌∷◌, ◌++◌, refl, sym}
 use seplogic.Ra.Ura.{Ura}
 use base.Share
@@ -23,7 +23,7 @@ use denote.SharingLaws.{beside_shr_laws, one_shr_laws, said_shr_laws, within_shr
 use denote.Steps.{nothing}
 use denote.Struct.Lending.{Lends, Lends-both}
 use Rattle.atomic_table.specs.Seated.{strip}
-use Rattle.lock_place.specs.Held.{RoomId, age, Placed, common, held, room_owns, room_shares, hold_owns, seen_at, round, seen_owns, seen_shares, form, either_form, hold_shares}
+use Rattle.lock_place.specs.Held.{RoomId, age, Placed, common, held, room_owns, room_shares, hold_owns, seen_at, form, either_form, hold_shares}
 use mathlib.Core.Bool.{Bool, true, false}
 use base.Before.{before}
 use types.Na.{na_inv, na_inv_new, before_shorten}
@@ -37,9 +37,6 @@ lasting z q = flft (age z) q
 
 pub room_laws : (R : RattleType) (p : Ptr) (z : RoomId) → ShrLaws (room_shares R p z)
 room_laws R p z = beside_shr_laws (one (lasting z)) (said (common R p z)) (one_shr_laws (lasting z)) (said_shr_laws (common R p z) (λ _. tt))
-
-pub seen_laws : (R : RattleType) → RowLaws R → (z : RoomId) (x : R.Denot) → ShrLaws (seen_shares R z x)
-seen_laws R L z x = within_shr_laws (age z) (seen_at R z x) (L x z.block z.offset)
 
 pub hold_laws : (R : RattleType) (z : RoomId) (x : R.Denot) → ShrLaws (hold_shares R z x)
 hold_laws R z x = let k : Key = (z.block, z.offset) in let I = either_form R z x in
@@ -124,45 +121,6 @@ module _ {M : Type 1} {𝓤 : Ura M} (𝓛 : Logic 𝓤) where
 
     abbrev Obs : Fml
     Obs = fobs z.name (R.coded.code x)
-
-    abbrev Lent : ℕ → Fml
-    Lent c = flent (c ∷ age z) (fbor (age z) (held R z))
-
-    -- the value is shared for a round
-    pub begins : (l : Lft) → Shares 𝓛 R l → (μ : Lft) (s : Share) (τ : Lft) (r : Share) → Incl μ (age z) → Incl τ l → ⟦ hold_owns R z x ⟧ ∗ A.lft μ s ∗ A.lft τ r ⊢ H.⇛ (⟦ seen_owns R z x ⟧ ∗ A.lft μ s ∗ A.lft τ r)
-    begins l shares μ s τ r i j = let α : Lft = age z in
-        qed 𝓛 (‵ (hold_owns R z x) ∷ ‵ (flft μ s) ∷ ‵ (flft τ r) ∷ []) ∵ updating ! $ lft_new ! tt (λ a.
-        let ts : Toks = (a ∷ [], full_share) ∷ (μ, s) ∷ (τ, r) ∷ [] in let more : Lft = μ ++ τ in
-        let sp : Incl (span ts) (a ∷ α) = ⊑_meet (a ∷ more) (a ∷ []) α (meet_⊑_left (a ∷ []) more) (Incl-trans (meet_⊑_right (a ∷ []) more) (Incl-trans (meet_⊑_left μ τ) i)) in
-        move ! (1 ∷ []) $ fsplit ! $ move ! (1 ∷ []) $
-        use1 𝓛 (later (‵ (fbor (a ∷ α) (held R z)) ⊛ ‵ (Lent a))) (𝓛.more.bor_reborrow α (a ∷ α) (held R z) (meet_⊑_right (a ∷ []) α)) $ await ! tt $ split ! $
-        move ! (3 ∷ 4 ∷ 5 ∷ []) $ group ! 3 $ move ! (3 ∷ 1 ∷ 0 ∷ []) $
-        use3 𝓛 (later (‵ Obs ⊛ ‵ (fbor (a ∷ α) (part_at R full_share x z.block z.offset)) ⊛ raw (lfts 𝓛 ts))) (settles 𝓛 (mem R) (a ∷ α) ts sp z.name x z.block z.offset) $ await ! tt $ split3 ! $ move ! (1 ∷ 2 ∷ []) $
-        use2 𝓛 (later (‵ (V (a ∷ α)) ⊛ ‵ (flft (a ∷ []) full_share) ⊛ ‵ (flft μ s) ⊛ ‵ (flft τ r))) (shares x (a ∷ α) ts z.block z.offset (Incl-trans (meet_⊑_right (a ∷ []) more) (Incl-trans (meet_⊑_right μ τ) j)) sp) $ await ! tt $ split3 ! $
-        move ! (1 ∷ 0 ∷ 4 ∷ []) $ fjoin3 ! $ fpack ! ℕ (round R z x) a $ move ! (2 ∷ 0 ∷ []) $ fjoin ! $ now ! $ done !)
-
-    pub ends : ⟦ seen_owns R z x ⟧ ⊢ H.⇛ ⟦ hold_owns R z x ⟧
-    ends = qed 𝓛 (‵ (seen_owns R z x) ∷ []) ∵ updating ! $ fsplit ! $ move ! (1 ∷ []) $ fpick ! (λ c. fsplit3 ! $ lft_end ! tt $
-        use1 𝓛 (‵ (fdead (c ∷ age z))) (𝓛.lfts.dead-incl (c ∷ age z) (c ∷ []) (meet_⊑_left (c ∷ []) (age z))) $ move ! (0 ∷ 2 ∷ []) $ lent_back ! tt $ move ! (2 ∷ 0 ∷ []) $ fjoin ! $ now ! $ keep ! (0 ∷ []) $ done !)
-
-    again : (κ : Lft) (c : ℕ) → ⟦ Obs ⟧ ∗ ⟦ V (c ∷ age z) ⟧ ∗ ⟦ Lent c ⟧ ⊢ ⟦ fwand (fsep (fdead κ) (fseps (flft (c ∷ []) full_share ∷ []))) (fupd (seen_owns R z x)) ⟧
-    unfolding fseps
-    again κ c = let P : Fml = seen_owns R z x in qed 𝓛 (‵ Obs ∷ ‵ (V (c ∷ age z)) ∷ ‵ (Lent c) ∷ []) ∵ assume ! (‵ (fsep (fdead κ) (fsep (flft (c ∷ []) full_share) ftrue))) $ suffices ! ⟦ P ⟧ (upd_i 𝓤 ⟦ P ⟧) $
-        fsplit3 ! $ move ! (1 ∷ 4 ∷ 5 ∷ []) $ fjoin3 ! $ fpack ! ℕ (round R z x) c $ move ! (3 ∷ 0 ∷ []) $ fjoin ! $ keep ! (0 ∷ []) $ done !
-
-    module _ (L : RowLaws R) where
-      lends_at : (κ : Lft) (q : Share) → A.bor κ (seen_owns R z x) ∗ A.lft κ q ⊢ H.⇛ (⟦ seen_shares R z x κ ⟧ ∗ A.lft κ q)
-      unfolding fseps
-      lends_at κ q = let P : Fml = seen_owns R z x in let K = L x z.block z.offset in let ν : Lft = κ ++ age z in
-          qed 𝓛 (‵ (fbor κ P) ∷ ‵ (flft κ q) ∷ []) ∵ updating ! $ bor_open ! tt $ move ! (1 ∷ []) $ fsplit ! $ move ! (1 ∷ []) $ fpick ! (λ c. fsplit3 ! $ let a : Lft = c ∷ [] in
-          move ! (1 ∷ []) $ use1 𝓛 (‵ (V (c ∷ age z)) ⊛ ‵ (V (c ∷ age z))) (contraction 𝓛 V K (c ∷ age z)) $ split ! $ move ! (4 ∷ 0 ∷ 3 ∷ []) $ group ! 3 $
-          use1 𝓛 (‵ (fwand (fsep (fdead κ) (fseps (flft a full_share ∷ []))) (fupd P))) (again κ c) $ nothing ! $ move ! (3 ∷ 0 ∷ []) $ fjoin ! $ move ! (3 ∷ 0 ∷ 1 ∷ []) $ obor_alter ! tt (flft a full_share ∷ []) $
-          use1 𝓛 (‵ (fbor κ (flft a full_share)) ⊛ ‵ ftrue) (id⊢ 𝓤 _) $ split ! $ bor_fracture ! tt (λ r. flft a r) full_share $ shr_bor_shorten ! ν (meet_⊑_left κ (age z)) $ move ! (3 ∷ []) $
-          use1 𝓛 (‵ (V (a ++ ν))) (shortens 𝓛 V K (c ∷ age z) (a ++ ν) (⊑_meet (a ++ ν) a (age z) (meet_⊑_left a ν) (Incl-trans (meet_⊑_right a ν) (meet_⊑_right κ (age z))))) $ move ! (1 ∷ 0 ∷ []) $
-          use2 𝓛 (‵ (V ν)) (moves 𝓛 V K ν a) $ now ! $ keep ! (0 ∷ 2 ∷ []) $ done !)
-
-      pub lends_seen : (l : Lft) → Lends 𝓛 (seen_owns R z x) (seen_shares R z x) l
-      lends_seen l κ ts inc sp = qed 𝓛 (‵ (fbor κ (seen_owns R z x)) ∷ raw (lfts 𝓛 ts) ∷ []) ∵ by ! (by_one 𝓛 κ ts sp (A.bor κ (seen_owns R z x)) ⟦ seen_shares R z x κ ⟧ (lends_at κ))
 
     abbrev P : Fml
     P = hold_owns R z x

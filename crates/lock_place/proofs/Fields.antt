@@ -1,4 +1,4 @@
--- The data fields of a `Strip`, a `Room`, a `Hold` and a `Seen`. Assumes `Logic`.
+-- The data fields of a `Strip`, a `Room` and a `Hold`. Assumes `Logic`.
 use Rattle.std.proofs.Common.{◌≡◌, T, List, [], ◌∷◌, ◌++◌, refl, ap, ◌∙◌}
 use seplogic.Ra.Ura.{Ura}
 use mir.Syntax.{Ty, ty_ptr, ty_struct, tcons, tnil}
@@ -17,7 +17,6 @@ use denote.Struct.Owning.{shape}
 use Rattle.lock_place.specs.contracts.strip.Strip as strip
 use Rattle.lock_place.specs.contracts.room.Room as room
 use Rattle.lock_place.specs.contracts.room.Hold as hold
-use Rattle.lock_place.specs.contracts.room.Seen as seen
 use Rattle.lock_place.specs.contracts.room.Parked as parked
 use Rattle.lock_place.specs.contracts.rested.Rested as rested
 use Rattle.lock_place.specs.contracts.spare.Spare as spare
@@ -86,15 +85,6 @@ module _ (R : RattleType) where
 
   pub hold_made : {M : Type 1} {𝓤 : Ura M} (𝓛 : Logic 𝓤) → ent 𝓤 (emp 𝓤) (sem 𝓛 (HoldData.own_val (tt, tt) (token_val ∷ [])))
   hold_made 𝓛 = makes_shadow 𝓛 (HoldData.own_val (tt, tt) (token_val ∷ [])) (λ vss. (tt, ((λ uss. (tt, tt)), tt))) ((vstruct vnil ∷ [], tt), (refl, ((tt, (refl, tt)), tt)))
-
-  abbrev pub SeenData : RattleType
-  SeenData = Struct (shape (seen.the_type R))
-
-  pub seen_told : (vs : List Val) → Is SeenData (tt, tt) vs → vs ≡ token_val ∷ []
-  seen_told vs is = is.1.0 ∙ ap (λ (ws : List Val). vstruct (of_list (ws ++ [])) ∷ []) is.1.1.0.1.0
-
-  pub seen_made : {M : Type 1} {𝓤 : Ura M} (𝓛 : Logic 𝓤) → ent 𝓤 (emp 𝓤) (sem 𝓛 (SeenData.own_val (tt, tt) (token_val ∷ [])))
-  seen_made 𝓛 = makes_shadow 𝓛 (SeenData.own_val (tt, tt) (token_val ∷ [])) (λ vss. (tt, ((λ uss. (tt, tt)), tt))) ((vstruct vnil ∷ [], tt), (refl, ((tt, (refl, tt)), tt)))
 
   abbrev pub ParkedData : RattleType
   ParkedData = Struct (shape (parked.the_type R))

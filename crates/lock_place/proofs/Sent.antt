@@ -3,8 +3,8 @@ use base.Fraction.{full_share}
 use base.Shift.{Keyless}
 use denote.RattleType.{RattleType}
 use denote.RawPtr.{Ptr}
-use denote.Param.Send.{IsSend, IsSync, part_keyless}
-use Rattle.lock_place.specs.Held.{RoomId, held, room_owns, hold_owns, seen_owns, age}
+use denote.Param.Send.{IsSend, part_keyless}
+use Rattle.lock_place.specs.Held.{RoomId, held, room_owns, hold_owns}
 use Rattle.lock_place.specs.Rests.{rested_owns}
 use Rattle.lock_place.specs.Spared.{waits, spare_owns}
 use Rattle.std.specs.Prelude.{ℕ, Option, Some, None}
@@ -19,9 +19,6 @@ room_keyless R s p z = (tt, ((λ _. tt), held_keyless R s z))
 
 pub hold_keyless : (R : RattleType) → IsSend R → (z : RoomId) (x : R.Denot) → Keyless (hold_owns R z x)
 hold_keyless R s z x = (tt, held_keyless R s z)
-
-pub seen_keyless : (R : RattleType) → IsSend R → IsSync R → (z : RoomId) (x : R.Denot) → Keyless (seen_owns R z x)
-seen_keyless R s y z x = (tt, λ c. (tt, (y.shared x z.block z.offset (c ∷ age z), held_keyless R s z)))
 
 waits_keyless : (R : RattleType) → IsSend R → (z : RoomId) (d : ℕ) (x : R.Denot) (y : Bool) → Keyless (waits R z d x y)
 waits_keyless R s z d x true = hold_keyless R s z x

@@ -1,7 +1,7 @@
 //! Where a value lies, the rights to it, and what they lend.
 ghost use Rattle.core.specs.Prelude.{◌≡◌, [], ◌∷◌, length};
 ghost use Rattle.std.specs.Prelude.{Some};
-ghost use Rattle.lock_place.specs.Held.{RoomId, room_id_coded, room_owns, room_shares, hold_owns, hold_shares, seen_owns, seen_shares};
+ghost use Rattle.lock_place.specs.Held.{RoomId, room_id_coded, room_owns, room_shares, hold_owns, hold_shares};
 
 use crate::rested::Rested;
 use crate::spare::Spare;
@@ -38,8 +38,7 @@ impl<T> Model for Hold<T> {
     ghost also_shares = { λ h _ κ. hold_shares T.row h.room_id h.value κ };
 }
 
-/// A hold at rest. It shows no value, and so threads may share it. [`Hold::park`] makes it, and
-/// [`Parked::unpark`] ends it.
+/// A hold at rest, as [`Hold::park`] makes it. It shows no value, and so threads may share it.
 pub struct Parked<T> {
     marker: PhantomData<T>,
     pub ghost room_id: { RoomId } by { room_id_coded },
@@ -48,20 +47,6 @@ pub struct Parked<T> {
 
 impl<T> Model for Parked<T> {
     ghost also_owns = { λ h. hold_owns T.row h.room_id h.value };
-}
-
-/// The right to read the value of a room, from behind a `&` too, in any number of threads at once. A hold is
-/// turned into it, and comes back: [`Hold::share`], [`Seen::unshare`].
-pub struct Seen<T> {
-    marker: PhantomData<T>,
-    pub ghost room_id: { RoomId } by { room_id_coded },
-    pub ghost value: { T },
-}
-
-impl<T> Model for Seen<T> {
-    ghost also_owns = { λ s. seen_owns T.row s.room_id s.value };
-
-    ghost also_shares = { λ s _ κ. seen_shares T.row s.room_id s.value κ };
 }
 
 impl<T> Room<T> {
@@ -98,27 +83,7 @@ impl<T> Room<T> {
     }
 }
 
-impl<T> Hold<T> {
-    /// The right to read, in place of the right to write. It requires the hold of this very room.
-    pub fn share(self, room: &Room<T>) -> Seen<T>
-        requires { self.room_id ≡ room.now.room_id }
-        ensures { (result.room_id ≡ self.room_id) × (result.value ≡ self.value) }
-    {
-        let _ = room;
-        let Hold { marker } = self;
-        Seen { marker }
-    }
-}
-
 impl<T> Parked<T> {
-    /// The hold again.
-    pub fn unpark(self) -> Hold<T>
-        ensures { (result.room_id ≡ self.room_id) × (result.value ≡ self.value) }
-    {
-        let Parked { marker } = self;
-        Hold { marker }
-    }
-
     /// The hold, where a right rests.
     pub fn rest(self) -> Rested<T>
         ensures { (result.room_id ≡ self.room_id) × (result.value ≡ Some self.value) }
@@ -138,24 +103,6 @@ impl<T> Hold<T> {
     }
 
     /// The value, to read. It requires the hold of this very room.
-    pub fn get<'a>(&'a self, room: &'a Room<T>) -> &'a T
-        requires { self.now.room_id ≡ room.now.room_id }
-        ensures { result.now ≡ self.now.value }
-    {
-        unsafe { &*room.at }
-    }
-}
-
-impl<T> Seen<T> {
-    /// The right to write comes back.
-    pub fn unshare(self) -> Hold<T>
-        ensures { (result.room_id ≡ self.room_id) × (result.value ≡ self.value) }
-    {
-        let Seen { marker } = self;
-        Hold { marker }
-    }
-
-    /// The value, to read. It requires the right to this very room.
     pub fn get<'a>(&'a self, room: &'a Room<T>) -> &'a T
         requires { self.now.room_id ≡ room.now.room_id }
         ensures { result.now ≡ self.now.value }
@@ -188,12 +135,6 @@ impl<T> Drop for Parked<T> {
     }
 }
 
-impl<T> Drop for Seen<T> {
-    fn drop(self) {
-        let Self { marker: _ } = self;
-    }
-}
-
 unsafe impl<T: Send> Send for Room<T> {}
 
 unsafe impl<T: Send> Sync for Room<T> {}
@@ -203,7 +144,3 @@ unsafe impl<T: Send> Send for Hold<T> {}
 unsafe impl<T: Send> Send for Parked<T> {}
 
 unsafe impl<T: Send> Sync for Parked<T> {}
-
-unsafe impl<T: Send + Sync> Send for Seen<T> {}
-
-unsafe impl<T: Send + Sync> Sync for Seen<T> {}

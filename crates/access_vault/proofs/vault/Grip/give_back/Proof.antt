@@ -9,8 +9,9 @@ use Rattle.access_vault.specs.Kept.{VaultId, rights, views, grip_owns, memo_owns
 use contract.BorrowLft.{◌⊑◌, meet_⊑_left}
 use types.Frac.{lent_meet}
 use base.Fml.{Incl-refl}
-use Rattle.lock_place.specs.Held.{age, seen_owns}
-use Rattle.lock_place.proofs.Ages.{begins}
+use Rattle.lock_place.specs.Held.{age}
+use Rattle.access_vault.specs.Rounds.{seen_owns}
+use Rattle.access_vault.proofs.Rounds.{begins}
 use Rattle.access_vault.specs.Vault.{seat, memo}
 use Rattle.access_vault.proofs.Lending.{writes_no_more}
 use denote.Param.Laws.{param_laws}

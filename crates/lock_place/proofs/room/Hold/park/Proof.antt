@@ -3,7 +3,6 @@ use Rattle.atomic_table.proofs.Names.{◌≡◌, [], ◌∷◌, refl, a_type, Va
 use Rattle.atomic_table.proofs.Walks.{proved, leaves}
 use Rattle.lock_place.specs.contracts.room.Room as room
 use Rattle.lock_place.specs.contracts.room.Hold as hold
-use Rattle.lock_place.specs.contracts.room.Seen as seen
 use Rattle.lock_place.specs.contracts.room.Parked as parked
 use Rattle.lock_place.proofs.Fields.{ParkedData, parked_made}
 use Rattle.lock_place.specs.contracts.strip.Strip as strips
@@ -17,7 +16,7 @@ pub park_spec : {M : Type 1} → statement M
 park_spec 𝓤 𝓛 𝓜 𝓡 wired T L =
     let H = 𝓛.H in let A = 𝓛.A in let 𝓣 = tables 𝓤 H 𝓜 𝓡 𝓡.env in let R : RattleType = param 0 T in let En = ended T in let c = clauses T 𝓛 𝓜.mem 𝓡.returns in
     let inst = layouts (a_type ∷ []) (T, tt) in let fn = inst_fn inst code.function in let closed = code.unfolded 𝓤 H 𝓜 𝓡 wired (T, tt) in
-    let Row : RattleType = room.the_row R in let Hr : RattleType = hold.the_row R in let Sn : RattleType = seen.the_row R in let Ss : RattleType = strips.the_row R in let Pk : RattleType = parked.the_row R in
+    let Row : RattleType = room.the_row R in let Hr : RattleType = hold.the_row R in let Ss : RattleType = strips.the_row R in let Pk : RattleType = parked.the_row R in
     let hs : Stays En.signature.params En.kept = (stay_dropped (plain (λ _. Hr)) no, tt) in
     proved 𝓛 En hs c 𝓜 𝓡 (Goes-dropped 𝓛 1 (plain (λ _. Hr)) no (λ κs x f. refl), tt) (#self inst) fn closed
     (λ κs. ((λ _. token_val ∷ []), tt)) (λ κs. ((λ x vs so. hold_told R vs so.0), tt)) (λ κs qs bounds a gh are.
