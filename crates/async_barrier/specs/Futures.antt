@@ -1,17 +1,15 @@
 -- What contracts see of a barrier's future, and what a poll answers.
-use Rattle.std.specs.Prelude.{◌≡◌, ℕ, ⊤, Bool, true, false, Option, Some, None, IfSome, IsSomeAnd}
+use Rattle.std.specs.Prelude.{◌≡◌, ℕ, ⊤, Bool, Option, Some, None, IfSome, IsSomeAnd}
 use Rattle.async_barrier.specs.declared.barrier.Barrier.{Barrier}
 use Rattle.async_barrier.specs.declared.result.BarrierWaitResult.{BarrierWaitResult}
 use Rattle.async_driver.specs.declared.turn.Turn.{Turn}
 use Rattle.async_driver.specs.declared.turn.Turn.TheVariants.{Pending, Ready, Refused}
 use Rattle.barrier_core.specs.Barriers.{Barrier as RawBarrier, Seated, HasEnded, IsOf, IsSameSeat}
-use Rattle.barrier_core.specs.Outcomes.{HasReceipt, IsGivenUp, LocksBy, RestsAt, RestsBy, counted_in}
+use Rattle.barrier_core.specs.Outcomes.{HasReceipt, LocksBy, RestsAt, RestsBy, counted_in}
 use Rattle.barrier_core.specs.declared.turn.Aim.TheVariants as aim
 use Rattle.barrier_core.specs.declared.turn.Resting.{Resting}
 use Rattle.barrier_core.specs.declared.turn.Resting.TheVariants as resting
 use Rattle.futures.specs.declared.task.context.Context.{Context}
-use Rattle.lock_program.specs.declared.refusal.Refusal.{Refusal}
-use Rattle.lock_program.specs.declared.refusal.Refusal.TheVariants.{Finished}
 
 -- its barrier, whether it was ready before, what it has between two polls, and the seat by which it has ended
 pub record Future (R : Type 0) : Type 0 where
@@ -66,21 +64,3 @@ GoesOnBy (resting.Counted arrival) turn waiting ended = GoesBy arrival.seat turn
 GoesOnBy (resting.Locking (aim.Arrive course) lock) turn waiting ended = OnAgain turn (IfSome waiting (LocksBy lock.seat))
 GoesOnBy (resting.Locking (aim.Check arrival) lock) turn waiting ended = GoesBy arrival.seat turn waiting ended
 GoesOnBy (resting.Waiting w) turn waiting ended = GoesBy w.seat turn waiting ended
-
--- a fact of a refused poll
-abbrev pub OnRefused : Turn BarrierWaitResult → Type 0 → Type 0
-OnRefused (Refused refusal) fact = fact
-OnRefused turn fact = ⊤
-
--- how a wait may refuse: as finished where it is over, and else as it gives up
-abbrev pub CanRefuse : Bool → Refusal → Type 0
-CanRefuse true refusal = refusal ≡ Finished
-CanRefuse false refusal = IsGivenUp refusal
-
--- Ready, it is over. One that is over is refused as finished and stays so; no other is, and none for another reason than memory, too
--- many starved waiters or too many generations.
-abbrev pub IsTurn : Bool → Turn BarrierWaitResult → Bool → Type 0
-IsTurn was (Ready got) is = (was ≡ false) × (is ≡ true)
-IsTurn was Pending is = (was ≡ false) × (is ≡ false)
-IsTurn was (Refused Finished) is = (was ≡ true) × (is ≡ true)
-IsTurn was (Refused refusal) is = (was ≡ false) × (is ≡ false) × IsGivenUp refusal

@@ -1,10 +1,10 @@
 //! The future of a barrier.
 
-ghost use Rattle.std.specs.Prelude.{◌≡◌, false, None, IfSome};
+ghost use Rattle.std.specs.Prelude.{◌≡◌, false, ⊤, None, IfSome};
 ghost use Rattle.futures.specs.Task.{Covers, Keeps};
-ghost use Rattle.async_driver.specs.Turns.{OnPending, OnReady};
-ghost use Rattle.async_barrier.specs.Futures.{GoesOnBy, IsEndOf, IsInNoList, IsReceipt, IsTurn, OnAgain, OnRefused, counted_of};
-ghost use Rattle.barrier_core.specs.Outcomes.{StaysCounted};
+ghost use Rattle.async_driver.specs.Turns.{IsTurn, OnPending, OnReady, OnRefused};
+ghost use Rattle.async_barrier.specs.Futures.{GoesOnBy, IsEndOf, IsInNoList, IsReceipt, OnAgain, counted_of};
+ghost use Rattle.barrier_core.specs.Outcomes.{IsGivenUp, StaysCounted};
 
 use crate::barrier::Barrier;
 use crate::result::BarrierWaitResult;
@@ -75,10 +75,10 @@ impl<R: Wait + Clock> BarrierWait<'_, R> {
     /// (`receipt`). The task has registered with the barrier's source (`registered`), and keeps what it had registered before
     /// (`kept`).
     pub fn poll(&mut self, cx: &mut Context<'_>) -> Turn<BarrierWaitResult>
-        ensures turn { IsTurn self.old.is_over result self.new.is_over }
+        ensures turn { IsTurn IsGivenUp (λ _. ⊤) self.old.is_over result self.new.is_over }
         ensures barrier { self.new.barrier ≡ self.old.barrier }
         ensures found { OnReady result (IsEndOf self.old.barrier.raw self.new.ended) }
-        ensures refused { OnRefused result (IsInNoList self.new.waiting) }
+        ensures refused { OnRefused result (λ _. IsInNoList self.new.waiting) }
         ensures same { IfSome self.old.waiting (λ r. GoesOnBy r result self.new.waiting self.new.ended) }
         ensures counted { OnAgain result (StaysCounted (counted_of self.old.waiting) (counted_of self.new.waiting)) }
         ensures receipt { OnPending result (IsReceipt self.old.barrier.raw cx.new self.new.waiting) }
@@ -118,11 +118,13 @@ impl<R: Wait + Clock> BarrierWait<'_, R> {
 impl<R: Wait + Clock> Polled for BarrierWait<'_, R> {
     type Got = BarrierWaitResult;
 
-    ghost use Rattle.async_barrier.specs.Futures.{CanRefuse, IsResultAt};
+    ghost use Rattle.async_driver.specs.Turns.{CanRefuse};
+    ghost use Rattle.async_barrier.specs.Futures.{IsResultAt};
+    ghost use Rattle.barrier_core.specs.Outcomes.{IsGivenUp};
 
     ghost gives = { λ wait got. IsResultAt wait.barrier.raw got };
 
-    ghost refuses = { λ wait. CanRefuse wait.is_over };
+    ghost refuses = { λ wait. CanRefuse IsGivenUp wait.is_over };
 
     fn poll_turn(&mut self, cx: &mut Context<'_>) -> Turn<BarrierWaitResult> {
         self.poll(cx)

@@ -1,3 +1,4 @@
+pub mod Stages
 pub mod Tasks
 pub mod Turns
 pub mod Waited

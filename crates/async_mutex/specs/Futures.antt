@@ -1,18 +1,13 @@
 -- What contracts see of a mutex's future, and what a poll answers.
-use Rattle.std.specs.Prelude.{◌≡◌, ℕ, Bool, true, false, ⊤, Option, Some, None, IsSomeAnd}
+use Rattle.std.specs.Prelude.{◌≡◌, ℕ, true, false, ⊤, Option, Some, None, IsSomeAnd}
 use Rattle.std.specs.declared.time.Instant.{Instant}
 use Rattle.futures.specs.Task.{Covers}
 use Rattle.futures.specs.declared.task.context.Context.{Context}
 use Rattle.async_driver.specs.declared.turn.Turn.{Turn}
 use Rattle.async_driver.specs.declared.turn.Turn.TheVariants.{Pending, Ready, Refused}
-use Rattle.async_mutex.specs.Stages.{HasShare}
 use Rattle.async_mutex.specs.declared.mutex.Mutex.{Mutex}
-use Rattle.async_mutex.specs.declared.stage.Look.{Look}
-use Rattle.async_mutex.specs.declared.stage.Look.TheVariants as looks
-use Rattle.async_mutex.specs.declared.stage.Stage.{Stage}
-use Rattle.async_mutex.specs.declared.stage.Stage.TheVariants as stages
-use Rattle.lock_program.specs.declared.refusal.Refusal.{Refusal}
-use Rattle.lock_program.specs.declared.refusal.Refusal.TheVariants.{Finished}
+use Rattle.async_driver.specs.declared.stage.Stage.{Stage}
+use Rattle.async_driver.specs.declared.stage.Stage.TheVariants as stages
 use Rattle.lock_program.specs.declared.end.Next.TheVariants.{Do}
 use Rattle.lock_program.specs.declared.mutex.Place.TheVariants as at
 use Rattle.mutex_core.specs.Courses.{pending}
@@ -76,12 +71,6 @@ module _ {O T R : Type 0} (lock_of : O → Mutex T R) where
   LooksInVain (stages.Waits owner) vain = IsOf (lock_of owner).words vain.seat × (vain.seat.course ≡ Do (at.Join false))
   LooksInVain _ vain = ⊥
 
-  -- a first look got the lock, or was in vain; nobody looks where who has the mutex isn't there
-  abbrev pub Looks : Stage O → Look T → Type 0
-  Looks stage (looks.Got held) = GotAt stage held
-  Looks stage (looks.Vain vain) = LooksInVain stage vain
-  Looks stage looks.NoShare = HasShare stage → ⊥
-
   -- how its poll went
   abbrev pub OnPolled : Stage O → Outcome T → Type 0
   OnPolled stage (outcome.Got held) = GotAt stage held
@@ -105,21 +94,3 @@ GoesOnBy seat_of seat (Refused refusal) entry = ⊤
 abbrev pub WaitsOn : {G : Type 0} → Option Instant → Turn G → Option Listed → Type 0
 WaitsOn then Pending entry = IsSomeAnd entry (λ e. e.seat.starved ≡ false → IsStill then e.since)
 WaitsOn then _ entry = ⊤
-
--- Ready, what was got is this and the future is over. One that is over is refused as finished and stays so; no other is, and none for
--- another reason than memory or too many starved waiters.
-abbrev pub IsTurn : {G : Type 0} → (G → Type 0) → Bool → Turn G → Bool → Type 0
-IsTurn got was (Ready g) is = (was ≡ false) × (is ≡ true) × got g
-IsTurn got was Pending is = (was ≡ false) × (is ≡ false)
-IsTurn got was (Refused Finished) is = (was ≡ true) × (is ≡ true)
-IsTurn got was (Refused refusal) is = (was ≡ false) × (is ≡ false) × IsGivenUp refusal
-
--- With which names a future refuses: one that is over as finished, any other for memory or for too many starved waiters.
-abbrev pub CanRefuse : Bool → Refusal → Type 0
-CanRefuse true refusal = refusal ≡ Finished
-CanRefuse false refusal = IsGivenUp refusal
-
--- a fact of a poll that was refused
-abbrev pub OnRefused : {G : Type 0} → Turn G → Type 0 → Type 0
-OnRefused (Refused refusal) fact = fact
-OnRefused _ fact = ⊤

@@ -1,4 +1,3 @@
 pub mod Futures
 pub mod Guards
 pub mod Lent
-pub mod Stages

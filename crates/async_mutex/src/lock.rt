@@ -2,17 +2,16 @@
 
 ghost use Rattle.std.specs.Prelude.{◌≡◌, false, IfSome, None};
 ghost use Rattle.futures.specs.Task.{Covers, Keeps};
-ghost use Rattle.async_mutex.specs.Stages.{IsOf, is_finished};
-ghost use Rattle.async_driver.specs.Turns.{OnPending};
-ghost use Rattle.async_mutex.specs.Futures.{GoesOnBy, HasReceipt, IsTurn, OnRefused, WaitsAt, WaitsOn, future};
+ghost use Rattle.async_driver.specs.Stages.{IsOf, is_finished};
+ghost use Rattle.async_driver.specs.Turns.{IsTurn, OnPending, OnRefused};
+ghost use Rattle.async_mutex.specs.Futures.{GoesOnBy, HasReceipt, WaitsAt, WaitsOn, future};
+ghost use Rattle.mutex_core.specs.Outcomes.{IsGivenUp};
 
 use crate::guard::Guard;
 use crate::mutex::Mutex;
 use crate::owns::Owns;
-use crate::stage::{
-    Look, Stage, drop_stage, first_look, first_poll, into_guard, into_turn, later_poll, no_share,
-};
-use async_driver::{Polled, Turn};
+use crate::stage::{drop_stage, first_look, first_poll, into_guard, into_turn, later_poll};
+use async_driver::{Look, Polled, Stage, Turn, no_share};
 use futures::task::Context;
 use lock_program::Refusal;
 use mutex_core::Waiting;
@@ -79,11 +78,11 @@ impl<T, R: Wait + Clock, O: Owns<Value = T, Runtime = R>> LockFuture<T, R, O> {
     /// ```
     #[inline]
     pub fn poll(&mut self, cx: &mut Context<'_>) -> Turn<Guard<T, R, O>>
-        ensures turn { IsTurn (λ guard. IsOf O.lock_of self.old.stage guard.mutex) (is_finished self.old.stage) result (is_finished self.new.stage) }
+        ensures turn { IsTurn IsGivenUp (λ guard. IsOf O.lock_of self.old.stage guard.mutex) (is_finished self.old.stage) result (is_finished self.new.stage) }
         ensures share { is_finished self.new.stage ≡ false → self.new.stage ≡ self.old.stage }
         ensures same { IfSome self.old.entry (λ e. GoesOnBy (λ guard. guard.seat) e.seat result self.new.entry) }
         ensures since { IfSome self.old.entry (λ e. WaitsOn e.since result self.new.entry) }
-        ensures refused { OnRefused result (self.new.entry ≡ None) }
+        ensures refused { OnRefused result (λ _. self.new.entry ≡ None) }
         ensures receipt { OnPending result (HasReceipt O.lock_of self.old.stage cx.new self.new.entry) }
         ensures registered { OnPending result (Covers cx.new (WaitsAt O.lock_of self.old.stage)) }
         ensures kept { Keeps cx.old cx.new }
@@ -106,12 +105,13 @@ impl<T, R: Wait + Clock, O: Owns<Value = T, Runtime = R>> LockFuture<T, R, O> {
 impl<T, R: Wait + Clock, O: Owns<Value = T, Runtime = R>> Polled for LockFuture<T, R, O> {
     type Got = Guard<T, R, O>;
 
-    ghost use Rattle.async_mutex.specs.Stages.{IsOf, is_finished};
-    ghost use Rattle.async_mutex.specs.Futures.{CanRefuse};
+    ghost use Rattle.async_driver.specs.Stages.{IsOf, is_finished};
+    ghost use Rattle.async_driver.specs.Turns.{CanRefuse};
+    ghost use Rattle.mutex_core.specs.Outcomes.{IsGivenUp};
 
     ghost gives = { λ future guard. IsOf O.lock_of future.stage guard.mutex };
 
-    ghost refuses = { λ future. CanRefuse (is_finished future.stage) };
+    ghost refuses = { λ future. CanRefuse IsGivenUp (is_finished future.stage) };
 
     fn poll_turn(&mut self, cx: &mut Context<'_>) -> Turn<Guard<T, R, O>> {
         self.poll(cx)

@@ -2,7 +2,7 @@
 
 ghost use Rattle.std.specs.Prelude.{◌≡◌, IfSome, IfOk, IfErr, None, ◌≤◌, false};
 ghost use Rattle.std.specs.Arc.{arc_value};
-ghost use Rattle.async_mutex.specs.Stages.{IsFor, IsOf, is_finished};
+ghost use Rattle.async_driver.specs.Stages.{IsFor, IsOf, is_finished};
 ghost use Rattle.mutex_core.specs.Outcomes.{IsGivenUp, IsHeldOf};
 ghost use Rattle.lock_program.specs.declared.refusal.Refusal.{Refusal};
 
@@ -10,9 +10,8 @@ use crate::guard::Guard;
 use crate::lock::LockFuture;
 use crate::lock_futures::{Lock, LockArc};
 use crate::releases::Releases;
-use crate::stage::{Stage, first};
 use crate::{MutexGuard, MutexGuardArc};
-use async_driver::wait_for;
+use async_driver::{Stage, first, wait_for};
 use lock_program::Refusal;
 use mutex_core::{Held, STARVED_LIMIT, Words};
 use std::alloc::AllocGlobal;
@@ -173,7 +172,7 @@ impl<T: Drop, R: Wait + Drop> Mutex<T, R> {
         ensures new { is_finished result.stage ≡ false }
         ensures entry { result.entry ≡ None }
     {
-        LockFuture::new(first::<T, R, Arc<Mutex<T, R>>>(Arc::try_clone(this).ok()))
+        LockFuture::new(first::<Mutex<T, R>, Arc<Mutex<T, R>>>(Arc::try_clone(this).ok()))
     }
 }
 

@@ -1,6 +1,6 @@
 //! Who has a lock.
 
-ghost use Rattle.std.specs.Prelude.{◌≡◌, IfSome};
+ghost use Rattle.std.specs.Prelude.{◌≡◌};
 
 use crate::mutex::Mutex;
 use std::sync::Arc;
@@ -23,10 +23,6 @@ pub trait Owns: Drop {
     fn lock(&self) -> &Mutex<Self::Value, Self::Runtime>
         ensures { result.now ≡ lock_of self.now };
 
-    /// Returns another of the same, or `None` if no more shares of the lock can be had.
-    fn again(&self) -> Option<Self>
-        ensures { IfSome result (λ other. lock_of other ≡ lock_of self.now) };
-
     /// Returns whether this is a share of the lock. The names under which futures are shown differ by it.
     fn is_share() -> bool;
 }
@@ -40,10 +36,6 @@ impl<'a, T, R> Owns for &'a Mutex<T, R> {
 
     fn lock(&self) -> &Mutex<T, R> {
         self
-    }
-
-    fn again(&self) -> Option<Self> {
-        Some(*self)
     }
 
     fn is_share() -> bool {
@@ -62,10 +54,6 @@ impl<T: Drop, R: Drop> Owns for Arc<Mutex<T, R>> {
 
     fn lock(&self) -> &Mutex<T, R> {
         self
-    }
-
-    fn again(&self) -> Option<Self> {
-        Arc::try_clone(self).ok()
     }
 
     fn is_share() -> bool {

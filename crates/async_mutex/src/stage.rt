@@ -1,62 +1,28 @@
-//! How far a future is, one poll of it by who has the mutex, and what a dropped one gives back.
+//! One poll of a future by who has the mutex, and what a dropped one gives back.
 
-ghost use Rattle.std.specs.Prelude.{◌≡◌, false, IfSome, MatchBool, None, Some};
+ghost use Rattle.std.specs.Prelude.{◌≡◌, false, IfSome, None, Some};
 ghost use Rattle.futures.specs.Task.{Keeps};
-ghost use Rattle.async_mutex.specs.Stages.{IsFor, IsOf, is_finished};
-ghost use Rattle.lock_program.specs.declared.refusal.Refusal.TheVariants as refusals;
-ghost use Rattle.async_mutex.specs.Futures.{GotAt, HasReceipt, IsAnswer, IsTurn, Looks, LooksInVain, OnPolled, OnWaits, WaitsAs, entry_of};
-ghost use Rattle.async_mutex.specs.declared.mutex.Mutex.{Mutex};
-ghost use Rattle.mutex_core.specs.Outcomes.{IsBySeat, WaitsSince};
+ghost use Rattle.async_driver.specs.Stages.{IsOf, Looks, is_finished};
+ghost use Rattle.async_driver.specs.Turns.{IsTurn};
+ghost use Rattle.async_mutex.specs.Futures.{GotAt, HasReceipt, IsAnswer, LooksInVain, OnPolled, OnWaits, WaitsAs, entry_of};
+ghost use Rattle.mutex_core.specs.Outcomes.{IsBySeat, IsGivenUp, WaitsSince};
 
 use crate::guard::Guard;
-use crate::mutex::Mutex;
 use crate::owns::Owns;
-use async_driver::{Turn, nothing, put};
+use async_driver::{Look, Stage, Turn, nothing, put};
 use futures::task::Context;
-use lock_program::Refusal;
 use lock_program::mutex::{LockCall, Place};
 use mutex_core::{Held, Outcome, Vain, Waiting};
 use std::mem;
 use std::sync::Wait;
 use std::time::Clock;
 
-/// How far a future is.
-#[derive(Drop)]
-pub enum Stage<O> {
-    /// No share of the mutex could be had.
-    Unowned,
-    /// It hasn't been ready, and has the mutex.
-    Waits(O),
-    /// It was ready, and who has the mutex went to the guard.
-    Finished,
-}
-
-/// How far a future is that is new: it waits, if the mutex could be had.
-#[inline]
-pub(crate) fn first<T, R, O: Owns<Value = T, Runtime = R>>(share: Option<O>) -> Stage<O>
-    ensures new { is_finished result ≡ false }
-    ensures mutex { (mutex : Mutex T R) → IfSome share (λ owner. mutex ≡ O.lock_of owner) → IsFor O.lock_of result mutex }
-{
-    match share {
-        Some(owner) => Stage::Waits(owner),
-        None => Stage::Unowned,
-    }
-}
-
-/// What a first look by who has the mutex came to.
-pub(crate) enum Look<T> {
-    /// The lock.
-    Got(Held<T>),
-    /// This, which didn't get the lock.
-    Vain(Vain<T>),
-    /// Nobody looked: who has the mutex isn't there.
-    NoShare,
-}
-
 /// Looks at the lock, and takes it if it is free and nobody is starved.
 #[inline]
-pub(crate) fn first_look<T, R, O: Owns<Value = T, Runtime = R>>(stage: &Stage<O>) -> Look<T>
-    ensures { Looks O.lock_of stage.now result }
+pub(crate) fn first_look<T, R, O: Owns<Value = T, Runtime = R>>(
+    stage: &Stage<O>,
+) -> Look<Held<T>, Vain<T>>
+    ensures { Looks stage.now (GotAt O.lock_of stage.now) (LooksInVain O.lock_of stage.now) result }
 {
     match stage {
         Stage::Waits(owner) => match owner.lock().words.first_look(LockCall::Lock, Place::Enter) {
@@ -64,17 +30,6 @@ pub(crate) fn first_look<T, R, O: Owns<Value = T, Runtime = R>>(stage: &Stage<O>
             Err(vain) => Look::Vain(vain),
         },
         Stage::Unowned | Stage::Finished => Look::NoShare,
-    }
-}
-
-/// Why a poll is refused where who has the mutex isn't there: the future is over, or could have no share of the mutex.
-#[inline]
-pub(crate) fn no_share<O>(stage: &Stage<O>) -> Refusal
-    ensures { MatchBool (is_finished stage.now) (result ≡ refusals.Finished) (result ≡ refusals.Memory) }
-{
-    match stage {
-        Stage::Finished => Refusal::Finished,
-        Stage::Unowned | Stage::Waits(_) => Refusal::Memory,
     }
 }
 
@@ -104,7 +59,7 @@ pub(crate) fn into_turn<T, R: Wait, O: Owns<Value = T, Runtime = R>>(
     requires outcome { OnPolled O.lock_of stage.old outcome }
     requires open { is_finished stage.old ≡ false }
     ensures waiting { IfSome waiting.new (WaitsAs O.lock_of stage.new) }
-    ensures turn { IsTurn (λ guard. IsOf O.lock_of stage.old guard.mutex) false result (is_finished stage.new) }
+    ensures turn { IsTurn IsGivenUp (λ guard. IsOf O.lock_of stage.old guard.mutex) false result (is_finished stage.new) }
     ensures share { is_finished stage.new ≡ false → stage.new ≡ stage.old }
     ensures answer { IsAnswer (λ guard. guard.seat) outcome result waiting.new }
 {

@@ -7,7 +7,8 @@ use denote.Ref.{Bor}
 use Rattle.async_driver.specs.declared.turn.Turn.{Turn}
 use Rattle.async_driver.specs.declared.turn.Turn.TheVariants.{Pending, Ready, Refused}
 use Rattle.async_driver.specs.Turns.{OnPending}
-use Rattle.async_once_cell.specs.Futures.{CanRefuse, FailsSo}
+use Rattle.async_driver.specs.Turns.{CanRefuse, IsForMemory}
+use Rattle.async_once_cell.specs.Futures.{FailsSo}
 use Rattle.async_once_cell.specs.Stages.{Future, IsAwaiting, Listed, Pended}
 use Rattle.futures.specs.declared.task.context.Context.{Context}
 use Rattle.cell_core.specs.Cells.{Cell}
@@ -42,5 +43,5 @@ module _ {C T E M : Type 0} (what : Purpose) (new : M → Type 0) (gives : M →
   pended_fails Makes p x f = fails gives needs cell cx old.maker now.maker now.entry p x f
 
 -- while a future is pending it may refuse as before
-pub refuses_still : {X : Type 0} (was is : Bool) → (was ≡ false) × (is ≡ false) → (x : Result X Refusal) → IfErr x (CanRefuse is) → IfErr x (CanRefuse was)
-refuses_still was is e x = subst (λ b. IfErr x (CanRefuse is) → IfErr x (CanRefuse b)) (e.1 ∙ sym e.0) (λ f. f)
+pub refuses_still : {X : Type 0} (was is : Bool) → (was ≡ false) × (is ≡ false) → (x : Result X Refusal) → IfErr x (CanRefuse IsForMemory is) → IfErr x (CanRefuse IsForMemory was)
+refuses_still was is e x = subst (λ b. IfErr x (CanRefuse IsForMemory is) → IfErr x (CanRefuse IsForMemory b)) (e.1 ∙ sym e.0) (λ f. f)

@@ -1,13 +1,12 @@
 -- What contracts see of a cell's futures, and what their polls answer.
-use Rattle.std.specs.Prelude.{◌≡◌, ⊤, Bool, true, false, Option, Some, None, IfSome, IsSomeAnd, Result, Ok, Err}
+use Rattle.std.specs.Prelude.{◌≡◌, ⊤, Bool, Option, Some, None, IfSome, IsSomeAnd, Result, Ok, Err}
 use denote.Ref.{Bor}
 use Rattle.async_driver.specs.declared.turn.Turn.{Turn}
 use Rattle.async_driver.specs.declared.turn.Turn.TheVariants.{Pending, Ready, Refused}
 use Rattle.async_once_cell.specs.Stages.{Future, Listed}
 use Rattle.async_once_cell.specs.declared.makers.Given.{Given}
 use Rattle.cell_core.specs.Cells.{Cell, HasFound, Seated, IsSameSeat}
-use Rattle.lock_program.specs.declared.refusal.Refusal.{Refusal}
-use Rattle.lock_program.specs.declared.refusal.Refusal.TheVariants.{Finished, Memory}
+use Rattle.lock_program.specs.declared.refusal.Refusal.TheVariants.{Memory}
 
 -- a wait: its cell, whether it was ready before, its entry in the cell's list of those that wait, and the seat by which it has come to its end
 pub record Waiting (C : Type 0) : Type 0 where
@@ -45,15 +44,6 @@ value_in (Some given) = given.value
 abbrev pub setting : {C T : Type 0} → Future C (Given T) → Setting C T
 setting f = record { cell = f.cell; is_over = f.is_over; entry = f.entry; seat = f.seat; ended = f.ended; value = value_in f.maker }
 
--- Ready, what was got is this and the future is over. One that is over is refused as finished and stays so; no other is, and none for
--- another reason than memory.
-abbrev pub IsTurn : {G : Type 0} → (G → Type 0) → Bool → Turn G → Bool → Type 0
-IsTurn got was (Ready g) is = (was ≡ false) × (is ≡ true) × got g
-IsTurn got was Pending is = (was ≡ false) × (is ≡ false)
-IsTurn got was (Refused Finished) is = (was ≡ true) × (is ≡ true)
-IsTurn got was (Refused Memory) is = (was ≡ false) × (is ≡ false)
-IsTurn got was (Refused _) is = ⊥
-
 -- by which seat its entry stands in a list
 abbrev pub seat_in : Option Listed → Option Seated
 seat_in None = None
@@ -65,11 +55,6 @@ GoesOnBy was Pending is ended = IfSome was (λ s. IsSomeAnd is (IsSameSeat s))
 GoesOnBy was (Ready got) is ended = IfSome was (λ s. IsSomeAnd ended (IsSameSeat s))
 GoesOnBy was (Refused refusal) is ended = ⊤
 
--- how a future may refuse: as finished where it is over, and else for memory
-abbrev pub CanRefuse : Bool → Refusal → Type 0
-CanRefuse true refusal = refusal ≡ Finished
-CanRefuse false refusal = refusal ≡ Memory
-
 -- a fact of a poll that was refused for memory
 abbrev pub OnMemory : {G : Type 0} → Turn G → Type 0 → Type 0
 OnMemory (Refused Memory) F = F
@@ -79,11 +64,6 @@ OnMemory _ F = ⊤
 abbrev pub IsSet : {T : Type 0} → Option T → Result (Bor T) T → Type 0
 IsSet value (Ok r) = value ≡ Some r.now
 IsSet value (Err v) = value ≡ Some v
-
--- a fact of a poll that was ready
-abbrev pub OnReady : {G : Type 0} → Turn G → Type 0 → Type 0
-OnReady (Ready got) F = F
-OnReady _ F = ⊤
 
 -- a fact of a poll that was ready with a value, and not with how its maker failed
 abbrev pub OnValue : {V E : Type 0} → Turn (Result V E) → Type 0 → Type 0

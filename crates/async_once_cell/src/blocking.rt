@@ -2,7 +2,7 @@
 
 ghost use Rattle.std.specs.Prelude.{◌≡◌, IfErr, IfOk, IfSome, IsSomeAnd, Option, Some, None, false};
 ghost use Rattle.async_once_cell.specs.Faults.{EndsWith, FailedSo};
-ghost use Rattle.async_once_cell.specs.Futures.{CanRefuse};
+ghost use Rattle.async_driver.specs.Turns.{CanRefuse, IsForMemory};
 ghost use Rattle.futures.specs.Poll.{IfReady, OnPending};
 ghost use Rattle.futures.specs.Task.{Covers, Keeps};
 
@@ -35,7 +35,7 @@ pub(crate) struct BlockedWait<F>(pub(crate) F);
 impl<'a, T: Drop, R: Waits + Clock> Future for BlockedWait<Wait<'a, T, R>> {
     type Output = Result<(), Refusal>;
 
-    ghost gives = { λ b got. IfErr got (CanRefuse b.0.is_over) };
+    ghost gives = { λ b got. IfErr got (CanRefuse IsForMemory b.0.is_over) };
 
     fn poll(&mut self, cx: &mut Context<'_>) -> Poll<Result<(), Refusal>> {
         match self.0.poll(cx) {
@@ -83,7 +83,7 @@ impl<'a, T: Drop, E: Drop, R: Waits + Clock, M: Maker<T, E>> Future for Blocked<
 
     ghost can_poll = { λ b. IfSome b.maker M.can_make };
 
-    ghost gives = { λ b got. IfOk got (FailedSo M.gives b.maker) × IfErr got (CanRefuse b.is_over) };
+    ghost gives = { λ b got. IfOk got (FailedSo M.gives b.maker) × IfErr got (CanRefuse IsForMemory b.is_over) };
 
     fn poll(&mut self, cx: &mut Context<'_>) -> Poll<Result<Result<(), E>, Refusal>> {
         let cell = self.cell;
@@ -156,7 +156,7 @@ impl<'a, T: Drop, R: Waits, O: Origin<T>> Kept<'a, T, R, O> {
     fn poll(&mut self, cx: &mut Context<'_>) -> Poll<Result<(), Refusal>>
     where
         R: Clock,
-        ensures refused { IfReady result (λ got. IfErr got (CanRefuse self.old.is_over)) }
+        ensures refused { IfReady result (λ got. IfErr got (CanRefuse IsForMemory self.old.is_over)) }
         ensures over { OnPending result ((self.old.is_over ≡ false) × (self.new.is_over ≡ false)) }
         ensures registered { OnPending result (Covers cx.new (λ _. ⊥)) }
         ensures kept { Keeps cx.old cx.new }
@@ -211,7 +211,7 @@ impl<T, R: Waits, O: Origin<T>> Drop for BlockedSet<'_, '_, T, R, O> {
 impl<'b, 'a, T: Drop, R: Waits + Clock, O: Origin<T>> Future for BlockedSet<'b, 'a, T, R, O> {
     type Output = Result<(), Refusal>;
 
-    ghost gives = { λ b got. IfErr got (CanRefuse b.0.now.is_over) };
+    ghost gives = { λ b got. IfErr got (CanRefuse IsForMemory b.0.now.is_over) };
 
     fn poll(&mut self, cx: &mut Context<'_>) -> Poll<Result<(), Refusal>> {
         let kept: &mut Kept<'a, T, R, O> = &mut *self.0;

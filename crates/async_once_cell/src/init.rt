@@ -2,9 +2,9 @@
 
 ghost use Rattle.std.specs.Prelude.{◌≡◌, ⊤, Some, IfSome, IsSomeAnd, false, true, None};
 ghost use Rattle.futures.specs.Task.{Keeps};
-ghost use Rattle.async_driver.specs.Turns.{OnPending};
+ghost use Rattle.async_driver.specs.Turns.{IsForMemory, IsTurn, OnPending, OnReady};
 ghost use Rattle.async_once_cell.specs.Closures.{CanMake, CanTry, MakeGives, MakeNeeds, TryGives, TryNeeds, is_new_make, is_new_try};
-ghost use Rattle.async_once_cell.specs.Futures.{FailsSo, GoesOnBy, IsFoundBy, IsTurn, OnMemory, OnReady, OnValue};
+ghost use Rattle.async_once_cell.specs.Futures.{FailsSo, GoesOnBy, IsFoundBy, OnMemory, OnValue};
 ghost use Rattle.async_once_cell.specs.Stages.{IsAwaiting};
 ghost use Rattle.async_once_cell.specs.declared.makers.Trying.TheVariants as tries;
 ghost use Rattle.async_once_cell.specs.declared.makers.Making.TheVariants as makes;
@@ -98,7 +98,7 @@ impl<
     pub fn poll(&mut self, cx: &mut Context<'_>) -> Turn<Result<&'a T, E>>
         requires { IfSome self.old.maker (CanTry F.pre F.post Fut.can_poll) }
         ensures again { IfSome self.new.maker (CanTry F.pre F.post Fut.can_poll) }
-        ensures turn { IsTurn (FailsSo (TryGives F.post Fut.gives) self.old.maker) self.old.is_over result self.new.is_over }
+        ensures turn { IsTurn IsForMemory (FailsSo (TryGives F.post Fut.gives) self.old.maker) self.old.is_over result self.new.is_over }
         ensures over { self.old.is_over ≡ true → self.new ≡ self.old }
         ensures memory { OnMemory result ((self.new.entry ≡ None) × (self.new.maker ≡ self.old.maker) × IsSomeAnd self.new.maker is_new_try) }
         ensures cell { self.new.cell ≡ self.old.cell }
@@ -133,14 +133,15 @@ impl<
     type Got = Result<&'a T, E>;
 
     ghost use Rattle.async_once_cell.specs.Closures.{CanTry, TryGives};
-    ghost use Rattle.async_once_cell.specs.Futures.{CanRefuse, FailsSo};
+    ghost use Rattle.async_driver.specs.Turns.{CanRefuse, IsForMemory};
+    ghost use Rattle.async_once_cell.specs.Futures.{FailsSo};
     ghost use Rattle.std.specs.Prelude.{IfSome};
 
     ghost can_poll = { λ g. IfSome g.maker (CanTry F.pre F.post Fut.can_poll) };
 
     ghost gives = { λ g got. FailsSo (TryGives F.post Fut.gives) g.maker got };
 
-    ghost refuses = { λ g. CanRefuse g.is_over };
+    ghost refuses = { λ g. CanRefuse IsForMemory g.is_over };
 
     fn poll_turn(&mut self, cx: &mut Context<'_>) -> Turn<Result<&'a T, E>> {
         self.poll(cx)
@@ -218,12 +219,12 @@ impl<'a, T: Drop, R: Wait + Clock, F: FnOnce() -> Fut, Fut: Future<Output = T>> 
     pub fn poll(&mut self, cx: &mut Context<'_>) -> Turn<&'a T>
         requires { IfSome self.old.maker (CanMake F.pre F.post Fut.can_poll) }
         ensures again { IfSome self.new.maker (CanMake F.pre F.post Fut.can_poll) }
-        ensures turn { IsTurn (λ _. ⊤) self.old.is_over result self.new.is_over }
+        ensures turn { IsTurn IsForMemory (λ _. ⊤) self.old.is_over result self.new.is_over }
         ensures over { self.old.is_over ≡ true → self.new ≡ self.old }
         ensures memory { OnMemory result ((self.new.entry ≡ None) × (self.new.maker ≡ self.old.maker) × IsSomeAnd self.new.maker is_new_make) }
         ensures cell { self.new.cell ≡ self.old.cell }
         ensures same { GoesOnBy self.old.seat result self.new.seat self.new.ended }
-        ensures found { OnReady result (IsFoundBy self.old.cell.raw self.old.seat self.new.ended) }
+        ensures found { OnReady result (λ _. IsFoundBy self.old.cell.raw self.old.seat self.new.ended) }
         ensures receipt { OnPending result (IsAwaiting {E = Infallible} (MakeGives F.post Fut.gives) (MakeNeeds Fut.needs) self.old.cell.raw cx.new self.old.maker self.new.maker self.new.entry) }
         ensures kept { Keeps cx.old cx.new }
     {
@@ -248,11 +249,11 @@ impl<'a, T: Drop, R: Wait + Clock, F: FnOnce() -> Fut, Fut: Future<Output = T>> 
 
     ghost use Rattle.async_once_cell.specs.Closures.{CanMake};
     ghost use Rattle.std.specs.Prelude.{IfSome};
-    ghost use Rattle.async_once_cell.specs.Futures.{CanRefuse};
+    ghost use Rattle.async_driver.specs.Turns.{CanRefuse, IsForMemory};
 
     ghost can_poll = { λ g. IfSome g.maker (CanMake F.pre F.post Fut.can_poll) };
 
-    ghost refuses = { λ g. CanRefuse g.is_over };
+    ghost refuses = { λ g. CanRefuse IsForMemory g.is_over };
 
     fn poll_turn(&mut self, cx: &mut Context<'_>) -> Turn<&'a T> {
         self.poll(cx)

@@ -2,9 +2,9 @@
 
 ghost use Rattle.std.specs.Prelude.{◌≡◌, ◌⊎◌, IsSomeAnd, Some, false, true, None};
 ghost use Rattle.futures.specs.Task.{Keeps};
-ghost use Rattle.async_driver.specs.Turns.{OnPending};
+ghost use Rattle.async_driver.specs.Turns.{IsForMemory, IsTurn, OnPending, OnReady};
 ghost use Rattle.cell_core.specs.Cells.{HasFound};
-ghost use Rattle.async_once_cell.specs.Futures.{GoesOnBy, IsSet, IsTurn, OnMemory, OnReady, value_in};
+ghost use Rattle.async_once_cell.specs.Futures.{GoesOnBy, IsSet, OnMemory, value_in};
 ghost use Rattle.async_once_cell.specs.Stages.{CanDrop, HasReceiptActive, maker_in};
 
 use crate::cell::OnceCell;
@@ -93,12 +93,12 @@ impl<'a, T: Drop, R: Wait + Clock> Set<'a, T, R> {
     /// waker of the task that polls (`receipt`). The task has registered with the cell's source, and keeps what it had registered
     /// before (`kept`). It goes on by one seat, from the poll that joined the list to its end (`same`).
     pub fn poll(&mut self, cx: &mut Context<'_>) -> Turn<Result<&'a T, T>>
-        ensures turn { IsTurn (IsSet self.old.value) self.old.is_over result self.new.is_over }
+        ensures turn { IsTurn IsForMemory (IsSet self.old.value) self.old.is_over result self.new.is_over }
         ensures over { self.old.is_over ≡ true → self.new ≡ self.old }
         ensures memory { OnMemory result ((self.new.entry ≡ None) × (self.new.value ≡ self.old.value)) }
         ensures cell { self.new.cell ≡ self.old.cell }
         ensures same { GoesOnBy self.old.seat result self.new.seat self.new.ended }
-        ensures found { OnReady result (IsSomeAnd self.new.ended (HasFound self.old.cell.raw)) }
+        ensures found { OnReady result (λ _. IsSomeAnd self.new.ended (HasFound self.old.cell.raw)) }
         ensures value { OnPending result (self.new.value ≡ self.old.value) }
         ensures stays { (self.new.value ≡ None) ⊎ (self.new.value ≡ self.old.value) }
         ensures receipt { OnPending result (HasReceiptActive self.old.cell.raw cx.new self.new.entry) }
@@ -119,11 +119,11 @@ impl<'a, T: Drop, R: Wait + Clock> Set<'a, T, R> {
 impl<'a, T: Drop, R: Wait + Clock> Polled for Set<'a, T, R> {
     type Got = Result<&'a T, T>;
 
-    ghost use Rattle.async_once_cell.specs.Futures.{CanRefuse};
+    ghost use Rattle.async_driver.specs.Turns.{CanRefuse, IsForMemory};
 
     ghost gives = { λ set got. IsSet set.value got };
 
-    ghost refuses = { λ set. CanRefuse set.is_over };
+    ghost refuses = { λ set. CanRefuse IsForMemory set.is_over };
 
     fn poll_turn(&mut self, cx: &mut Context<'_>) -> Turn<Result<&'a T, T>> {
         self.poll(cx)

@@ -2,10 +2,10 @@
 
 ghost use Rattle.std.specs.Prelude.{◌≡◌, ⊤, true, false, None, IfSome};
 ghost use Rattle.futures.specs.Task.{Keeps};
-ghost use Rattle.async_driver.specs.Turns.{OnPending};
+ghost use Rattle.async_driver.specs.Turns.{IsForMemory, IsTurn, OnPending, OnReady};
 ghost use Rattle.cell_core.specs.Cells.{IsOf};
 ghost use Rattle.cell_core.specs.Outcomes.{IsWaitedBySeat, OnWaited};
-ghost use Rattle.async_once_cell.specs.Futures.{GoesOnBy, IsFoundBy, IsTurn, OnMemory, OnReady, seat_in};
+ghost use Rattle.async_once_cell.specs.Futures.{GoesOnBy, IsFoundBy, OnMemory, seat_in};
 ghost use Rattle.async_once_cell.specs.Stages.{HasReceiptPassive, passive_of};
 
 use crate::cell::OnceCell;
@@ -89,12 +89,12 @@ impl<'a, T: Drop, R: Waits + Clock> Wait<'a, T, R> {
     /// poll that joined the list to its end (`same`).
     #[inline]
     pub fn poll(&mut self, cx: &mut Context<'_>) -> Turn<&'a T>
-        ensures turn { IsTurn (λ _. ⊤) self.old.is_over result self.new.is_over }
+        ensures turn { IsTurn IsForMemory (λ _. ⊤) self.old.is_over result self.new.is_over }
         ensures over { self.old.is_over ≡ true → self.new ≡ self.old }
         ensures memory { OnMemory result (self.new.entry ≡ None) }
         ensures cell { self.new.cell ≡ self.old.cell }
         ensures same { GoesOnBy (seat_in self.old.entry) result (seat_in self.new.entry) self.new.ended }
-        ensures found { OnReady result (IsFoundBy self.old.cell.raw (seat_in self.old.entry) self.new.ended) }
+        ensures found { OnReady result (λ _. IsFoundBy self.old.cell.raw (seat_in self.old.entry) self.new.ended) }
         ensures receipt { OnPending result (HasReceiptPassive self.old.cell.raw cx.new self.new.entry) }
         ensures kept { Keeps cx.old cx.new }
     {
@@ -128,9 +128,9 @@ impl<'a, T: Drop, R: Waits + Clock> Wait<'a, T, R> {
 impl<'a, T: Drop, R: Waits + Clock> Polled for Wait<'a, T, R> {
     type Got = &'a T;
 
-    ghost use Rattle.async_once_cell.specs.Futures.{CanRefuse};
+    ghost use Rattle.async_driver.specs.Turns.{CanRefuse, IsForMemory};
 
-    ghost refuses = { λ wait. CanRefuse wait.is_over };
+    ghost refuses = { λ wait. CanRefuse IsForMemory wait.is_over };
 
     fn poll_turn(&mut self, cx: &mut Context<'_>) -> Turn<&'a T> {
         self.poll(cx)

@@ -1,11 +1,11 @@
 -- How far a future is, what it has meanwhile, and what its polls answer.
-use Rattle.std.specs.Prelude.{◌≡◌, ℕ, ◌⊎◌, Bool, true, false, ⊤, IsSomeAnd, Option, None, Some}
+use Rattle.std.specs.Prelude.{◌≡◌, ℕ, ◌⊎◌, true, ⊤, IsSomeAnd, Option, None, Some}
 use mathlib.Core.Logic.{inl, inr}
+use Rattle.async_driver.specs.Stages.{AtLock}
 use Rattle.async_driver.specs.declared.turn.Turn.{Turn}
 use Rattle.async_driver.specs.declared.turn.Turn.TheVariants.{Pending, Ready, Refused}
 use Rattle.futures.specs.declared.task.context.Context.{Context}
 use Rattle.lock_program.specs.declared.refusal.Refusal.{Refusal}
-use Rattle.lock_program.specs.declared.refusal.Refusal.TheVariants.{Finished}
 use Rattle.lock_queue.specs.Receipts.{IsKept}
 use Rattle.lock_queue.specs.declared.whose.Whose.{Whose}
 use Rattle.mutex_core.specs.Locks as turn
@@ -19,10 +19,8 @@ use Rattle.rwlock_core.specs.declared.party.WaitsToRead.{WaitsToRead}
 use Rattle.rwlock_core.specs.declared.party.WaitsToWrite.{WaitsToWrite}
 use Rattle.rwlock_core.specs.declared.rwlock.RawRwLock.{RawRwLock}
 use Rattle.async_rwlock.specs.declared.rwlock.RwLock.{RwLock}
-use Rattle.async_rwlock.specs.declared.stage.Look.{Look}
-use Rattle.async_rwlock.specs.declared.stage.Look.TheVariants as look
-use Rattle.async_rwlock.specs.declared.stage.Stage.{Stage}
-use Rattle.async_rwlock.specs.declared.stage.Stage.TheVariants.{Unowned, Waits, Finished as Over}
+use Rattle.async_driver.specs.declared.stage.Stage.{Stage}
+use Rattle.async_driver.specs.declared.stage.Stage.TheVariants.{Waits}
 
 -- an entry of what a future wants next: the seat whose it is, at the lock's state or at its writer lock, and whose waker it keeps; and of a write
 -- that waits for readers the number of its seat of the writer lock, which it has
@@ -57,32 +55,7 @@ abbrev pub upgrades_entry : {H : Type 0} → Option (WaitsToWrite × H) → Opti
 upgrades_entry None = None
 upgrades_entry (Some w) = Some (record { seat = inl w.0.seat; keeps = w.0.whose; turn_seat = None })
 
-abbrev pub is_finished : {O : Type 0} → Stage O → Bool
-is_finished Over = true
-is_finished _ = false
-
--- it waits for this lock
-abbrev pub IsOf : {O T R : Type 0} → (O → RwLock T R) → Stage O → RwLock T R → Type 0
-IsOf lock_of (Waits owner) lock = lock ≡ lock_of owner
-IsOf lock_of _ lock = ⊥
-
--- it waits for this lock, or could have no share of it
-abbrev pub IsFor : {O T R : Type 0} → (O → RwLock T R) → Stage O → RwLock T R → Type 0
-IsFor lock_of (Waits owner) lock = lock ≡ lock_of owner
-IsFor lock_of Unowned lock = ⊤
-IsFor lock_of Over lock = ⊥
-
--- who has the lock is there
-abbrev pub HasShare : {O : Type 0} → Stage O → Type 0
-HasShare (Waits owner) = ⊤
-HasShare _ = ⊥
-
--- this holds of the lock that it waits for
-abbrev pub AtLock : {O T R : Type 0} → (O → RwLock T R) → Stage O → (RwLock T R → Type 0) → Type 0
-AtLock lock_of (Waits owner) P = P (lock_of owner)
-AtLock lock_of _ P = ⊥
-
--- and of its words
+-- this holds of the words of the lock that it waits for
 abbrev pub At : {O T R : Type 0} → (O → RwLock T R) → Stage O → (RawRwLock → Type 0) → Type 0
 At lock_of stage P = AtLock lock_of stage (λ lock. P lock.raw)
 
@@ -106,39 +79,11 @@ abbrev pub HasReceiptAt : {O T R : Type 0} → (O → RwLock T R) → Stage O �
 HasReceiptAt lock_of (Waits owner) cx waiting = IsSomeAnd waiting (λ e. IsListedAt (lock_of owner).raw e.seat × IsKept cx e.keeps)
 HasReceiptAt lock_of _ cx waiting = ⊥
 
--- a first look got the right, or was in vain; nobody looks where who has the lock isn't there
-abbrev pub Looks : {O G V : Type 0} → Stage O → (G → Type 0) → (V → Type 0) → Look G V → Type 0
-Looks stage got vain (look.Got g) = got g
-Looks stage got vain (look.Vain v) = vain v
-Looks stage got vain look.NoShare = HasShare stage → ⊥
-
 -- how its poll went
 abbrev pub OnPolled : {G W : Type 0} → (G → Type 0) → (W → Type 0) → (Refusal → Type 0) → Outcome G W → Type 0
 OnPolled got waits refused (outcome.Got g) = got g
 OnPolled got waits refused (outcome.Waits w) = waits w
 OnPolled got waits refused (outcome.Refused refusal) = refused refusal
-
--- Ready, what was got is this and the future is over. One that is over is refused as finished and stays so; no other is, and none for
--- another reason than those of its aim.
-abbrev pub IsTurn : {G : Type 0} → (Refusal → Type 0) → (G → Type 0) → Bool → Turn G → Bool → Type 0
-IsTurn refuses got was (Ready g) is = (was ≡ false) × (is ≡ true) × got g
-IsTurn refuses got was Pending is = (was ≡ false) × (is ≡ false)
-IsTurn refuses got was (Refused Finished) is = (was ≡ true) × (is ≡ true)
-IsTurn refuses got was (Refused refusal) is = (was ≡ false) × (is ≡ false) × refuses refusal
-
--- how a future may refuse: as finished where it is over, and else as a poll for its aim
-abbrev pub CanRefuse : (Refusal → Type 0) → Bool → Refusal → Type 0
-CanRefuse refuses true refusal = refusal ≡ Finished
-CanRefuse refuses false refusal = refuses refusal
-
--- a fact of what a poll got
-abbrev pub OnGot : {G : Type 0} → Turn G → (G → Type 0) → Type 0
-OnGot (Ready got) fact = fact got
-OnGot _ fact = ⊤
-
-abbrev pub OnRefused : {G : Type 0} → Turn G → Type 0 → Type 0
-OnRefused (Refused refusal) fact = fact
-OnRefused _ fact = ⊤
 
 -- What was got has the seat of whoever waited, and the writer lock by the same seat; what waited for the writer lock has that by the seat that waited.
 abbrev pub GotBy : Seated ⊎ turn.Seated → Option ℕ → Seated → Option ℕ → Type 0

@@ -3,7 +3,7 @@
 ghost use Rattle.std.specs.Prelude.{◌≡◌, IfErr, IfOk, IfSome, None};
 ghost use Rattle.access_core.specs.Accesses.{IsLetIn};
 ghost use Rattle.async_rwlock.specs.Guards.{HasFoundRoom};
-ghost use Rattle.async_rwlock.specs.Stages.{IsFor, IsOf};
+ghost use Rattle.async_driver.specs.Stages.{IsFor, IsOf};
 ghost use Rattle.rwlock_core.specs.Outcomes.{IsReadRefusal, IsUpgradableRefusal, IsWriteRefusal};
 ghost use Rattle.rwlock_core.specs.Parties.{IsUpgradableLetIn, IsWriterOf};
 ghost use Rattle.std.specs.Arc.{arc_value};
@@ -13,7 +13,6 @@ use crate::read::ReadFuture;
 use crate::read_guard::ReadGuard;
 use crate::releases::Releases;
 use crate::rwlock::RwLock;
-use crate::stage::{Stage, first};
 use crate::upgradable_guard::UpgradableGuard;
 use crate::upgradable_read::UpgradableFuture;
 use crate::write::WriteFuture;
@@ -22,7 +21,7 @@ use crate::{
     RwLockReadGuard, RwLockReadGuardArc, RwLockUpgradableReadGuard, RwLockUpgradableReadGuardArc,
     RwLockWriteGuard, RwLockWriteGuardArc,
 };
-use async_driver::wait_for;
+use async_driver::{Stage, first, wait_for};
 use lock_program::Refusal;
 use rwlock_core::{Reader, Upgradable, Writer};
 use std::alloc::AllocGlobal;
@@ -257,7 +256,7 @@ impl<T: Drop, R: Wait + Drop> RwLock<T, R> {
         ensures lock { IsFor arc_value result.stage (arc_value this.now) }
         ensures waiting { result.waiting ≡ None }
     {
-        ReadFuture::new(first::<T, R, Arc<RwLock<T, R>>>(Arc::try_clone(this).ok()))
+        ReadFuture::new(first::<RwLock<T, R>, Arc<RwLock<T, R>>>(Arc::try_clone(this).ok()))
     }
 
     /// Returns a future as [`RwLock::upgradable_read`] does, which has a share of the lock and gives it to its guard. If that share can't be
@@ -270,7 +269,7 @@ impl<T: Drop, R: Wait + Drop> RwLock<T, R> {
         ensures lock { IsFor arc_value result.stage (arc_value this.now) }
         ensures waiting { result.waiting ≡ None }
     {
-        UpgradableFuture::new(first::<T, R, Arc<RwLock<T, R>>>(Arc::try_clone(this).ok()))
+        UpgradableFuture::new(first::<RwLock<T, R>, Arc<RwLock<T, R>>>(Arc::try_clone(this).ok()))
     }
 
     /// Returns a future as [`RwLock::write`] does, which has a share of the lock and gives it to its guard. If that share can't be
@@ -284,7 +283,7 @@ impl<T: Drop, R: Wait + Drop> RwLock<T, R> {
         ensures lock { IsFor arc_value result.stage (arc_value this.now) }
         ensures waiting { result.waiting ≡ None }
     {
-        WriteFuture::new(first::<T, R, Arc<RwLock<T, R>>>(Arc::try_clone(this).ok()))
+        WriteFuture::new(first::<RwLock<T, R>, Arc<RwLock<T, R>>>(Arc::try_clone(this).ok()))
     }
 }
 

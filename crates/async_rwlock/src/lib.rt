@@ -18,7 +18,6 @@ mod read;
 mod read_guard;
 mod releases;
 mod rwlock;
-mod stage;
 mod upgradable_guard;
 mod upgradable_read;
 mod upgrade;

@@ -2,8 +2,9 @@
 
 ghost use Rattle.std.specs.Prelude.{◌≡◌, false, ⊤, IfSome, None, Some};
 ghost use Rattle.futures.specs.Task.{Covers, Keeps};
-ghost use Rattle.async_driver.specs.Turns.{OnPending};
-ghost use Rattle.async_rwlock.specs.Stages.{At, GoesOnBy, HasReceiptAt, IsOf, IsTurn, Looks, OnGot, OnPolled, OnRefused, OnWaits, WaitsAt, future, is_finished, reads_entry};
+ghost use Rattle.async_driver.specs.Turns.{IsTurn, OnPending, OnReady, OnRefused};
+ghost use Rattle.async_driver.specs.Stages.{IsOf, Looks, is_finished};
+ghost use Rattle.async_rwlock.specs.Stages.{At, GoesOnBy, HasReceiptAt, OnPolled, OnWaits, WaitsAt, future, reads_entry};
 ghost use Rattle.async_rwlock.specs.Guards.{HasFoundRoom};
 ghost use Rattle.access_core.specs.Accesses.{IsOf as IsSeatAt, IsIdle, IsLetIn};
 ghost use Rattle.rwlock_core.specs.Outcomes.{IsReadRefusal, OnOutcome};
@@ -11,8 +12,7 @@ ghost use Rattle.rwlock_core.specs.Parties.{IsSeatOf};
 
 use crate::owns::Owns;
 use crate::read_guard::ReadGuard;
-use crate::stage::{Look, Stage, no_share};
-use async_driver::{Polled, Turn, nothing, put};
+use async_driver::{Look, Polled, Stage, Turn, no_share, nothing, put};
 use futures::task::Context;
 use rwlock_core::{Outcome, Reader, Seat, WaitsToRead};
 use std::marker::{Model, PhantomData};
@@ -72,8 +72,8 @@ impl<T, R: Wait + Clock, O: Owns<Value = T, Runtime = R>> ReadFuture<T, R, O> {
         ensures turn { IsTurn IsReadRefusal (λ guard. IsOf O.lock_of self.old.stage guard.lock) (is_finished self.old.stage) result (is_finished self.new.stage) }
         ensures share { is_finished self.new.stage ≡ false → self.new.stage ≡ self.old.stage }
         ensures same { IfSome self.old.waiting (λ e. GoesOnBy (λ guard. guard.seat) (λ guard. guard.turn_seat) e result self.new.waiting) }
-        ensures few { OnGot result HasFoundRoom }
-        ensures refused { OnRefused result (self.new.waiting ≡ None) }
+        ensures few { OnReady result HasFoundRoom }
+        ensures refused { OnRefused result (λ _. self.new.waiting ≡ None) }
         ensures receipt { OnPending result (HasReceiptAt O.lock_of self.old.stage cx.new self.new.waiting) }
         ensures registered { OnPending result (Covers cx.new (WaitsAt O.lock_of self.old.stage self.new.waiting)) }
         ensures kept { Keeps cx.old cx.new }
@@ -107,7 +107,8 @@ impl<T, R: Wait + Clock, O: Owns<Value = T, Runtime = R>> Polled for ReadFuture<
     type Got = ReadGuard<T, R, O>;
 
     ghost use Rattle.async_rwlock.specs.Guards.{HasFoundRoom};
-    ghost use Rattle.async_rwlock.specs.Stages.{CanRefuse, IsOf, is_finished};
+    ghost use Rattle.async_driver.specs.Stages.{IsOf, is_finished};
+    ghost use Rattle.async_driver.specs.Turns.{CanRefuse};
     ghost use Rattle.rwlock_core.specs.Outcomes.{IsReadRefusal};
 
     ghost gives = { λ future guard. IsOf O.lock_of future.stage guard.lock × HasFoundRoom guard };

@@ -3,13 +3,14 @@
 ghost use Rattle.std.specs.Prelude.{◌≡◌};
 ghost use Rattle.access_core.specs.Accesses.{IsLetIn};
 ghost use Rattle.async_rwlock.specs.Guards.{HasFoundRoom};
-ghost use Rattle.async_rwlock.specs.Stages.{At, IsOf};
+ghost use Rattle.async_driver.specs.Stages.{IsOf};
+ghost use Rattle.async_rwlock.specs.Stages.{At};
 ghost use Rattle.rwlock_core.specs.Parties.{IsReaderOf};
 
 use crate::owns::Owns;
 use crate::releases::Releases;
-use crate::stage::Stage;
 use access_vault::Glance;
+use async_driver::Stage;
 use rwlock_core::{Pledge, Reader};
 use std::fmt;
 use std::marker::{Model, PhantomData};

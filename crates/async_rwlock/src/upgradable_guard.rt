@@ -6,17 +6,17 @@ ghost use Rattle.access_core.specs.Accesses.{IsOf as IsSeatOf, IsReading, with_f
 ghost use Rattle.rwlock_core.specs.Parties.{IsUpgradableLetIn, IsUpgradableOf};
 ghost use Rattle.async_rwlock.specs.Guards.{HasFoundRoom};
 ghost use Rattle.async_rwlock.specs.Noted.{IsNotedOf};
-ghost use Rattle.async_rwlock.specs.Stages.{At, IsOf};
+ghost use Rattle.async_driver.specs.Stages.{IsOf};
+ghost use Rattle.async_rwlock.specs.Stages.{At};
 
 use crate::noted::NotedTurn;
 use crate::owns::Owns;
 use crate::read_guard::ReadGuard;
 use crate::releases::Releases;
-use crate::stage::Stage;
 use crate::upgrade::UpgradeFuture;
 use crate::write_guard::WriteGuard;
 use access_vault::Glance;
-use async_driver::wait_for;
+use async_driver::{Stage, wait_for};
 use lock_program::Refusal;
 use rwlock_core::{Pledge, Seat, Upgradable, Writer};
 use std::alloc::AllocGlobal;

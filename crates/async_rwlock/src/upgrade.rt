@@ -2,9 +2,10 @@
 
 ghost use Rattle.std.specs.Prelude.{◌≡◌, false, IfSome, None, Some};
 ghost use Rattle.futures.specs.Task.{Covers, Keeps};
-ghost use Rattle.async_driver.specs.Turns.{OnPending};
+ghost use Rattle.async_driver.specs.Turns.{IsTurn, OnPending, OnRefused};
 ghost use Rattle.async_rwlock.specs.Noted.{IsMemoOf, IsNotedOf};
-ghost use Rattle.async_rwlock.specs.Stages.{At, AtLock, HasReceiptAt, IsOf, IsTurn, OnRefused, WaitsAt, is_finished};
+ghost use Rattle.async_driver.specs.Stages.{AtLock, IsOf, is_finished};
+ghost use Rattle.async_rwlock.specs.Stages.{At, HasReceiptAt, WaitsAt};
 ghost use Rattle.async_rwlock.specs.Upgrades.{IsSameRight, OnUpgraded, begun_seat};
 ghost use Rattle.access_core.specs.Accesses.{IsOf as IsSeatAt};
 ghost use Rattle.rwlock_core.specs.Outcomes.{IsUpgradeRefusal};
@@ -12,10 +13,9 @@ ghost use Rattle.rwlock_core.specs.Parties.{AreSeatsOf, IsBegunOf, IsUpgradedBy,
 
 use crate::noted::NotedTurn;
 use crate::owns::Owns;
-use crate::stage::{Stage, no_share};
 use crate::write_guard::WriteGuard;
 use access_vault::Memo;
-use async_driver::{Polled, Turn, nothing, put};
+use async_driver::{Polled, Stage, Turn, no_share, nothing, put};
 use futures::task::Context;
 use lock_program::Refusal;
 use mutex_core::Held;
@@ -43,7 +43,8 @@ pub struct UpgradeFuture<T, R: Wait, O: Owns<Value = T, Runtime = R>> {
 impl<T, R: Wait, O: Owns<Value = T, Runtime = R>> Model for UpgradeFuture<T, R, O> {
     ghost use Rattle.std.specs.Prelude.{◌≡◌, IfSome, None};
     ghost use Rattle.async_rwlock.specs.Noted.{IsMemoOf, IsNotedOf};
-    ghost use Rattle.async_rwlock.specs.Stages.{AtLock, upgrades_entry};
+    ghost use Rattle.async_driver.specs.Stages.{AtLock};
+    ghost use Rattle.async_rwlock.specs.Stages.{upgrades_entry};
     ghost use Rattle.async_rwlock.specs.Upgrades.{Upgrade, upgrading_seat, upgrading_value};
     ghost use Rattle.access_core.specs.Accesses.{IsOf as IsSeatAt};
     ghost use Rattle.rwlock_core.specs.Parties.{IsBegunOf};
@@ -86,7 +87,7 @@ impl<T, R: Wait + Clock, O: Owns<Value = T, Runtime = R>> UpgradeFuture<T, R, O>
         ensures turn { IsTurn IsUpgradeRefusal (λ guard. IsOf O.lock_of self.old.stage guard.lock) (is_finished self.old.stage) result (is_finished self.new.stage) }
         ensures share { is_finished self.new.stage ≡ false → self.new.stage ≡ self.old.stage }
         ensures same { IsSameRight result self.old self.new }
-        ensures refused { OnRefused result (self.new.waiting ≡ None) }
+        ensures refused { OnRefused result (λ _. self.new.waiting ≡ None) }
         ensures receipt { OnPending result (HasReceiptAt O.lock_of self.old.stage cx.new self.new.waiting) }
         ensures registered { OnPending result (Covers cx.new (WaitsAt O.lock_of self.old.stage self.new.waiting)) }
         ensures kept { Keeps cx.old cx.new }
@@ -132,7 +133,8 @@ impl<T, R: Wait + Clock, O: Owns<Value = T, Runtime = R>> UpgradeFuture<T, R, O>
 impl<T, R: Wait + Clock, O: Owns<Value = T, Runtime = R>> Polled for UpgradeFuture<T, R, O> {
     type Got = WriteGuard<T, R, O>;
 
-    ghost use Rattle.async_rwlock.specs.Stages.{CanRefuse, IsOf, is_finished};
+    ghost use Rattle.async_driver.specs.Stages.{IsOf, is_finished};
+    ghost use Rattle.async_driver.specs.Turns.{CanRefuse};
     ghost use Rattle.rwlock_core.specs.Outcomes.{IsUpgradeRefusal};
 
     ghost gives = { λ future guard. IsOf O.lock_of future.stage guard.lock × (future.seat ≡ Some guard.seat.id) × (future.value ≡ Some guard.value) };

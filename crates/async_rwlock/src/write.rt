@@ -2,16 +2,16 @@
 
 ghost use Rattle.std.specs.Prelude.{◌≡◌, false, ⊤, IfSome, None, Some};
 ghost use Rattle.futures.specs.Task.{Covers, Keeps};
-ghost use Rattle.async_driver.specs.Turns.{OnPending};
-ghost use Rattle.async_rwlock.specs.Stages.{At, GoesOnBy, HasReceiptAt, IsOf, IsTurn, Looks, OnPolled, OnRefused, OnWaits, WaitsAt, future, is_finished, writes_entry};
+ghost use Rattle.async_driver.specs.Turns.{IsTurn, OnPending, OnRefused};
+ghost use Rattle.async_driver.specs.Stages.{IsOf, Looks, is_finished};
+ghost use Rattle.async_rwlock.specs.Stages.{At, GoesOnBy, HasReceiptAt, OnPolled, OnWaits, WaitsAt, future, writes_entry};
 ghost use Rattle.mutex_core.specs.Outcomes.{IsHeldOf};
 ghost use Rattle.rwlock_core.specs.Outcomes.{IsWriteRefusal, OnOutcome};
 ghost use Rattle.rwlock_core.specs.Parties.{IsTaking, IsWriterOf, WaitsAt as WaitsAtLock, WaitsOn, WritesOn};
 
 use crate::owns::Owns;
-use crate::stage::{Look, Stage, no_share};
 use crate::write_guard::WriteGuard;
-use async_driver::{Polled, Turn, nothing, put};
+use async_driver::{Look, Polled, Stage, Turn, no_share, nothing, put};
 use futures::task::Context;
 use mutex_core::{Held, Vain};
 use rwlock_core::{Outcome, WaitsFor, Writer};
@@ -74,7 +74,7 @@ impl<T, R: Wait + Clock, O: Owns<Value = T, Runtime = R>> WriteFuture<T, R, O> {
         ensures turn { IsTurn IsWriteRefusal (λ guard. IsOf O.lock_of self.old.stage guard.lock) (is_finished self.old.stage) result (is_finished self.new.stage) }
         ensures share { is_finished self.new.stage ≡ false → self.new.stage ≡ self.old.stage }
         ensures same { IfSome self.old.waiting (λ e. GoesOnBy (λ guard. guard.seat) (λ guard. guard.turn_seat) e result self.new.waiting) }
-        ensures refused { OnRefused result (self.new.waiting ≡ None) }
+        ensures refused { OnRefused result (λ _. self.new.waiting ≡ None) }
         ensures receipt { OnPending result (HasReceiptAt O.lock_of self.old.stage cx.new self.new.waiting) }
         ensures registered { OnPending result (Covers cx.new (WaitsAt O.lock_of self.old.stage self.new.waiting)) }
         ensures kept { Keeps cx.old cx.new }
@@ -104,7 +104,8 @@ impl<T, R: Wait + Clock, O: Owns<Value = T, Runtime = R>> WriteFuture<T, R, O> {
 impl<T, R: Wait + Clock, O: Owns<Value = T, Runtime = R>> Polled for WriteFuture<T, R, O> {
     type Got = WriteGuard<T, R, O>;
 
-    ghost use Rattle.async_rwlock.specs.Stages.{CanRefuse, IsOf, is_finished};
+    ghost use Rattle.async_driver.specs.Stages.{IsOf, is_finished};
+    ghost use Rattle.async_driver.specs.Turns.{CanRefuse};
     ghost use Rattle.rwlock_core.specs.Outcomes.{IsWriteRefusal};
 
     ghost gives = { λ future guard. IsOf O.lock_of future.stage guard.lock };

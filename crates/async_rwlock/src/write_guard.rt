@@ -2,7 +2,8 @@
 
 ghost use Rattle.std.specs.Prelude.{◌≡◌, Some};
 ghost use Rattle.async_rwlock.specs.Noted.{IsNotedOf};
-ghost use Rattle.async_rwlock.specs.Stages.{At, IsOf};
+ghost use Rattle.async_driver.specs.Stages.{IsOf};
+ghost use Rattle.async_rwlock.specs.Stages.{At};
 ghost use Rattle.access_core.specs.Accesses.{IsOf as IsSeatOf, IsWriting, with_downgrade};
 ghost use Rattle.rwlock_core.specs.Parties.{IsWriterOf};
 
@@ -10,9 +11,9 @@ use crate::noted::NotedTurn;
 use crate::owns::Owns;
 use crate::read_guard::ReadGuard;
 use crate::releases::Releases;
-use crate::stage::Stage;
 use crate::upgradable_guard::UpgradableGuard;
 use access_vault::Grip;
+use async_driver::Stage;
 use rwlock_core::{Pledge, Seat, Upgradable, Writer};
 use std::fmt;
 use std::marker::{Model, PhantomData};

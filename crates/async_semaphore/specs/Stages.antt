@@ -1,14 +1,14 @@
 -- How far a future is, what it has meanwhile, and what its polls answer.
-use Rattle.std.specs.Prelude.{◌≡◌, ℕ, Bool, true, false, ⊤, IsSomeAnd, Option, Some}
+use Rattle.std.specs.Prelude.{◌≡◌, ℕ, true, ⊤, IsSomeAnd, Option, Some}
+use Rattle.async_driver.specs.Stages.{IsOf}
 use Rattle.async_driver.specs.declared.turn.Turn.{Turn}
 use Rattle.async_driver.specs.declared.turn.Turn.TheVariants.{Pending, Ready, Refused}
 use Rattle.async_semaphore.specs.Guards.{Held}
 use Rattle.async_semaphore.specs.declared.semaphore.Semaphore.{Semaphore}
-use Rattle.async_semaphore.specs.declared.stage.Stage.{Stage}
-use Rattle.async_semaphore.specs.declared.stage.Stage.TheVariants.{Unowned, Waits, Finished as Over}
+use Rattle.async_driver.specs.declared.stage.Stage.{Stage}
+use Rattle.async_driver.specs.declared.stage.Stage.TheVariants.{Waits}
 use Rattle.futures.specs.declared.task.context.Context.{Context}
-use Rattle.lock_program.specs.declared.refusal.Refusal.{Refusal}
-use Rattle.lock_program.specs.declared.refusal.Refusal.TheVariants.{Memory, Finished}
+use Rattle.lock_program.specs.declared.refusal.Refusal.TheVariants.{Memory}
 use Rattle.semaphore_core.specs.Outcomes.{WaitsFor, IsJoining, IsLooking}
 use Rattle.lock_queue.specs.Receipts.{IsReceipt}
 use Rattle.semaphore_core.specs.Semaphores.{Seated, IsSameSeat, Holds}
@@ -27,21 +27,6 @@ pub record Future (O : Type 0) : Type 0 where
 abbrev pub future : {O : Type 0} → Stage O → ℕ → Option Waiting → Future O
 future stage permits waiting = record { stage = stage; permits = permits; waiting = waiting }
 
-abbrev pub is_finished : {O : Type 0} → Stage O → Bool
-is_finished Over = true
-is_finished _ = false
-
--- it waits for this semaphore
-abbrev pub IsOf : {O R : Type 0} → (O → Semaphore R) → Stage O → Semaphore R → Type 0
-IsOf semaphore_of (Waits owner) s = s ≡ semaphore_of owner
-IsOf semaphore_of _ s = ⊥
-
--- it waits for this semaphore, or could have no share of it
-abbrev pub IsFor : {O R : Type 0} → (O → Semaphore R) → Stage O → Semaphore R → Type 0
-IsFor semaphore_of (Waits owner) s = s ≡ semaphore_of owner
-IsFor semaphore_of Unowned s = ⊤
-IsFor semaphore_of Over s = ⊥
-
 -- a guard has as many permits as it is for, of the semaphore that it waits for
 abbrev pub Gives : {O R : Type 0} → (O → Semaphore R) → Stage O → ℕ → Held R → Type 0
 Gives semaphore_of stage k guard = IsOf semaphore_of stage guard.semaphore × (guard.permits ≡ k)
@@ -50,11 +35,6 @@ Gives semaphore_of stage k guard = IsOf semaphore_of stage guard.semaphore × (g
 abbrev pub WaitsAt : {O R : Type 0} → (O → Semaphore R) → Stage O → ℕ → Type 0
 WaitsAt semaphore_of (Waits owner) s = s ≡ (semaphore_of owner).raw.source
 WaitsAt semaphore_of _ s = ⊥
-
--- no share of the semaphore could be had, or who has it went to the guard
-abbrev pub HasNoShare : {O : Type 0} → Stage O → Type 0
-HasNoShare (Waits owner) = ⊥
-HasNoShare _ = ⊤
 
 -- its party waits at its semaphore between two polls
 abbrev pub WaitsAs : {O R : Type 0} → (O → Semaphore R) → Stage O → ℕ → Waiting → Type 0
@@ -105,22 +85,3 @@ abbrev pub GoesOnBy : {R : Type 0} → Seated → Turn (Held R) → Option Waiti
 GoesOnBy seat (Ready guard) waiting = IsSameSeat seat guard.seat
 GoesOnBy seat Pending waiting = IsSomeAnd waiting (λ w. IsSameSeat seat w.seat)
 GoesOnBy seat (Refused refusal) waiting = ⊤
-
--- Ready, what was got is this and the future is over. One that is over is refused as finished and stays so; no other is, and none for
--- another reason than memory.
-abbrev pub IsTurn : {G : Type 0} → (G → Type 0) → Bool → Turn G → Bool → Type 0
-IsTurn got was (Ready g) is = (was ≡ false) × (is ≡ true) × got g
-IsTurn got was Pending is = (was ≡ false) × (is ≡ false)
-IsTurn got was (Refused Finished) is = (was ≡ true) × (is ≡ true)
-IsTurn got was (Refused Memory) is = (was ≡ false) × (is ≡ false)
-IsTurn got was (Refused _) is = ⊥
-
--- how a future may refuse: as finished where it is over, and else for memory
-abbrev pub CanRefuse : Bool → Refusal → Type 0
-CanRefuse true refusal = refusal ≡ Finished
-CanRefuse false refusal = refusal ≡ Memory
-
--- a fact of a poll that was refused
-abbrev pub OnRefused : {G : Type 0} → Turn G → Type 0 → Type 0
-OnRefused (Refused refusal) fact = fact
-OnRefused _ fact = ⊤

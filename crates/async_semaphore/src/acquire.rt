@@ -2,13 +2,14 @@
 
 ghost use Rattle.std.specs.Prelude.{◌≡◌, true, false, IfSome, IsNone, None};
 ghost use Rattle.futures.specs.Task.{Covers, Keeps};
-ghost use Rattle.async_driver.specs.Turns.{OnPending};
-ghost use Rattle.async_semaphore.specs.Stages.{Gives, GoesOnBy, HasReceiptAt, IsTurn, OnRefused, OnTriedAt, WaitsAt, future, is_finished};
+ghost use Rattle.async_driver.specs.Turns.{IsForMemory, IsTurn, OnPending, OnRefused};
+ghost use Rattle.async_driver.specs.Stages.{is_finished};
+ghost use Rattle.async_semaphore.specs.Stages.{Gives, GoesOnBy, HasReceiptAt, OnTriedAt, WaitsAt, future};
 
 use crate::guard::PermitGuard;
 use crate::owns::Owns;
-use crate::stage::{Stage, drop_stage, into_guard, poll_first, poll_waiting, take};
-use async_driver::{Polled, Turn, put};
+use crate::stage::{drop_stage, into_guard, poll_first, poll_waiting, take};
+use async_driver::{Polled, Stage, Turn, put};
 use futures::task::Context;
 use lock_program::Refusal;
 use semaphore_core::{Outcome, Tried, Waiting};
@@ -80,11 +81,11 @@ impl<R: Wait + Clock, O: Owns<Runtime = R>> AcquireFuture<R, O> {
     /// and keeps its wait.
     #[inline(always)]
     pub fn poll(&mut self, cx: &mut Context<'_>) -> Turn<PermitGuard<R, O>>
-        ensures turn { IsTurn (Gives O.semaphore_of self.old.stage self.old.permits) (is_finished self.old.stage) result (is_finished self.new.stage) }
+        ensures turn { IsTurn IsForMemory (Gives O.semaphore_of self.old.stage self.old.permits) (is_finished self.old.stage) result (is_finished self.new.stage) }
         ensures permits { self.new.permits ≡ self.old.permits }
         ensures share { is_finished self.new.stage ≡ false → self.new.stage ≡ self.old.stage }
         ensures same { IfSome self.old.waiting (λ w. GoesOnBy w.seat result self.new.waiting) }
-        ensures refused { OnRefused result (IsNone self.new.waiting) }
+        ensures refused { OnRefused result (λ _. IsNone self.new.waiting) }
         ensures receipt { OnPending result (HasReceiptAt O.semaphore_of self.old.stage self.old.permits cx.new self.new.waiting) }
         ensures registered { OnPending result (Covers cx.new (WaitsAt O.semaphore_of self.old.stage)) }
         ensures kept { Keeps cx.old cx.new }
@@ -129,10 +130,10 @@ impl<R: Wait + Clock, O: Owns<Runtime = R>> AcquireFuture<R, O> {
     ) -> Turn<PermitGuard<R, O>>
         requires out { (is_finished self.old.stage ≡ true) × (self.old.waiting ≡ None) }
         requires tried { OnTriedAt O.semaphore_of stage self.old.permits tried }
-        ensures turn { IsTurn (Gives O.semaphore_of stage self.old.permits) false result (is_finished self.new.stage) }
+        ensures turn { IsTurn IsForMemory (Gives O.semaphore_of stage self.old.permits) false result (is_finished self.new.stage) }
         ensures permits { self.new.permits ≡ self.old.permits }
         ensures share { is_finished self.new.stage ≡ false → self.new.stage ≡ stage }
-        ensures refused { OnRefused result (IsNone self.new.waiting) }
+        ensures refused { OnRefused result (λ _. IsNone self.new.waiting) }
         ensures receipt { OnPending result (HasReceiptAt O.semaphore_of stage self.old.permits cx.new self.new.waiting) }
         ensures registered { OnPending result (Covers cx.new (WaitsAt O.semaphore_of stage)) }
         ensures kept { Keeps cx.old cx.new }
@@ -156,11 +157,13 @@ impl<R: Wait + Clock, O: Owns<Runtime = R>> AcquireFuture<R, O> {
 impl<R: Wait + Clock, O: Owns<Runtime = R>> Polled for AcquireFuture<R, O> {
     type Got = PermitGuard<R, O>;
 
-    ghost use Rattle.async_semaphore.specs.Stages.{CanRefuse, Gives, is_finished};
+    ghost use Rattle.async_driver.specs.Stages.{is_finished};
+    ghost use Rattle.async_driver.specs.Turns.{CanRefuse, IsForMemory};
+    ghost use Rattle.async_semaphore.specs.Stages.{Gives};
 
     ghost gives = { λ future guard. Gives O.semaphore_of future.stage future.permits guard };
 
-    ghost refuses = { λ future. CanRefuse (is_finished future.stage) };
+    ghost refuses = { λ future. CanRefuse IsForMemory (is_finished future.stage) };
 
     fn poll_turn(&mut self, cx: &mut Context<'_>) -> Turn<PermitGuard<R, O>> {
         self.poll(cx)

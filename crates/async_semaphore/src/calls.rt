@@ -2,7 +2,7 @@
 
 ghost use Rattle.std.specs.Prelude.{◌≡◌, IfErr, IfOk, IfSome, None};
 ghost use Rattle.std.specs.Arc.{arc_value};
-ghost use Rattle.async_semaphore.specs.Stages.{IsFor, IsOf};
+ghost use Rattle.async_driver.specs.Stages.{IsFor, IsOf};
 ghost use Rattle.semaphore_core.specs.Semaphores.{HasAdded};
 ghost use Rattle.lock_program.specs.declared.refusal.Refusal.{Refusal};
 
@@ -11,9 +11,8 @@ use crate::guard::PermitGuard;
 use crate::lock_futures::{Acquire, AcquireArc};
 use crate::releases::Releases;
 use crate::semaphore::Semaphore;
-use crate::stage::{Stage, first};
 use crate::{SemaphoreGuard, SemaphoreGuardArc};
-use async_driver::wait_for;
+use async_driver::{Stage, first, wait_for};
 use lock_program::Refusal;
 use semaphore_core::{Added, Tried};
 use std::alloc::AllocGlobal;
@@ -224,7 +223,7 @@ impl<R: Wait + Drop> Semaphore<R> {
         ensures permits { result.permits ≡ permits }
         ensures waiting { result.waiting ≡ None }
     {
-        let stage = first::<R, Arc<Semaphore<R>>>(Arc::try_clone(this).ok());
+        let stage = first::<Semaphore<R>, Arc<Semaphore<R>>>(Arc::try_clone(this).ok());
         AcquireFuture::new(stage, permits as u64)
     }
 }

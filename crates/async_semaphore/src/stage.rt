@@ -1,41 +1,18 @@
-//! How far a future is, one poll of it by who has the semaphore, and what a dropped one gives back.
+//! One poll of a future by who has the semaphore, and what a dropped one gives back.
 
-ghost use Rattle.std.specs.Prelude.{◌≡◌, false, IfNone, IfSome};
+ghost use Rattle.std.specs.Prelude.{◌≡◌, IfNone, IfSome};
 ghost use Rattle.futures.specs.Task.{Keeps};
-ghost use Rattle.async_semaphore.specs.Stages.{Gives, GotAt, HasNoShare, IsFor, OnPolled, OnTriedAt, WaitsAs, is_finished, seat_of};
-ghost use Rattle.async_semaphore.specs.declared.semaphore.Semaphore.{Semaphore};
+ghost use Rattle.async_driver.specs.Stages.{HasNoShare};
+ghost use Rattle.async_semaphore.specs.Stages.{Gives, GotAt, OnPolled, OnTriedAt, WaitsAs, seat_of};
 ghost use Rattle.semaphore_core.specs.Outcomes.{IsBySeat, WaitsFor};
 
 use crate::guard::PermitGuard;
 use crate::owns::Owns;
-use async_driver::nothing;
+use async_driver::{Stage, nothing};
 use futures::task::Context;
 use semaphore_core::{Outcome, Seat, Tried, Waiting};
 use std::sync::Wait;
 use std::time::Clock;
-
-/// How far a future is.
-#[derive(Drop)]
-pub enum Stage<O> {
-    /// No share of the semaphore could be had.
-    Unowned,
-    /// It hasn't been ready, and has the semaphore.
-    Waits(O),
-    /// It was ready, and who has the semaphore went to the guard.
-    Finished,
-}
-
-/// How far a future is that is new: it waits, if the semaphore could be had.
-#[inline]
-pub(crate) fn first<R, O: Owns<Runtime = R>>(share: Option<O>) -> Stage<O>
-    ensures new { is_finished result ≡ false }
-    ensures semaphore { (s : Semaphore R) → IfSome share (λ owner. s ≡ O.semaphore_of owner) → IsFor O.semaphore_of result s }
-{
-    match share {
-        Some(owner) => Stage::Waits(owner),
-        None => Stage::Unowned,
-    }
-}
 
 /// The first look of a poll for the permits, by who has the semaphore, if that is still here.
 #[inline]

@@ -1,8 +1,8 @@
 //! The future that gives an item back.
 
 ghost use Rattle.std.specs.Prelude.{◌≡◌, ◌⊎◌, ⊤, None, Some};
-ghost use Rattle.async_driver.specs.Turns.{OnPending};
-ghost use Rattle.async_mutex.specs.Futures.{IsTurn};
+ghost use Rattle.async_driver.specs.Turns.{IsTurn, OnPending};
+ghost use Rattle.mutex_core.specs.Outcomes.{IsGivenUp};
 ghost use Rattle.futures.specs.Task.{Covers, Keeps};
 ghost use Rattle.bounded_pool.specs.Leases.{Given, IsPutBack, is_none};
 
@@ -59,7 +59,7 @@ impl<'a, T: Drop, R: Wait + Clock> Give<'a, T, R> {
     /// It is refused as [`Refusal::Memory`] or as [`Refusal::Starved`] of the list's lock; it keeps its lease then, and may be polled
     /// again (`stays`). Once it was ready it is refused as [`Refusal::Finished`], and nothing changes (`turn`).
     pub fn poll(&mut self, cx: &mut Context<'_>) -> Turn<()>
-        ensures turn { IsTurn (λ _. ⊤) (is_none self.old.lease) result (is_none self.new.lease) }
+        ensures turn { IsTurn IsGivenUp (λ _. ⊤) (is_none self.old.lease) result (is_none self.new.lease) }
         ensures stays { (self.new.lease ≡ None) ⊎ (self.new.lease ≡ self.old.lease) }
         ensures registered { OnPending result (Covers cx.new (λ _. ⊥)) }
         ensures kept { Keeps cx.old cx.new }
@@ -121,10 +121,11 @@ impl<'a, T: Drop, R: Wait + Clock> Give<'a, T, R> {
 impl<'a, T: Drop, R: Wait + Clock> Polled for Give<'a, T, R> {
     type Got = ();
 
-    ghost use Rattle.async_mutex.specs.Futures.{CanRefuse};
+    ghost use Rattle.async_driver.specs.Turns.{CanRefuse};
+    ghost use Rattle.mutex_core.specs.Outcomes.{IsGivenUp};
     ghost use Rattle.bounded_pool.specs.Leases.{is_none};
 
-    ghost refuses = { λ give. CanRefuse (is_none give.lease) };
+    ghost refuses = { λ give. CanRefuse IsGivenUp (is_none give.lease) };
 
     fn poll_turn(&mut self, cx: &mut Context<'_>) -> Turn<()> {
         self.poll(cx)

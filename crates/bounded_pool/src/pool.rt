@@ -1,7 +1,8 @@
 //! The pool and its calls.
 
 ghost use Rattle.std.specs.Prelude.{◌≡◌, false, IfErr, IfOk, IfSome, Some};
-ghost use Rattle.async_mutex.specs.Futures.{CanRefuse};
+ghost use Rattle.async_driver.specs.Turns.{CanRefuse};
+ghost use Rattle.mutex_core.specs.Outcomes.{IsGivenUp};
 ghost use Rattle.bounded_pool.specs.Leases.{IsAsBefore, Lent};
 
 use crate::give::Give;
@@ -81,7 +82,7 @@ impl<T: Drop, R: Wait + Clock + RandomSource + AllocGlobal> Pool<T, R> {
     /// Don't call it in an async context: it blocks the thread that runs the other tasks, and may deadlock.
     pub fn take_blocking(&self) -> Result<Lease<'_, T, R>, Refusal>
         ensures pool { IfOk result (λ lease. lease.pool ≡ self.now) }
-        ensures refused { IfErr result (CanRefuse false) }
+        ensures refused { IfErr result (CanRefuse IsGivenUp false) }
     {
         // The list has an item for each permit: one turn is enough.
         for _ in 0..u64::MAX {
@@ -102,7 +103,7 @@ impl<T: Drop, R: Wait + Clock + RandomSource + AllocGlobal> Pool<T, R> {
     /// (`back`).
     /// Don't call it in an async context: it blocks the thread that runs the other tasks, and may deadlock.
     pub fn give_blocking<'a>(lease: Lease<'a, T, R>) -> Result<(), (Lease<'a, T, R>, Refusal)>
-        ensures back { IfErr result (λ back. IsAsBefore lease.entry back.0 × CanRefuse false back.1) }
+        ensures back { IfErr result (λ back. IsAsBefore lease.entry back.0 × CanRefuse IsGivenUp false back.1) }
     {
         let pool = Lease::pool(&lease);
         let mut items = match pool.items.lock_blocking() {

@@ -1,8 +1,8 @@
 //! The future of a lease.
 
 ghost use Rattle.std.specs.Prelude.{◌≡◌, false, true, IfNone, IfSome};
-ghost use Rattle.async_driver.specs.Turns.{OnPending};
-ghost use Rattle.async_mutex.specs.Futures.{CanRefuse, IsTurn};
+ghost use Rattle.async_driver.specs.Turns.{CanRefuse, IsTurn, OnPending};
+ghost use Rattle.mutex_core.specs.Outcomes.{IsGivenUp};
 ghost use Rattle.futures.specs.Task.{Covers, Keeps};
 ghost use Rattle.bounded_pool.specs.Leases.{IsTaking, Taken};
 
@@ -62,7 +62,7 @@ impl<'a, T: Drop, R: Wait + Clock> Take<'a, T, R> {
     /// somewhere (`registered`).
     pub fn poll(&mut self, cx: &mut Context<'_>) -> Turn<Lease<'a, T, R>>
         ensures pool { self.new.pool ≡ self.old.pool }
-        ensures turn { IsTurn (λ lease. lease.pool ≡ self.old.pool) self.old.is_over result self.new.is_over }
+        ensures turn { IsTurn IsGivenUp (λ lease. lease.pool ≡ self.old.pool) self.old.is_over result self.new.is_over }
         ensures registered { OnPending result (Covers cx.new (λ _. ⊥)) }
         ensures kept { Keeps cx.old cx.new }
     {
@@ -97,7 +97,7 @@ impl<'a, T: Drop, R: Wait + Clock> Take<'a, T, R> {
     // Polls once what it waits for.
     fn poll_on(&mut self, cx: &mut Context<'_>) -> Turn<Lease<'a, T, R>>
         ensures pool { self.new.pool ≡ self.old.pool }
-        ensures turn { IsTurn (λ lease. lease.pool ≡ self.old.pool) self.old.is_over result self.new.is_over }
+        ensures turn { IsTurn IsGivenUp (λ lease. lease.pool ≡ self.old.pool) self.old.is_over result self.new.is_over }
         ensures registered { OnPending result (Covers cx.new (λ _. ⊥)) }
         ensures kept { Keeps cx.old cx.new }
     {
@@ -157,11 +157,12 @@ impl<'a, T: Drop, R: Wait + Clock> Polled for Take<'a, T, R> {
     type Got = Lease<'a, T, R>;
 
     ghost use Rattle.std.specs.Prelude.{◌≡◌};
-    ghost use Rattle.async_mutex.specs.Futures.{CanRefuse};
+    ghost use Rattle.async_driver.specs.Turns.{CanRefuse};
+    ghost use Rattle.mutex_core.specs.Outcomes.{IsGivenUp};
 
     ghost gives = { λ take lease. lease.pool ≡ take.pool };
 
-    ghost refuses = { λ take. CanRefuse take.is_over };
+    ghost refuses = { λ take. CanRefuse IsGivenUp take.is_over };
 
     fn poll_turn(&mut self, cx: &mut Context<'_>) -> Turn<Lease<'a, T, R>> {
         self.poll(cx)

@@ -7,7 +7,7 @@ use Rattle.lock_event.specs.declared.event.Entry.{Entry}
 use Rattle.lock_event.specs.declared.event.EntryId.{EntryId}
 use Rattle.lock_event.specs.declared.event.Slot.{Slot}
 use Rattle.weighted_event.specs.declared.weighted.Load.{Load}
-use Rattle.async_driver.proofs.Keeping.{listed_after, same_number}
+use Rattle.lock_queue.proofs.Keeping.{listed_after, same_number}
 
 module _ {W : Type 0} (id : EntryId) (k : ℕ) (w : Option W) where
   at_head : (b : Bool) (e : Entry (Slot (Load W))) (es fs : List (Entry (Slot (Load W)))) → has_id id e.key ≡ b → (b ≡ false → kept_at id fs ≡ w)

@@ -2,7 +2,7 @@
 use Rattle.std.proofs.Common.{subst, sym, ap, ◌∙◌}
 use Rattle.futures.specs.Task.{Hears}
 use Rattle.async_driver.specs.Tasks.{woken_by}
-use Rattle.async_driver.proofs.Keeping.{waker_at-waiting}
+use Rattle.lock_queue.proofs.Keeping.{waker_at-waiting}
 use Rattle.lock_queue.proofs.Changes.{kept_keyed}
 use Rattle.lock_queue.proofs.Receiving.{is_kept}
 use Rattle.lock_queue.proofs.list.ask.Goals as goal

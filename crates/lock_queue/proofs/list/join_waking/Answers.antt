@@ -4,7 +4,7 @@ use Rattle.futures.specs.Task.{Hears}
 use Rattle.lock_event.specs.Lists.{is_waiting_at}
 use Rattle.lock_event.specs.Slots.{has_id}
 use Rattle.async_driver.specs.Tasks.{woken_by}
-use Rattle.async_driver.proofs.Keeping.{waker_at-waiting, waits_joined}
+use Rattle.lock_queue.proofs.Keeping.{waker_at-waiting, waits_joined}
 use Rattle.lock_queue.proofs.Changes.{joined_keyed}
 use Rattle.lock_queue.proofs.Receiving.{is_kept}
 use Rattle.lock_queue.proofs.list.join_waking.Goals as goal

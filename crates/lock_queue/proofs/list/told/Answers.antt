@@ -1,6 +1,6 @@
 -- An entry that is there and isn't marked would wait.
 use Rattle.std.proofs.Common.{None, sym, ◌∙◌, true≢false}
-use Rattle.async_driver.proofs.Keeping.{waits_unmarked}
+use Rattle.lock_queue.proofs.Keeping.{waits_unmarked}
 use Rattle.lock_queue.proofs.Changes.{gone_once}
 use Rattle.lock_queue.proofs.list.told.Goals as goal
 
