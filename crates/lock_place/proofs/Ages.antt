@@ -8,8 +8,8 @@ use base.Fml.{Key, Lft, Share, Incl, Incl-refl, Incl-trans, Fml, ftrue, fsep, fs
 use contract.BorrowLft.{meet_⊑_left, meet_⊑_right, ⊑_meet}
 use ghost.Rules.{Toks, span}
 use types.Logic.{Logic, sem, lfts}
-use types.Kit.{‵, raw, ◌⊛◌, some, later, ◌$◌, ◌∵◌, !, qed, by, move, keep, drop, use0, use1, use2, use3, split, split3, group, fsplit, fsplit3, fjoin, fjoin3, fpick, fpack, pick, show, check, assume, suffices, await, rewrite, updating, now, done}
-use types.Tokens.{lft_new, lft_end, lent_back, bor_new, bor_open, obor_close, obor_alter, bor_fracture, name_new, shr_bor_shorten}
+use types.Kit.{‵, raw, ◌⊛◌, some, later, ◌$◌, ◌∵◌, !, qed, by, move, keep, drop, use0, use1, use2, use3, split, split3, fsplit, fsplit3, fjoin, fjoin3, fpick, fpack, pick, show, check, assume, suffices, await, rewrite, updating, now, done}
+use types.Tokens.{lft_new, lft_end, lent_back, bor_new, bor_open, obor_close, obor_alter, bor_fracture, name_new}
 use Rattle.core.proofs.cell.Borrows.{by_one}
 use types.SemTy.{cells}
 use types.Na.{before-Incl}
@@ -19,7 +19,7 @@ use denote.RawPtr.{Ptr, block_of, count_of, at_block, InBlock}
 use denote.Moves.{moves}
 use denote.Shares.{Shares, settles}
 use denote.Sharing.{ShrLaws, one, said}
-use denote.SharingLaws.{beside_shr_laws, one_shr_laws, said_shr_laws, within_shr_laws, contraction, shortens}
+use denote.SharingLaws.{beside_shr_laws, one_shr_laws, said_shr_laws, contraction, shortens}
 use denote.Steps.{nothing}
 use denote.Struct.Lending.{Lends, Lends-both}
 use Rattle.atomic_table.specs.Seated.{strip}

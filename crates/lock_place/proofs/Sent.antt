@@ -9,7 +9,6 @@ use Rattle.lock_place.specs.Rests.{rested_owns}
 use Rattle.lock_place.specs.Spared.{waits, spare_owns}
 use Rattle.std.specs.Prelude.{ℕ, Option, Some, None}
 use mathlib.Core.Bool.{Bool, true, false}
-use mathlib.Core.List.{◌∷◌}
 
 held_keyless : (R : RattleType) → IsSend R → (z : RoomId) → Keyless (held R z)
 held_keyless R s z = λ x. (part_keyless R s full_share x _ _, tt)
