@@ -14,7 +14,7 @@ import sys
 LOCKS = "async_mutex async_rwlock async_semaphore async_once_cell async_barrier".split()
 # What tests drive action by action.
 DRIVEN = "arrivals.rt party.rt raw.rt".split()
-EXAMPLES = "lock_examples lock_recipes user_proofs first_lock".split()
+EXAMPLES = "lock_examples user_proofs first_lock".split()
 # A doc comment, then attributes and comments, then a function that is public.
 CALL = re.compile(r"((?: *///.*\n)+)(?: *(?:#\[|//).*\n)*( *)pub fn (\w+)")
 FENCED = re.compile(r"```\n(.*?)\n *```", re.DOTALL)

@@ -27,7 +27,7 @@ here = f"{os.getcwd()}/bench"
 
 # How many a run of lockrun makes at most, beside those of a World, and a run of `threads 4` and of each example.
 RUN, WORLD, THREADS = 24, 10, 120
-EXAMPLES = {"first_lock": 60, "lock_examples": 900, "lock_recipes": 2500}
+EXAMPLES = {"first_lock": 60, "lock_examples": 3600}
 # For how many seconds a run may go on, and how an example begins the line that tells whether each call was as its comment says.
 PATIENCE, SHOWN = 10, "each call is as shown:"
 WORLDS = re.compile(r"^(mutex|rwlock|semaphore|cell|barrier) ", re.MULTILINE)

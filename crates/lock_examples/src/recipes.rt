@@ -1,5 +1,4 @@
 //! Recipes: what is built with the locks most often. Each module is one, and the program prints a line for each.
-#![tactic(auto)]
 
 mod channel;
 mod configuration;
@@ -10,14 +9,14 @@ mod requests;
 
 use async_lock::Runtime;
 use std::io;
-use std::process::ExitCode;
 use std::thread::Threads;
 
 // A refusal is an error of input and output too, so `?` takes both.
-fn print_all<R>(rt: R) -> io::Result<()>
+fn print_each<R>(rt: R) -> io::Result<()>
 where
     R: Runtime + Threads + Sync + Copy + Print,
 {
+    println!(rt; "recipes:")?;
     println!(rt; "channel: {}", channel::run(rt)?)?;
     println!(rt; "pool: {}", pool::run(rt)?)?;
     println!(rt; "configuration: {}", configuration::run(rt)?)?;
@@ -26,9 +25,10 @@ where
     println!(rt; "requests: {}", requests::run(rt)?)
 }
 
-fn main(rt: HostRuntime) -> ExitCode {
-    match print_all(rt) {
-        Ok(()) => ExitCode::SUCCESS,
-        Err(_) => ExitCode::FAILURE,
-    }
+/// Runs each recipe, and prints a line for each. Returns whether each was run and printed.
+pub(crate) fn print_all<R>(rt: R) -> bool
+where
+    R: Runtime + Threads + Sync + Copy + Print,
+{
+    print_each(rt).is_ok()
 }

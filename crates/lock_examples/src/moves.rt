@@ -1,6 +1,5 @@
 //! Locks are shared by threads, and locks, guards and futures go to another thread: each does so here, by both forms of owners. A type
 //! that may not has no proof.
-#![tactic(auto)]
 
 mod barrier;
 mod moved;
@@ -10,7 +9,6 @@ mod rwlock;
 mod semaphore;
 
 use async_lock::{Refusal, Runtime};
-use std::process::ExitCode;
 use std::thread::Threads;
 
 fn all<R: Runtime + Threads + Send + Sync + Copy>(rt: R) -> Result<bool, Refusal> {
@@ -23,9 +21,10 @@ fn all<R: Runtime + Threads + Send + Sync + Copy>(rt: R) -> Result<bool, Refusal
     )
 }
 
-fn main(rt: HostRuntime) -> ExitCode {
+/// Moves and shares all, and prints a line. Returns whether all were moved and shared, and the line was printed.
+pub(crate) fn print_all<R: Runtime + Threads + Send + Sync + Copy + Print>(rt: R) -> bool {
     match all(rt) {
-        Ok(is_done) if println!(rt; "{is_done}").is_ok() => ExitCode::SUCCESS,
-        _ => ExitCode::FAILURE,
+        Ok(is_done) => println!(rt; "moved and shared: {is_done}").is_ok() && is_done,
+        Err(_) => false,
     }
 }

@@ -1,6 +1,6 @@
 //! A barrier and its future.
 
-use crate::moved::{moved, shared};
+use crate::moves::moved::{moved, shared};
 use async_lock::{Barrier, Refusal, Runtime};
 use std::thread::Threads;
 

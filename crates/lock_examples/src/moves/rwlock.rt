@@ -1,6 +1,6 @@
 //! A read-write lock, its guards and its futures.
 
-use crate::moved::{moved, shared};
+use crate::moves::moved::{moved, shared};
 use async_lock::{
     Refusal, Runtime, RwLock, RwLockUpgradableReadGuard, RwLockUpgradableReadGuardArc,
 };

@@ -1,6 +1,6 @@
 //! A cell and its futures.
 
-use crate::moved::{moved, shared};
+use crate::moves::moved::{moved, shared};
 use async_lock::{OnceCell, Refusal, Runtime};
 use futures::future;
 use std::thread::Threads;

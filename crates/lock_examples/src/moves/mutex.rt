@@ -1,6 +1,6 @@
 //! A mutex, its guards and its futures.
 
-use crate::moved::{moved, shared};
+use crate::moves::moved::{moved, shared};
 use async_lock::{Mutex, Refusal, Runtime};
 use std::sync::Arc;
 use std::thread::Threads;

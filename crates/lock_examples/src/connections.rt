@@ -1,13 +1,11 @@
 //! A pool of connections, each of which one has alone: four threads use two of them by calls that block, and tasks on one executor
 //! wait for a single one.
-#![tactic(auto)]
 
-use async_driver::Runtime;
+use async_lock::Runtime;
 use bounded_pool::{Give, Lease, Pool, Refusal, Settled};
 use futures::executor::block_on;
 use futures::{TryFutureExt, future};
 use std::io;
-use std::process::ExitCode;
 use std::thread::{self, Threads};
 
 /// A connection, which counts what was done by it.
@@ -91,6 +89,7 @@ fn print_uses<R>(rt: R) -> io::Result<()>
 where
     R: Runtime + Threads + Sync + Copy + Print,
 {
+    println!(rt; "connections:")?;
     let pool = new_pool(rt, 2)?;
     in_four_threads(&rt, &pool)?;
     println!(rt; "uses: {}", all_uses(&pool))?;
@@ -99,9 +98,10 @@ where
     println!(rt; "uses by tasks: {}", its_uses(&single))
 }
 
-fn main(rt: HostRuntime) -> ExitCode {
-    match print_uses(rt) {
-        Ok(()) => ExitCode::SUCCESS,
-        Err(_) => ExitCode::FAILURE,
-    }
+/// Shares connections, and prints a line for each pool. Returns whether all was done and printed.
+pub(crate) fn print_all<R>(rt: R) -> bool
+where
+    R: Runtime + Threads + Sync + Copy + Print,
+{
+    print_uses(rt).is_ok()
 }

@@ -1,6 +1,6 @@
 //! A semaphore, its guards and its futures.
 
-use crate::moved::{moved, shared};
+use crate::moves::moved::{moved, shared};
 use async_lock::{Refusal, Runtime, Semaphore};
 use std::sync::Arc;
 use std::thread::Threads;
