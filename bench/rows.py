@@ -7,20 +7,20 @@ wakes nobody'. A note in lines '# ..' above a heading, or among the rows, is of 
 A story can be told of several cases: a line 'with first / behind' names what its rows have in braces, and each further line 'with read / write'
 is a case, by which the story is played once. A heading that stands above several stories is one test, which plays them all.
 
-tests/NAME/rows.form says how such a text reads, or tests/NAME/TEXT.form of the text TEXT.rows alone: a line 'row ..', with the type of each field in braces; lines 'play WORDS = CODE', in
-which {N} stands for a number and ROWS for the story's; the lines 'use ..' of the module that is made; and 'in NAME', where types stand in
-another folder, or in this file of a crate. A type is an enum of these folders, whose variants are told in words, with what they carry after them; a number; a 'bool', yes or no; an 'Option'
-of one of these, which may be none; 'Text' and 'Bytes', in quotes, as Rust has them; 'Words', such texts or none; or 'Woken', the names of all
-who were woken, or 'nobody'.
+tests/NAME/rows.form says how such a text reads, or tests/NAME/TEXT.form how TEXT.rows alone does: a line 'row ..', with the type of each field in
+braces; lines 'play WORDS = CODE', in which {N} stands for a number and ROWS for the story's; the lines 'use ..' of the module that is made; and
+'in NAME', where types stand in another folder, or in this file of a crate. A type is an enum of these folders, whose variants are told in words,
+with what they carry after them; a number; a 'bool', yes or no; an 'Option' of one of these, which may be none; 'Text' and 'Bytes', in quotes, as
+Rust has them; 'Words', such texts or none; or 'Woken', the names of all who were woken, or 'nobody'.
 
 A file NAME.text has rows of scripts: a line '== NAME', the script, a line that ends in '=>', and what it prints. NAME.scripts stands for such a
 text of the scripts of the folder that it names, in the order of their names.
 
-A file NAME.codes makes functions by which the values of enums are told apart, as `#[derive(Hash)]` would, of enums that have none: lines 'of
-TYPE', lines 'in FILE' for the crates' files where the enums stand, and lines 'use ..'. `code_of_TYPE` gives a number for the variant and for all
-that it carries which has few values, and beside it the numbers that it carries. Of a type parameter it tells nothing.
+A file NAME.codes makes functions that tell the values of enums apart which have no `#[derive(Hash)]`: lines 'of TYPE', lines 'in FILE' for the
+crates' files where the enums stand, and lines 'use ..'. `code_of_TYPE` gives one number for the variant and for what it carries of few values, and
+beside it the numbers that it carries. What a type parameter stands for isn't told apart.
 
-A file NAME.lines is a constant of bytes, LINES: each of its lines is one, in which \\n, \\t, \\r, \\\\ and \\x with two digits stand for a byte.
+A file NAME.lines makes a constant, LINES: each of its lines, in which bytes are written as in Rust's texts of bytes.
 """
 
 import glob
@@ -236,6 +236,7 @@ class Codes:
             told += [f'{stride} * {number}'] if number else []
             carried += {'u64': [field], 'Option<u64>': [f'{field}.unwrap_or(0)']}.get(kind, [])
             carried += [f'{code}({field})[{1 + at}]' for at in range(self.carries(kind))] if code else []
+            assert number or kind == 'u64' or f'<{kind}>' == self.shapes[enum][0], f'{enum}::{name} carries what no file here tells of: {kind}'
             bound.append(field if number or kind == 'u64' else f'{field}: _' if named else '_')
             stride *= self.size(kind)
         assert len(carried) < 3, variant
