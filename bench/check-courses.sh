@@ -1,7 +1,8 @@
 #!/bin/sh
 # Looks that whole calls act by a lock's single actions alone. By contract each of these asks that the call has come to its place, and moves
 # the call's course by what it found. That a whole call doesn't move the course by itself, or reach past the actions to the words and lists,
-# no contract can say, since both stand in one crate. (A whole call may take a seat, and make a whole call on the mutex inside its lock.)
+# no contract can say, since both stand in one crate. (A whole call may take a seat, split a duty off to one, and make a whole call on the mutex inside
+# its lock.)
 # Nor can one say that what a seat steps with isn't made beside all seats, stepped with and dropped, duty and all: only seat.rt of each core makes it.
 # Nor that an action does by several steps what it is to do by one, as a gift that is taken back and given again: each step of the words changes
 # the table once, and no function of a core names the same step twice.
@@ -26,11 +27,11 @@ CALLS = {
 }
 MADE = ("seat", "course", "standing")
 MOVES = re.compile(r"\.go\(")
-PAST = re.compile(r"list_steps|::steps\b|\.table\b|self\.access\.(?!sit\b|sit_and_look\b)|self\.turn\.(?!cancel\b|first_look\b|poll_first\b|poll_later\b)")
+PAST = re.compile(r"list_steps|::steps\b|\.table\b|self\.access\.(?!sit\b|sit_and_look\b|split_duty\b)|self\.turn\.(?!cancel\b|first_look\b|poll_first\b|poll_later\b)")
 MAKES = re.compile(r"\b(Course|Standing|Snapshot)(::of\(|\s*\{)")
 
 # Only seat.rt of a core makes what a seat steps with, and puts it into a seat, which the compiler lets no other file take apart.
-MADE_ANEW = re.compile(r"\w*_new_seat\b|\binto_seat\b")
+MADE_ANEW = re.compile(r"\w*_new_seat\b|\binto_seat\b|\bsplit_seat\b|(?<!\.)\bsplit_duty\(")
 
 
 def code(path):
@@ -76,7 +77,7 @@ for path in (*paths, *sorted(glob.glob("crates/words_*/src/steps.rt"))):
         if not list(found_twice(path, f"{code(path)}\nfn planted() {{\n{planted}\n}}")):
             faults.append(f"{path}: a planted function is not found: {planted}")
 for path in paths:
-    for planted in ("self.table.shared.load_new_seat::<Keep>(WORD);", "badge.into_seat();"):
+    for planted in ("self.table.shared.load_new_seat::<Keep>(WORD);", "badge.into_seat();", "shared.split_seat::<Apart>(seat);", "split_duty(shared, seat);"):
         if not path.endswith("/seat.rt") and not list(found_anew(path, code(path) + planted)):
             faults.append(f"{path}: a planted line is not found: {planted}")
 for crate, names in CALLS.items():

@@ -51,6 +51,10 @@ IsLetIn lock seat = IsOf lock seat × (seat.found / 2 < lock.limit)
 abbrev pub entering : Lock → ℕ → Seated
 entering lock id = record { table = lock.table; id = id; marks = false; reads = false; writes = false; owes_readers = false; owes_writer = false; in_readers = false; in_writer = false; fresh = false; entry = 0; found = 0 }
 
+-- a seat that owes the readers, and has nothing else
+abbrev pub owing : Lock → ℕ → Seated
+owing lock id = record (entering lock id) { owes_readers = true }
+
 -- what a look and each other step makes of a seat
 abbrev pub with_found : ℕ → Seated → Seated
 with_found n s = record s { found = n }
@@ -88,6 +92,10 @@ with_downgrade s = record s { marks = false; writes = false; reads = true }
 
 abbrev pub with_unmarked : Seated → Seated
 with_unmarked s = record s { marks = false; writes = false; owes_readers = true }
+
+-- another seat owes the readers in its place
+abbrev pub with_relief : Seated → Seated
+with_relief s = record s { owes_readers = false }
 
 abbrev pub with_ease : Seated → Seated
 with_ease s = record s { owes_readers = false; owes_writer = false }

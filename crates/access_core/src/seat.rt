@@ -1,7 +1,7 @@
 //! What a party steps with.
 
 ghost use Rattle.std.specs.Prelude.{◌≡◌, true, false, [], ◌∷◌};
-ghost use Rattle.access_core.specs.Accesses.{IsIdle, IsOf, entering, seated};
+ghost use Rattle.access_core.specs.Accesses.{IsIdle, IsOf, entering, owing, seated, with_relief};
 ghost use Rattle.words_access.specs.declared.view.View.{View as SeatView};
 
 use crate::access::Access;
@@ -9,7 +9,7 @@ use crate::list_steps::Listing;
 use crate::lists::Lists;
 use atomic_table::{Badge, Seat as TableSeat};
 use std::marker::Model;
-use words_access::steps::STATE;
+use words_access::steps::{STATE, split_duty};
 use words_access::{Keep, View, never_beside};
 
 /// A party's place at a lock's state, with which it steps there. It has no bytes, and borrows nothing.
@@ -55,6 +55,19 @@ impl Access {
     {
         let (seen, inner) = self.table.shared.load_new_seat::<Keep>(STATE);
         (Seat { inner, seal: () }, seen)
+    }
+
+    /// Splits a seat's duty to the readers off to a new seat, which has nothing else: one load. All else that the seat has stays with it. So it
+    /// may go into pledge while the readers are still to be notified.
+    #[inline]
+    pub fn split_duty(&self, seat: &mut Seat) -> Seat
+        requires of { IsOf self.now seat.old }
+        requires owes { seat.old.owes_readers ≡ true }
+        ensures same { seat.new ≡ with_relief seat.old }
+        ensures duty { result ≡ owing self.now result.id }
+    {
+        let inner = split_duty(&self.table.shared, &mut seat.inner);
+        Seat { inner, seal: () }
     }
 }
 

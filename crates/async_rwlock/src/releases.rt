@@ -3,10 +3,10 @@
 ghost use Rattle.std.specs.Prelude.{◌≡◌, ◌≤◌, ◌%◌, ◌/◌, ◌⊎◌, MatchResult};
 ghost use Rattle.access_core.specs.Accesses.{IsOf, IsIdle, IsLetIn, IsReading, with_downgrade};
 ghost use Rattle.mutex_core.specs.Outcomes.{IsHeldOf};
-ghost use Rattle.rwlock_core.specs.Parties.{AreSeatsOf, IsReaderOf, IsUpgradableLetIn, IsUpgradableOf, IsWriterOf};
+ghost use Rattle.rwlock_core.specs.Parties.{AreSeatsOf, IsDowngradingOf, IsUpgradableLetIn, IsUpgradableOf, IsWriterOf};
 ghost use Rattle.rwlock_core.specs.Vain.{IsVainUpgradable, IsVainWrite};
 
-use rwlock_core::{InVain, RawRwLock, Reader, Seat, Turn, Upgradable, Writer};
+use rwlock_core::{Downgrading, InVain, RawRwLock, Reader, Seat, Turn, Upgradable, Writer};
 use std::sync::Wait;
 
 /// A runtime by which rights are tried for, changed and given back. Whatever may wait is one.
@@ -42,13 +42,12 @@ pub trait Releases {
     fn downgrade_turn(&self, lock: &RawRwLock, turn: Turn)
         requires { IsHeldOf lock.now.turn turn };
 
-    /// Reads in place of writing, by one step of the same seat.
-    fn downgrade_write(&self, lock: &RawRwLock, writer: Writer) -> Reader
-        requires { IsWriterOf lock.now writer }
-        ensures of { IsReaderOf lock.now result }
-        ensures same { result.seat ≡ with_downgrade writer.seat };
+    /// Ends a writer's downgrade, whose seat reads already: gives the writer lock back, and then notifies the readers that wait.
+    fn end_downgrade(&self, lock: &RawRwLock, downgrading: Downgrading, turn: Turn)
+        requires of { IsDowngradingOf lock.now downgrading }
+        requires turn { IsHeldOf lock.now.turn turn };
 
-    /// The same, with the right to upgrade: the writer lock stays.
+    /// Reads in place of writing, by one step of the same seat, with the right to upgrade: the writer lock stays.
     fn downgrade_to_upgradable(&self, lock: &RawRwLock, writer: Writer) -> Upgradable
         requires { AreSeatsOf lock.now writer.seat writer.turn }
         ensures turn { result.turn ≡ writer.turn }
@@ -92,8 +91,8 @@ impl<R: Wait> Releases for R {
     }
 
     #[inline(always)]
-    fn downgrade_write(&self, lock: &RawRwLock, writer: Writer) -> Reader {
-        lock.downgrade_write(self, writer)
+    fn end_downgrade(&self, lock: &RawRwLock, downgrading: Downgrading, turn: Turn) {
+        lock.end_downgrade(self, downgrading, turn);
     }
 
     #[inline(always)]

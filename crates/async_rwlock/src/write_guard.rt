@@ -14,7 +14,7 @@ use crate::releases::Releases;
 use crate::upgradable_guard::UpgradableGuard;
 use access_vault::Grip;
 use async_driver::Stage;
-use rwlock_core::{Pledge, Seat, Upgradable, Writer};
+use rwlock_core::{Pledge, Reader, Seat, Upgradable, Writer};
 use std::fmt;
 use std::marker::{Model, PhantomData};
 use std::ops::Deref;
@@ -129,7 +129,8 @@ impl<T, R: Releases, O: Owns<Value = T, Runtime = R>> WriteGuard<T, R, O> {
 
     /// Reads in place of writing, and notifies the readers that wait. Upgradable readers and writers that wait may go on.
     ///
-    /// It is the same seat throughout, by one step (`same`): at no time has it neither right, so nobody writes in between.
+    /// It is the same seat throughout, by one step (`same`): at no time has it neither right, so nobody writes in between. The value stays
+    /// (`value`).
     ///
     /// ```
     /// let reader = RwLockWriteGuard::downgrade(writer);
@@ -137,11 +138,22 @@ impl<T, R: Releases, O: Owns<Value = T, Runtime = R>> WriteGuard<T, R, O> {
     pub fn downgrade(guard: Self) -> ReadGuard<T, R, O>
         ensures lock { result.lock ≡ guard.lock }
         ensures same { result.seat ≡ with_downgrade guard.seat }
+        ensures value { result.value ≡ guard.value }
     {
-        let (owner, writer) = guard.into_party();
+        let (owner, seat, mut noted) = guard.into_noted();
         let lock = owner.lock();
-        let reader = lock.rt.downgrade_write(&lock.raw, writer);
-        ReadGuard::new(owner, reader)
+        let (Reader { seat }, downgrading) = lock.raw.begin_downgrade(seat);
+        // While the writer lock is still there, the memo says that the value lent for reading is the one that was lent for writing.
+        let (mut glance, pledge) = lock.lend_read(seat);
+        noted.memo.agrees(&mut glance, &lock.vault);
+        let turn = lock.end_memo(noted);
+        lock.rt.end_downgrade(&lock.raw, downgrading, turn);
+        ReadGuard {
+            owner,
+            glance,
+            pledge,
+            runtime: PhantomData,
+        }
     }
 
     /// Reads in place of writing, with the right to upgrade, and notifies the readers that wait. It is the same seat, by one step

@@ -1,1 +1,1 @@
-pub mod Downgrading
+pub mod Downgraded

@@ -5,6 +5,7 @@ use Rattle.lock_queue.specs.Receipts.{IsReceipt}
 use Rattle.mutex_core.specs.Locks as turn
 use Rattle.mutex_core.specs.Outcomes.{IsHeldOf}
 use Rattle.access_core.specs.Accesses.{IsOf, Seated}
+use Rattle.rwlock_core.specs.declared.party.Downgrading.{Downgrading}
 use Rattle.rwlock_core.specs.declared.party.Reader.{Reader}
 use Rattle.rwlock_core.specs.declared.party.Upgradable.{Upgradable}
 use Rattle.rwlock_core.specs.declared.party.Writer.{Writer}
@@ -26,6 +27,9 @@ use Rattle.rwlock_core.specs.declared.rwlock.RawRwLock.{RawRwLock}
 module _ (raw : RawRwLock) where
   abbrev pub IsReaderOf : Reader → Type 0
   IsReaderOf r = IsOf raw.access r.seat
+
+  abbrev pub IsDowngradingOf : Downgrading → Type 0
+  IsDowngradingOf d = IsOf raw.access d.duty
 
   abbrev pub IsUpgradableOf : Upgradable → Type 0
   IsUpgradableOf u = IsOf raw.access u.seat × IsHeldOf raw.turn u.turn

@@ -211,7 +211,7 @@ impl RawRwLock {
 
     /// Reads in place of writing, and notifies the first that waits to read.
     #[inline]
-    #[tactic(auto, using(crate::proofs::Downgrading::paid))]
+    #[tactic(auto, using(crate::proofs::Downgraded::paid))]
     pub(crate) fn downgrade_seat<R: Wait>(&self, rt: &R, seat: &mut Seat, course: &mut Course)
         requires of { IsOf self.now.access seat.old }
         requires writes { IsWriting seat.old }

@@ -16,7 +16,7 @@ mod write;
 pub use access_core::{Access, Pledge, READERS_LIMIT, Seat, exclusion, no_lost_wakeup};
 pub use mutex_core::STARVED_LIMIT;
 pub use party::{
-    Awaited, Begun, InVain, Outcome, Reader, Turn, Upgradable, Upgraded, Upgrading, WaitsFor,
-    WaitsToRead, WaitsToWrite, Writer,
+    Awaited, Begun, Downgrading, InVain, Outcome, Reader, Turn, Upgradable, Upgraded, Upgrading,
+    WaitsFor, WaitsToRead, WaitsToWrite, Writer,
 };
 pub use rwlock::RawRwLock;

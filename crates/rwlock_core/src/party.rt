@@ -2,8 +2,13 @@
 
 ghost use Rattle.std.specs.Prelude.{◌≡◌, true, false};
 ghost use Rattle.access_core.specs.Accesses.{WaitsToRead as IsWaitingToRead, WaitsToWrite as IsWaitingToWrite};
+ghost use Rattle.lock_program.specs.declared.end.Next.TheVariants as next;
+ghost use Rattle.sync_program.specs.declared.rwlock.Ending.TheVariants as ending;
+ghost use Rattle.sync_program.specs.declared.rwlock.Place.TheVariants as at;
+ghost use Rattle.rwlock_core.specs.Courses.{next_in};
 ghost use Rattle.rwlock_core.specs.Vain.{HasNothing};
 
+use crate::course::Course;
 use access_core::Seat;
 use lock_event::EntryId;
 use lock_program::Refusal;
@@ -46,6 +51,14 @@ pub struct Upgrading {
     /// The turn.
     pub turn: Turn,
     ghost marks: { (seat.marks ≡ true) × (seat.reads ≡ false) × (seat.writes ≡ false) × (seat.owes_readers ≡ false) × (seat.owes_writer ≡ false) × (seat.in_readers ≡ false) × (seat.in_writer ≡ false) × (seat.fresh ≡ false) },
+}
+
+/// What is left of a writer's downgrade whose own seat reads already: the turn is to be given back, and then the readers to be notified. This
+/// seat has that duty, and nothing else. It has no `Drop`: [`RawRwLock::end_downgrade`](crate::RawRwLock::end_downgrade) alone ends it.
+pub struct Downgrading {
+    pub(crate) duty: Seat,
+    pub(crate) course: Course,
+    ghost owes: { (duty.marks ≡ false) × (duty.reads ≡ false) × (duty.writes ≡ false) × (duty.owes_readers ≡ true) × (duty.owes_writer ≡ false) × (duty.in_readers ≡ false) × (duty.in_writer ≡ false) × (duty.fresh ≡ false) × (next_in course ≡ next.Do (at.ReleaseTurn ending.NotifyReaders)) },
 }
 
 /// A party that waits to read, between two polls: its seat owes nothing, and its entry stands in the readers' list. It has no `Drop`: a poll

@@ -13,11 +13,13 @@ ghost use Rattle.lock_program.specs.declared.end.Next.TheVariants as next;
 ghost use Rattle.sync_program.specs.declared.rwlock.Place.TheVariants as at;
 ghost use Rattle.rwlock_core.specs.Courses.{next_in, without_memory};
 ghost use Rattle.rwlock_core.specs.Outcomes.{OnAwaited, OnOutcome, IsUpgradableRefusal, IsWriteRefusal};
-ghost use Rattle.rwlock_core.specs.Parties.{AreSeatsOf, HasTurn, IsTaking, WaitsAs, WaitsOn, WritesAs, WritesOn, IsReaderOf, IsUpgradableLetIn, IsUpgradableOf, IsWriterOf, WaitsAt, HasReceipt};
+ghost use Rattle.rwlock_core.specs.Parties.{AreSeatsOf, HasTurn, IsTaking, WaitsAs, WaitsOn, WritesAs, WritesOn, IsDowngradingOf, IsReaderOf, IsUpgradableLetIn, IsUpgradableOf, IsWriterOf, WaitsAt, HasReceipt};
 ghost use Rattle.rwlock_core.specs.Vain.{IsVainUpgradable, IsVainWrite};
 
 use crate::course::Course;
-use crate::party::{Awaited, InVain, Outcome, Reader, Turn, Upgradable, WaitsFor, Writer};
+use crate::party::{
+    Awaited, Downgrading, InVain, Outcome, Reader, Turn, Upgradable, WaitsFor, Writer,
+};
 use crate::rwlock::RawRwLock;
 use access_core::{Left, Readers, Seat};
 use futures::task::Context;
@@ -374,22 +376,37 @@ impl RawRwLock {
         Upgradable { seat, turn }
     }
 
-    /// Reads in place of writing, by one step of the same seat, and gives the turn back. It notifies the first that waits for the turn, and
-    /// then the first that waits to read.
+    /// Reads in place of writing, by one step of the same seat, which owes nothing then: its duty to the readers goes to the seat of the answered
+    /// [`Downgrading`]. The turn and the notification are left to [`RawRwLock::end_downgrade`], so the reader's seat may go into pledge before them.
     #[inline]
-    #[tactic(auto, using(crate::proofs::Downgrading::paid))]
-    pub fn downgrade_write<R: Wait>(&self, rt: &R, writer: Writer) -> Reader
-        requires { IsWriterOf self.now writer }
-        ensures of { IsReaderOf self.now result }
-        ensures same { result.seat ≡ with_downgrade writer.seat }
+    #[tactic(auto, using(crate::proofs::Downgraded::relieved))]
+    pub fn begin_downgrade(&self, seat: Seat) -> (Reader, Downgrading)
+        requires of { IsOf self.now.access seat }
+        requires writes { IsWriting seat }
+        ensures of { IsReaderOf self.now result.0 × IsDowngradingOf self.now result.1 }
+        ensures same { result.0.seat ≡ with_downgrade seat }
     {
-        let Writer { mut seat, turn } = writer;
+        let mut seat = seat;
         let at = Place::Down { keeps_turn: false };
         let mut course = Course::begin(RwLockCall::Downgrade, Place::Writing, at);
         self.step_down(&mut seat, &mut course, at);
+        let duty = self.access.split_duty(&mut seat);
+        (Reader { seat }, Downgrading { duty, course })
+    }
+
+    /// Gives the turn back and notifies the first that waits for it, and then the first that waits to read.
+    #[inline]
+    pub fn end_downgrade<R: Wait>(&self, rt: &R, downgrading: Downgrading, turn: Turn)
+        requires of { IsDowngradingOf self.now downgrading }
+        requires turn { IsHeldOf self.now.turn turn }
+    {
+        let Downgrading {
+            mut duty,
+            mut course,
+        } = downgrading;
         self.release_turn(rt, turn, &mut course, Ending::NotifyReaders);
-        self.notify_readers_if_any(rt, &mut seat, &mut course, Place::DowngradeNotify);
+        self.notify_readers_if_any(rt, &mut duty, &mut course, Place::DowngradeNotify);
         course.end(End::GivenBack, Place::Reading);
-        Reader { seat }
+        duty.rise();
     }
 }

@@ -146,7 +146,7 @@ module _ (S : Type 0) (readers_of writer_of : S → Listed) where
       pub given_same : CanStay readers_of writer_of me new → Allows R slots id me 1 (λ _. new) (λ _ m'. m' ≡ (back me.0, rest me.1))
       given_same c s r len at _ = (back me.0, gives, tt, remains S readers_of writer_of s id me r at c.0 new c.1.0 c.1.1 (subst (λ (z : ℕ). 0 < z) (sym len) wide) c.1.2 c.1.3 c.2 c.3, refl)
 
-  longer : (O : View → Type 0) (P : ℕ → View → Type 0) (list : Listed) (vs : List View) (w : View) → LosesNone O P list vs → LosesNone O P list (vs ++ w ∷ [])
+  pub longer : (O : View → Type 0) (P : ℕ → View → Type 0) (list : Listed) (vs : List View) (w : View) → LosesNone O P list vs → LosesNone O P list (vs ++ w ∷ [])
   longer O P list vs w l = ⊎_elim (λ m. inl m) (λ b. inr (⊎_elim (λ c. inl (some-longer O vs w c)) (λ all. inr (λ n h. some-longer (P n) vs w (all n h))) b)) l
 
   -- a new seat has nothing

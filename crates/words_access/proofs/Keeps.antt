@@ -15,7 +15,7 @@ use Rattle.words_access.proofs.Flags.{never, count_le, weight_le}
 use Rattle.words_base.proofs.Views.{own, apart, stays, all_stay}
 use Rattle.words_base.proofs.Matched as matched
 
-nested_set : (vs : List View) (id : ℕ) (w : View) → AllNested vs → Nested w → AllNested (set vs id w)
+pub nested_set : (vs : List View) (id : ℕ) (w : View) → AllNested vs → Nested w → AllNested (set vs id w)
 nested_set vs id w all good j v e = ⊎_elim (λ here. subst Nested here.1 good) (λ else. all j v else.1) (at_set vs id j w v e)
 
 writes_le : (vs : List View) → AllNested vs → number writes_of vs ≤ number marks_of vs
@@ -88,17 +88,17 @@ module _ (S : Type 0) (readers_of writer_of : S → Listed) where
     out_set : (w : View) → (w.has_lists ≡ true → (w.readers ≡ r.readers) × (w.writer ≡ r.writer)) → (i : ℕ) (v : View) → get_elem? (after w) i ≡ some v → v.has_lists ≡ true → (v.readers ≡ r.readers) × (v.writer ≡ r.writer)
     out_set w good i v e is = ⊎_elim (λ here. subst (λ (u : View). (u.readers ≡ r.readers) × (u.writer ≡ r.writer)) here.1 (good (ap (λ (u : View). u.has_lists) here.1 ∙ is))) (λ else. r.out i v else.1 is) (at_set s.views id i w v e)
 
-    out_left : (w : View) → LeavesLists w → (i : ℕ) (v : View) → get_elem? (after w) i ≡ some v → v.has_lists ≡ true → (v.readers ≡ r.readers) × (v.writer ≡ r.writer)
+    pub out_left : (w : View) → LeavesLists w → (i : ℕ) (v : View) → get_elem? (after w) i ≡ some v → v.has_lists ≡ true → (v.readers ≡ r.readers) × (v.writer ≡ r.writer)
     out_left w left = out_set w (λ is. let o = r.out id me.0 at (sym left.0 ∙ is) in (left.1 ∙ o.0, left.2 ∙ o.1))
 
     -- who stands in a list stays there
-    readers_stand : (w : View) → LeavesLists w → Matched IsEntryOfReaders r.readers.entries (after w)
+    pub readers_stand : (w : View) → LeavesLists w → Matched IsEntryOfReaders r.readers.entries (after w)
     readers_stand w left = matched.kept IsEntryOfReaders r.readers.entries s.views id me.0 at r.readers_match w (λ n f. (left.3 ∙ f.0, left.5 ∙ f.1)) (λ n f. (sym left.3 ∙ f.0, sym left.5 ∙ f.1))
 
-    writer_stands : (w : View) → LeavesLists w → Matched IsEntryOfWriter r.writer.entries (after w)
+    pub writer_stands : (w : View) → LeavesLists w → Matched IsEntryOfWriter r.writer.entries (after w)
     writer_stands w left = matched.kept IsEntryOfWriter r.writer.entries s.views id me.0 at r.writer_matches w (λ n f. (left.4 ∙ f.0, left.5 ∙ f.1)) (λ n f. (sym left.4 ∙ f.0, sym left.5 ∙ f.1))
 
-    same : (f : View → Bool) (w : View) → f w ≡ f me.0 → number f (after w) ≡ number f s.views
+    pub same : (f : View → Bool) (w : View) → f w ≡ f me.0 → number f (after w) ≡ number f s.views
     same f w e = let c = number-set f s.views id me.0 w at in let e' : weight (f w) ≡ weight (f me.0) = ap weight e in omega arith
 
     -- the state becomes n; what is known of the lists stays
@@ -125,7 +125,7 @@ module _ (S : Type 0) (readers_of writer_of : S → Listed) where
     state_of : (w : View) (n : ℕ) → number marks_of (after w) ≤ 1 → number reads_of (after w) ≤ 1073741823 → n ≡ number marks_of (after w) + 2 * number reads_of (after w) → (0 < number writes_of (after w) → number reads_of (after w) ≡ 0) → IsState (set s.words 0 n) (after w)
     state_of w n one few is alone = record { one_marks = one; few = few; word = get_or-set_same s.words 0 n 0 one_word ∙ is; alone = alone }
 
-    state_same : (words : List ℕ) (w : View) → get_or words 0 0 ≡ x → Does w → IsState words (after w)
+    pub state_same : (words : List ℕ) (w : View) → get_or words 0 0 ≡ x → Does w → IsState words (after w)
     state_same words w is does =
         let ms = same marks_of w does.0 in let rs = same reads_of w does.1 in let ws = same writes_of w does.2 in
         let one = r.state.one_marks in let few = r.state.few in let word = r.state.word in
@@ -145,7 +145,7 @@ module _ (S : Type 0) (readers_of writer_of : S → Listed) where
     clear_as : (w : View) → (OwesReaders me.0 → OwesReaders w) → ((n : ℕ) → IsFreshReader n me.0 → IsFreshReader n w) → x % 2 ≡ 0 → LosesNone OwesReaders IsFreshReader r.readers (after w)
     clear_as w tells fresh e = none_lost OwesReaders IsFreshReader r.readers w tells fresh (r.clear e)
 
-    left_as : (w : View) → (TellsWriter me.0 → TellsWriter w) → ((n : ℕ) → IsFreshWriter n me.0 → IsFreshWriter n w) → x ≡ 1 → LosesNone TellsWriter IsFreshWriter r.writer (after w)
+    pub left_as : (w : View) → (TellsWriter me.0 → TellsWriter w) → ((n : ℕ) → IsFreshWriter n me.0 → IsFreshWriter n w) → x ≡ 1 → LosesNone TellsWriter IsFreshWriter r.writer (after w)
     left_as w tells fresh e = none_lost TellsWriter IsFreshWriter r.writer w tells fresh (r.left e)
 
     -- ---- the state word

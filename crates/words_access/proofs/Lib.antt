@@ -4,3 +4,4 @@ pub mod Allowed
 pub mod Wakeups
 pub mod Holding
 pub mod Beside
+pub mod Duties

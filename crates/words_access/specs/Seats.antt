@@ -1,6 +1,7 @@
 -- What each step makes of a seat's view.
 use Rattle.std.specs.Prelude.{ℕ, true, false}
 use Rattle.words_base.specs.Lists.{Listed, nobody}
+use Rattle.words_access.specs.Rule.{first_view}
 use Rattle.words_access.specs.declared.view.View.{View}
 
 abbrev pub having_found : ℕ → View → View
@@ -87,3 +88,11 @@ paid_writer_of v = record v { owes_writer = false; has_lists = false; readers = 
 -- What a seat that writes and one that reads would be as one: a seat that writes, and has not set the writer's bit.
 abbrev pub both_of : View → View → View
 both_of v w = record v { marks = false; writes = true }
+
+-- It owes the readers nothing any more, since another seat has that duty.
+abbrev pub relieved_of : View → View
+relieved_of v = record v { owes_readers = false }
+
+-- What the other seat has: the duty to the readers, and nothing else.
+abbrev pub duty_view : View
+duty_view = record first_view { owes_readers = true }

@@ -2,7 +2,7 @@
 
 use crate::rule::Content;
 use crate::view::View;
-use atomic_table::{Join, Play};
+use atomic_table::{Join, Play, Split};
 
 /// Nothing changes for the seat.
 pub struct Keep;
@@ -222,6 +222,17 @@ impl<S> Play<S, View> for Stays {
     ghost use Rattle.words_access.specs.Seats.{back};
 
     ghost then = { λ _ m _ m'. m' ≡ (back m.0, rest m.1) };
+}
+
+// A seat without its duty to the readers, and a new one that has it and nothing else.
+pub(crate) struct DutyApart;
+
+impl Split<View> for DutyApart {
+    ghost use Rattle.words_access.specs.Seats.{duty_view, relieved_of};
+
+    ghost left = { relieved_of };
+
+    ghost right = { λ _. duty_view };
 }
 
 // A seat that writes and one that reads, which the rule shuts out, as one.

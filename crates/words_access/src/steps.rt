@@ -1,12 +1,12 @@
 //! The single steps on the table.
 
-ghost use Rattle.std.specs.Prelude.{◌≡◌, ◌≢◌, ◌<◌, ◌%◌, ◌/◌, true, false};
+ghost use Rattle.std.specs.Prelude.{◌≡◌, ◌≢◌, ◌<◌, ◌%◌, ◌/◌, [], true, false};
 ghost use Rattle.atomic_table.specs.Table.{rest};
-ghost use Rattle.words_access.specs.Seats.{down_of, unmarked_of, joined_readers_of, joined_writer_of, told_reader_of, told_writer_of, gone_reader_of, gone_writer_of, paid_readers_of, paid_writer_of, back};
+ghost use Rattle.words_access.specs.Seats.{down_of, unmarked_of, duty_view, relieved_of, joined_readers_of, joined_writer_of, told_reader_of, told_writer_of, gone_reader_of, gone_writer_of, paid_readers_of, paid_writer_of, back};
 ghost use Rattle.words_access.specs.Steps.{Looked, LookedLeft, Entered, Left, Marked, Won, Raised, Upgraded, Peeked, IsHeld, IsSame, CanJoinReaders, CanJoinWriter, CanHearReader, CanHearWriter, CanLeaveReaders, CanLeaveWriter, CanPayReaders, CanPayWriter, CanStay};
 
 use crate::plays::{
-    Downs, Enters, Grabs, HearsReader, HearsWriter, JoinsReaders, JoinsWriter, Leaves,
+    Downs, DutyApart, Enters, Grabs, HearsReader, HearsWriter, JoinsReaders, JoinsWriter, Leaves,
     LeavesReaders, LeavesWriter, Looks, LooksLeft, Marks, PaysReaders, PaysWriter, Peeks, Raises,
     Stays, Unmarks, Upgrades, Wins,
 };
@@ -164,6 +164,22 @@ pub fn unmark<S: Content>(shared: &Ruled<S>, inner: &mut TableSeat<S, View>)
     ensures step { inner.new.me ≡ (unmarked_of inner.old.me.0, inner.old.me.1) }
 {
     shared.fetch_sub::<Unmarks>(inner, STATE, 1);
+}
+
+/// Splits the duty to the readers off to a new seat, which has nothing else: one load, which changes no word. So the first seat may be lent on before
+/// the readers are notified.
+#[inline]
+pub fn split_duty<S: Content>(
+    shared: &Ruled<S>,
+    inner: &mut TableSeat<S, View>,
+) -> TableSeat<S, View>
+    requires table { (inner.old.table_id ≡ shared.now.table_id) × (shared.now.table_id.words ≡ 2) }
+    requires owes { inner.old.me.0.owes_readers ≡ true }
+    ensures seat { (inner.new.table_id ≡ inner.old.table_id) × (inner.new.id ≡ inner.old.id) }
+    ensures step { inner.new.me ≡ (relieved_of inner.old.me.0, inner.old.me.1) }
+    ensures duty { (result.table_id ≡ inner.old.table_id) × (result.me ≡ (duty_view, [])) }
+{
+    shared.split_seat::<DutyApart>(inner)
 }
 
 /// A look at the word of the lists: one load.
