@@ -1,6 +1,7 @@
 //! What a user can prove of the values that guards lend, and of the locks that guards and futures are of.
 //!
-//! While a guard reads nobody writes, so that two reads agree, by one guard or by two; and what the writer writes it reads again.
+//! While a guard reads nobody writes, so that two reads agree, by one guard or by two; and what the writer writes it reads again, also once it
+//! has stepped down to a reader.
 //! Each function's contract is about values or locks, and no file of proofs stands beside it.
 
 ghost use Rattle.std.specs.Prelude.{◌≡◌, true, false, IfOk, IfSome};
@@ -221,6 +222,16 @@ pub fn is_written_beside_a_reader<R: Releases>(lock: &RwLock<u64, R>) -> bool
     };
     RwLockWriteGuard::never_beside(writer, reader);
     true
+}
+
+/// What a writer of a cache reads that has put a number there, and then reads in place of writing: that number.
+pub fn put_and_read<R: Releases>(cache: &RwLock<u64, R>, number: u64) -> Option<u64>
+    ensures { IfSome result (λ read. read ≡ number) }
+{
+    let mut writer = cache.try_write()?;
+    *writer = number;
+    let reader = RwLockWriteGuard::downgrade(writer);
+    Some(*reader)
 }
 
 /// What two readers of a cache find: the same.
