@@ -14,7 +14,7 @@ set -eu
 above='crates/world_rwlock crates/world_barrier'
 tables='crates/sync_program/src/rwlock.rt crates/sync_program/specs/ReadWrite.antt crates/sync_program/src/barrier.rt crates/sync_program/specs/Barrier.antt'
 calls='lock_program\.specs\.declared\.mutex\.(LockCall|Step)\.|(lock_program|crate)::mutex::(LockCall|Step|\{LockCall, Step\})'
-contract='world_mutex\.specs\.machine\.(Mutex|Course|Conduct|Deeds|Alone|Steps)|world_mutex\.specs\.machine\.Behind\.\{behind_coded\}'
+contract='world_mutex\.specs\.machine\.(Mutex|Course|Conduct|Effects|Alone|Steps)|world_mutex\.specs\.machine\.Behind\.\{behind_coded\}'
 lemmas='world_mutex\.proofs\.of_machine\.callers\.'
 type='world_mutex::machine::Mutex'
 # What the readers of places show, which are for tests.

@@ -262,7 +262,7 @@ pub record WakesAll : Type 0 where
   pub many : ℕ
   pub more : many ≢ 1
   pub legal : IsLegal step
-  pub notifies : legal.one_change.deed ≡ does Lock (notifies many)
+  pub notifies : legal.one_change.effect ≡ does Lock (notifies many)
 
 -- Nobody holds the inner lock, a party outside every call waits for it, and nobody there has been told, nor has anybody to tell or to look: another may be inside a poll, but stands in the list itself.
 pub record SleepsThoughFree : Type 0 where

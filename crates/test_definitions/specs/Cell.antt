@@ -257,7 +257,7 @@ pub record MarksUndecided : Type 0 where
   pub many : ℕ
   pub undecided : is_decided (standing_of step.old step.move.party) ≡ false
   pub legal : IsLegal step
-  pub marks : legal.one_change.deed ≡ does list (notifies many)
+  pub marks : legal.one_change.effect ≡ does list (notifies many)
 
 -- A try is to be granted, and the cell is empty.
 pub record GrantsNothing : Type 0 where
@@ -373,7 +373,7 @@ pub record TellsAnyone : Type 0 where
   pub many : ℕ
   pub ready : standing_of step.old step.move.party ≡ inside within (Some (answer.Ready (got.Value value)))
   pub legal : IsLegal step
-  pub tells : legal.one_change.deed ≡ does list (notifies many)
+  pub tells : legal.one_change.effect ≡ does list (notifies many)
 
 -- A dropped maker, or one that failed, tells a wait, which may not make, in place of one that would.
 pub record TellsPassive : Type 0 where
@@ -382,7 +382,7 @@ pub record TellsPassive : Type 0 where
   pub many : ℕ
   pub decided : (standing_of step.old step.move.party ≡ inside within (Some answer.GivenBack)) ⊎ (standing_of step.old step.move.party ≡ inside within (Some (answer.Ready got.Failed)))
   pub legal : IsLegal step
-  pub tells : legal.one_change.deed ≡ does Passive (notifies many)
+  pub tells : legal.one_change.effect ≡ does Passive (notifies many)
 
 -- An initialisation that has begun to make, and stands in no list, goes on with a value at hand, and doesn't ask for it: what its maker gave is lost.
 pub record LosesWhatWasMade : Type 0 where
@@ -449,7 +449,7 @@ pub record MakerJoins : Type 0 where
   pub list : ListName
   pub making : is_maker step.old.cell step.move.party ≡ true
   pub legal : IsLegal step
-  pub joined : legal.one_change.deed ≡ does list joins
+  pub joined : legal.one_change.effect ≡ does list joins
 
 -- The cell is being made by a party that there isn't, so that nobody ever fills it.
 pub record MadeByNobody : Type 0 where

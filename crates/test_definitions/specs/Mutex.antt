@@ -206,7 +206,7 @@ pub record TellsMore : Type 0 where
   pub list : ListName
   pub more : ℕ
   pub legal : IsLegal step
-  pub tells : legal.one_change.deed ≡ does list (notifies_additionally more)
+  pub tells : legal.one_change.effect ≡ does list (notifies_additionally more)
 
 -- A try finds the lock held and leaves something behind: it is counted as starved, or notifies.
 pub record TriesAndTells : Type 0 where
@@ -308,7 +308,7 @@ pub record WakesTheNext : Type 0 where
   pub unstarved : is_starved step.old.state step.move.party ≡ false
   pub listed : entries_of step.move.party step.old.entries ≡ 1
   pub legal : IsLegal step
-  pub notifies : legal.one_change.deed ≡ does for_the_lock (notifies many)
+  pub notifies : legal.one_change.effect ≡ does for_the_lock (notifies many)
 
 -- The lock is free, a party outside every call waits for it, and nobody there has been told, nor has anybody to tell or to look: another may be inside a poll, but stands in the list itself.
 pub record SleepsThoughFree : Type 0 where

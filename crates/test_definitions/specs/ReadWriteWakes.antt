@@ -49,7 +49,7 @@ pub record TellsMany : Type 0 where
   pub many : ℕ
   pub more : many ≢ 1
   pub legal : IsLegal step
-  pub notifies : legal.one_change.deed ≡ does list (notifies many)
+  pub notifies : legal.one_change.effect ≡ does list (notifies many)
 
 -- Parties are told beside those that were told and haven't looked yet.
 pub record TellsMore : Type 0 where
@@ -57,7 +57,7 @@ pub record TellsMore : Type 0 where
   pub list : ListName
   pub more : ℕ
   pub legal : IsLegal step
-  pub tells : legal.one_change.deed ≡ does list (notifies_additionally more)
+  pub tells : legal.one_change.effect ≡ does list (notifies_additionally more)
 
 -- A party tells the one that waits to write, though it has nothing to tell there,
 pub record WakesAWriter : Type 0 where
@@ -65,7 +65,7 @@ pub record WakesAWriter : Type 0 where
   pub many : ℕ
   pub idle : has_to_tell for_no_readers step.old step.move.party ≡ false
   pub legal : IsLegal step
-  pub notifies : legal.one_change.deed ≡ does for_no_readers (notifies many)
+  pub notifies : legal.one_change.effect ≡ does for_no_readers (notifies many)
 
 -- or one of those that wait to read, though it doesn't seek to read itself: so a writer and a reader would wake each other for ever, while a third reads;
 pub record WakesAReader : Type 0 where
@@ -74,7 +74,7 @@ pub record WakesAReader : Type 0 where
   pub sought : sought_by step.old step.move.party ≢ Some read
   pub idle : has_to_tell for_no_writer step.old step.move.party ≡ false
   pub legal : IsLegal step
-  pub notifies : legal.one_change.deed ≡ does for_no_writer (notifies many)
+  pub notifies : legal.one_change.effect ≡ does for_no_writer (notifies many)
 
 -- or, in the turn's list, though it doesn't seek the turn.
 pub record WakesForTheTurn : Type 0 where
@@ -83,7 +83,7 @@ pub record WakesForTheTurn : Type 0 where
   pub sought : is_for_turn (sought_by step.old step.move.party) ≡ false
   pub idle : has_to_tell for_the_turn step.old step.move.party ≡ false
   pub legal : IsLegal step
-  pub notifies : legal.one_change.deed ≡ does for_the_turn (notifies many)
+  pub notifies : legal.one_change.effect ≡ does for_the_turn (notifies many)
 
 -- A party comes to have to tell the one that waits to write, though others read on.
 pub record NotTheLast : Type 0 where
@@ -100,7 +100,7 @@ pub record WakesTheNext : Type 0 where
   pub unstarved : is_starved step.old step.move.party ≡ false
   pub listed : 0 < entries_of step.move.party step.old.turn_list
   pub legal : IsLegal step
-  pub notifies : legal.one_change.deed ≡ does for_the_turn (notifies many)
+  pub notifies : legal.one_change.effect ≡ does for_the_turn (notifies many)
 
 -- The turn is free, a party outside every call waits for it, and nobody there has been told, nor has anybody to tell or to look.
 pub record SleepsThoughFree : Type 0 where
@@ -372,7 +372,7 @@ pub record ReadStarves : Type 0 where
   pub step : Step
   pub reader : sought_by step.old step.move.party ≡ Some read
   pub legal : IsLegal step
-  pub counts : legal.one_change.deed ≡ changes starves
+  pub counts : legal.one_change.effect ≡ changes starves
 
 -- Another reader than the moving party loses its right, as where an upgrade clears the number of readers.
 pub record ReaderLost : Type 0 where

@@ -18,7 +18,7 @@ use Rattle.world_base.specs.declared.standing.Rest.TheVariants.{Idle, Pending, H
 use Rattle.world_base.specs.declared.standing.Within.{Within}
 use Rattle.world_base.specs.Frame.{is_drop, is_refusal}
 use Rattle.world_base.specs.Standings.{outside, inside, is_outside, is_possible, may_end, refused}
-use Rattle.world_semaphore.specs.machine.Deeds.{changes, does, fits, takes, gives_back, gives}
+use Rattle.world_semaphore.specs.machine.Effects.{changes, does, fits, takes, gives_back, gives}
 use Rattle.world_semaphore.specs.machine.Seats.{nothing_owed, a_fit, pays}
 use Rattle.world_semaphore.specs.AtOnce.{AnswersAtOnce, is_try, is_first_poll, is_enough}
 use Rattle.world_semaphore.specs.Bound.{Promises, IsSolo, PollsTold, Drains}
@@ -98,7 +98,7 @@ pub record TellsOfOthers : Type 0 where
   pub number : ℕ
   pub others : debt_of step.old step.move.party ≢ a_fit number
   pub legal : IsLegal step
-  pub tells : legal.one_change.deed ≡ does (fits number)
+  pub tells : legal.one_change.effect ≡ does (fits number)
 
 -- A forget of some permits leaves the limit, so that they may come back.
 pub record ForgetsInVain : Type 0 where
@@ -284,7 +284,7 @@ pub record WakesTheNext : Type 0 where
   pub many : ℕ
   pub undecided : standing_of step.old step.move.party ≡ inside within None
   pub legal : IsLegal step
-  pub tells : legal.one_change.deed ≡ does (fits many)
+  pub tells : legal.one_change.effect ≡ does (fits many)
 
 -- As many permits are available as a party outside every call waits for, and nobody in the list has been told, nor does anybody owe a look or to tell of as many: another may be about to tell of fewer.
 pub record SleepsThoughFree : Type 0 where
@@ -336,7 +336,7 @@ pub record TakesOthers : Type 0 where
   pub number : ℕ
   pub others : wanted step.old step.move ≢ number
   pub legal : IsLegal step
-  pub took : legal.one_change.deed ≡ changes (takes number)
+  pub took : legal.one_change.effect ≡ changes (takes number)
 
 -- A party takes more permits than are available.
 pub record TakesTooMany : Type 0 where
@@ -344,7 +344,7 @@ pub record TakesTooMany : Type 0 where
   pub number : ℕ
   pub few : available step.old.state < number
   pub legal : IsLegal step
-  pub took : legal.one_change.deed ≡ changes (takes number)
+  pub took : legal.one_change.effect ≡ changes (takes number)
 
 -- An acquire of no permits is to be ready, and its party has no guard.
 pub record ReadyWithoutAGuard : Type 0 where

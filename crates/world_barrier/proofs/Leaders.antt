@@ -1,9 +1,9 @@
 -- As many waits are ready as a leader's along a run as generations are finished in it.
-use Rattle.world_barrier.proofs.Prelude.{◌≡◌, ℕ, ◌+◌, ◌⊎◌, inl, inr, if◌then◌else◌, Bool, true, false, List, [], ◌∷◌, Option, Some, refl, arith, ap, sym, ◌∙◌, subst, Answer, Got, Move, Account, accounts_after, is_decided, Deed, nothing, changes, does, ListName, Leads, generations_of, World, standing_of, Change, takes, releases, starves, recovers, arrives, arrivals_after, Legal, Runs, is_leaders, leaders_in, leaders}
+use Rattle.world_barrier.proofs.Prelude.{◌≡◌, ℕ, ◌+◌, ◌⊎◌, inl, inr, if◌then◌else◌, Bool, true, false, List, [], ◌∷◌, Option, Some, refl, arith, ap, sym, ◌∙◌, subst, Answer, Got, Move, Account, accounts_after, is_decided, Effect, nothing, changes, does, ListName, Leads, generations_of, World, standing_of, Change, takes, releases, starves, recovers, arrives, arrivals_after, Legal, Runs, is_leaders, leaders_in, leaders}
 use Rattle.world_base.specs.Standings.{decision}
 use Rattle.world_barrier.proofs.Numbers.{next_generation, same_generation, leads_or_follows}
 
-one_or_none : (d : Deed Change ListName) (k : ℕ) → (arrivals_after d k ≡ k) ⊎ (arrivals_after d k ≡ k + 1)
+one_or_none : (d : Effect Change ListName) (k : ℕ) → (arrivals_after d k ≡ k) ⊎ (arrivals_after d k ≡ k + 1)
 one_or_none nothing k = inl refl
 one_or_none (changes takes) k = inl refl
 one_or_none (changes releases) k = inl refl
@@ -53,19 +53,19 @@ module _ (w : World) (m : Move) (a : Answer) (v : World) (l : Legal w m a v) whe
       let same : generations_of v.size v.arrivals ≡ generations_of w.size w.arrivals = same_size v.arrivals ∙ (ap (generations_of w.size) e ∙ same_generation w.size w.arrivals follows) in
       omega (arith, same, zero)
 
-  by_deed : (v.arrivals ≡ w.arrivals) ⊎ (v.arrivals ≡ w.arrivals + 1) → Finishes
-  by_deed (inl e) =
+  by_effect : (v.arrivals ≡ w.arrivals) ⊎ (v.arrivals ≡ w.arrivals + 1) → Finishes
+  by_effect (inl e) =
       let zero : these ≡ 0 = none (λ n leads. omega (arith, e, n)) in
       let same : generations_of v.size v.arrivals ≡ generations_of w.size w.arrivals = same_size v.arrivals ∙ ap (generations_of w.size) e in
       omega (arith, same, zero)
-  by_deed (inr e) = counted e (leads_or_follows w.size w.arrivals)
+  by_effect (inr e) = counted e (leads_or_follows w.size w.arrivals)
 
-  step : (arrivals_after l.one_change.deed w.arrivals ≡ w.arrivals) ⊎ (arrivals_after l.one_change.deed w.arrivals ≡ w.arrivals + 1) → Finishes
-  step (inl e) = by_deed (inl (l.one_change.arrivals ∙ e))
-  step (inr e) = by_deed (inr (l.one_change.arrivals ∙ e))
+  step : (arrivals_after l.one_change.effect w.arrivals ≡ w.arrivals) ⊎ (arrivals_after l.one_change.effect w.arrivals ≡ w.arrivals + 1) → Finishes
+  step (inl e) = by_effect (inl (l.one_change.arrivals ∙ e))
+  step (inr e) = by_effect (inr (l.one_change.arrivals ∙ e))
 
   finishes : Finishes
-  finishes = step (one_or_none l.one_change.deed w.arrivals)
+  finishes = step (one_or_none l.one_change.effect w.arrivals)
 
 pub as_many : (known : ℕ → Account) (w : World) (ms : List Move) (answers : List Answer) (v : World) (run : Runs known w ms answers v) → generations_of v.size v.arrivals ≡ generations_of w.size w.arrivals + leaders known w ms answers v run
 as_many known w [] [] v run = let same : generations_of v.size v.arrivals ≡ generations_of w.size w.arrivals = ap (λ x. generations_of x.size x.arrivals) run in omega (arith, same)

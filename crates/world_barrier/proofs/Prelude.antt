@@ -23,7 +23,7 @@ pub use Rattle.world_base.specs.Accounts.{Account, accounts_after, account_after
 pub use Rattle.world_base.specs.Frame.{is_drop, is_poll_after_ready, is_refusal}
 pub use Rattle.world_base.specs.Rosters.{is_on, how_many}
 pub use Rattle.world_base.specs.Standings.{is_decided, Standing, outside, inside, forgotten, is_outside, is_outside_stage, is_possible, inputs_of, call_in, is_stepped, may_end, refused, IsUndecided, Decides, StandsAfter}
-pub use Rattle.world_base.specs.Steps.{Deed, nothing, changes, does, joins, asks, leaves, notifies, notifies_additionally, list_after}
+pub use Rattle.world_base.specs.Steps.{Effect, nothing, changes, does, joins, asks, leaves, notifies, notifies_additionally, list_after}
 pub use Rattle.world_base.specs.Whole.{going_on, moves_of, answers_of}
 pub use Rattle.world_base.specs.any_world.Steps.{StepsWell, left_by, beginning}
 pub use Rattle.world_base.specs.declared.moves.Answer.{Answer}
@@ -73,7 +73,7 @@ pub use Rattle.world_barrier.specs.declared.world.ListName.TheVariants.{Lock, Ge
 pub use Rattle.world_barrier.specs.machine.Machine.{Barrier, IsBarrier, HasArrived, IsAtRest, goes_with, is_begun, is_abandoning, runs, position_at, arrival_at, knows, answer_by, IsKept, AreApart, AllTold, new_barrier, is_polling, Moves, Acts, is_own_marked, steps_left, left_from, left_after}
 pub use Rattle.world_barrier.specs.machine.Roles.{fits_lock, in_lock, listed, follows, HasOutcome, Outcome, is_resting, Sure, InLock, holds as holds_there, is_late, will_tell, ending_listed, ending_follows}
 pub use Rattle.world_barrier.specs.machine.Waits.{Wait, no_wait, uncounted, counted, is_counted, wait_for, wait_until, wait_of as place_wait, wait_at, verdict, verdict_of, refused_by, verdict_until}
-pub use Rattle.world_barrier.specs.program.Deeds.{Finds, words_after, arrival_after, entries_after, CanDo, everyone, FindsAsk}
+pub use Rattle.world_barrier.specs.program.Effects.{Finds, words_after, arrival_after, entries_after, CanDo, everyone, FindsAsk}
 pub use Rattle.world_barrier.specs.program.Locks.{OnLock, LockBegins, LockGoesOn}
 pub use Rattle.world_barrier.specs.program.Program.{action_of, position_after, next_of, after_lock, after_cancel, after_release, released, place_for, Next, got_left, with_lock, position_left, start_of}
 pub use Rattle.world_barrier.specs.program.Words.{progress, arrivals_at, IsPast, IsWithin, IsFollower, new_words, with_progress}

@@ -16,8 +16,8 @@ use Rattle.world_base.specs.Frame as frame
 use Rattle.world_base.specs.Frame.{is_drop, is_refusal}
 use Rattle.world_base.specs.Rosters.{how_many}
 use Rattle.world_base.specs.Standings.{Standing, outside, inside, forgotten, inputs_of, is_decided, is_possible}
-use Rattle.world_base.specs.Steps.{Deed, changes, does, joins, asks, leaves, notifies, notifies_additionally}
-use Rattle.world_barrier.specs.program.Deeds.{everyone}
+use Rattle.world_base.specs.Steps.{Effect, changes, does, joins, asks, leaves, notifies, notifies_additionally}
+use Rattle.world_barrier.specs.program.Effects.{everyone}
 use Rattle.world_barrier.specs.machine.Machine.{knows}
 use Rattle.world_barrier.specs.machine.Waits.{Wait, no_wait, uncounted, counted}
 use Rattle.world_barrier.specs.declared.world.ListName.{ListName}
@@ -82,7 +82,7 @@ pub record MayTell (w : World) (p n : ℕ) : Type 0 where
   pub starved : 0 < entries_of p w.lock_list → is_starved w.lock p ≡ true
 
 -- Where a change may be made. The inner lock is taken fairly, and released by its holder, once its call is decided or once it stands counted in the list. Only the holder joins the list, where it has to wait, and only a leader that holds the lock notifies there, all at once. Whoever asks there is counted, and only a drop leaves.
-abbrev pub IsAllowed : World → Move → Deed Change ListName → Type 0
+abbrev pub IsAllowed : World → Move → Effect Change ListName → Type 0
 IsAllowed w m (changes takes) = MayTake w m.party
 IsAllowed w m (changes releases) = (w.lock.holder ≡ Some m.party) × ((is_decided (standing_of w m.party) ≡ true) ⊎ IsInList w m.party)
 IsAllowed w m (changes starves) = (is_starved w.lock m.party ≡ false) × (how_many w.lock.starved < w.starved_limit)
@@ -99,22 +99,22 @@ IsAllowed w m _ = Unit {0}
 
 -- A move makes one change or does one list function, never both, and moves no other party. Arrivals are counted one by one, each for its party's own wait, and no drop takes one back. A join has found memory; a party whose call is decided only gives back, and no other gives anything up but the holder of the inner lock.
 pub record ChangesOneThing (old : World) (m : Move) (a : Answer) (new : World) : Type 0 where
-  pub deed : Deed Change ListName
-  pub allowed : IsAllowed old m deed
-  pub lock : new.lock ≡ lock_after m.party deed old.lock
-  pub arrivals : new.arrivals ≡ arrivals_after deed old.arrivals
-  pub lock_list : new.lock_list ≡ lock_list_after m.party deed old.lock_list
-  pub list : new.list ≡ generation_list_after m.party deed old.list
-  pub wait : wait_of new m.party ≡ wait_after deed old.arrivals m.what a (wait_of old m.party)
+  pub effect : Effect Change ListName
+  pub allowed : IsAllowed old m effect
+  pub lock : new.lock ≡ lock_after m.party effect old.lock
+  pub arrivals : new.arrivals ≡ arrivals_after effect old.arrivals
+  pub lock_list : new.lock_list ≡ lock_list_after m.party effect old.lock_list
+  pub list : new.list ≡ generation_list_after m.party effect old.list
+  pub wait : wait_of new m.party ≡ wait_after effect old.arrivals m.what a (wait_of old m.party)
   pub other_waits : (q : ℕ) → q ≢ m.party → wait_of new q ≡ wait_of old q
   pub others : (q : ℕ) → q ≢ m.party → standing_of new q ≡ standing_of old q
   pub parties : length new.standings ≡ length old.standings
   pub size : new.size ≡ old.size
   pub starved_limit : new.starved_limit ≡ old.starved_limit
   pub generations_limit : new.generations_limit ≡ old.generations_limit
-  pub found_memory : (list : ListName) → deed ≡ does list joins → (inputs_of m.what).memory ≡ true
-  pub parting : is_decided (standing_of old m.party) || is_drop m.what ≡ true → gives_back deed ≡ true
-  pub giving_up : gives_up deed ≡ true → (is_decided (standing_of old m.party) || is_drop m.what) || is_held_by old.lock.holder m.party ≡ true
+  pub found_memory : (list : ListName) → effect ≡ does list joins → (inputs_of m.what).memory ≡ true
+  pub parting : is_decided (standing_of old m.party) || is_drop m.what ≡ true → gives_back effect ≡ true
+  pub giving_up : gives_up effect ≡ true → (is_decided (standing_of old m.party) || is_drop m.what) || is_held_by old.lock.holder m.party ≡ true
 
 -- ---- The inner lock
 

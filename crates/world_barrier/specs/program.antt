@@ -1,4 +1,4 @@
 pub mod Words
 pub mod Program
-pub mod Deeds
+pub mod Effects
 pub mod Locks

@@ -25,10 +25,10 @@ list_after p (notifies n) l = notified l n
 list_after p (notifies_additionally n) l = notified_additionally l n
 
 -- A step does nothing, or makes one change of the state, or does one list function on the list of this name: never two of these.
-pub data Deed (Change Name : Type 0) : Type 0 where
-  nothing : Deed Change Name
-  changes : Change → Deed Change Name
-  does : Name → ListFunction → Deed Change Name
+pub data Effect (Change Name : Type 0) : Type 0 where
+  nothing : Effect Change Name
+  changes : Change → Effect Change Name
+  does : Name → ListFunction → Effect Change Name
 
 -- A party whose call is decided may leave a list or notify, and neither join nor ask.
 abbrev pub is_parting : ListFunction → Bool

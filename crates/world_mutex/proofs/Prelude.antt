@@ -29,7 +29,7 @@ pub use Rattle.world_base.specs.Frame.{put_in, is_drop, is_refusal, is_poll_afte
 pub use Rattle.world_base.specs.Marks.{MarksNobody}
 pub use Rattle.world_base.specs.Rosters.{how_many, is_on}
 pub use Rattle.world_base.specs.Standings.{inputs_of, is_outside_stage, Standing, outside, inside, forgotten, is_outside, is_possible, call_in, is_stepped, may_end, is_decided, decision as decided_on, refused, IsUndecided}
-pub use Rattle.world_base.specs.Steps.{Deed, nothing, changes, does, joins, asks, leaves, notifies, notifies_additionally, ListFunction, asked}
+pub use Rattle.world_base.specs.Steps.{Effect, nothing, changes, does, joins, asks, leaves, notifies, notifies_additionally, ListFunction, asked}
 pub use Rattle.world_base.specs.Whole.{going_on, moves_of, answers_of}
 pub use Rattle.world_base.specs.any_world.Steps.{beginning, StepsWell, left_by}
 pub use Rattle.world_base.specs.declared.moves.Answer.{Answer}
@@ -73,7 +73,7 @@ pub use Rattle.world_mutex.specs.machine.Behind.{reveal, revealed, place_behind,
 pub use Rattle.world_mutex.specs.machine.Conduct.{Asks, TakesAtOnce, CountsNobody, HandsOn, BeginsToHandOn}
 pub use Rattle.world_mutex.specs.machine.Course.{Course, out, holding, waiting, taking, releasing, cancelling, undecided, called, counting, has_lock, is_out, is_holding, is_taking, is_releasing, is_cancelling, may_begin, Begins, is_called}
 pub use Rattle.world_mutex.specs.machine.Courses.{is_waiting, is_due as is_due_there, Takes, Cancels, GoesOn, HeedsClock, is_counting, is_told, may_tell, Tries, Releases}
-pub use Rattle.world_mutex.specs.machine.Deeds.{decided_by, entries_after, Change, ListName, for_the_lock, takes, releases, starves, recovers, holder_after, starved_after, gives_back, gives_up, is_release, is_fresh}
+pub use Rattle.world_mutex.specs.machine.Effects.{decided_by, entries_after, Change, ListName, for_the_lock, takes, releases, starves, recovers, holder_after, starved_after, gives_back, gives_up, is_release, is_fresh}
 pub use Rattle.world_mutex.specs.machine.Legal.{IsLegal, decision, decided_then, IsReason, IsAllowed, IsUnrefused}
 pub use Rattle.world_mutex.specs.machine.Machine.{Lock, place_at, SameRoles, IsLock, new_lock}
 pub use Rattle.world_mutex.specs.machine.Mutex.{Mutex, course_at, new_mutex}

@@ -19,7 +19,7 @@ use Rattle.world_base.specs.declared.standing.Within.{Within}
 use Rattle.world_base.specs.Standings.{Standing, outside, inside, inputs_of, is_possible, is_decided, may_end, IsUndecided}
 use Rattle.world_base.specs.Frame as frame
 use Rattle.world_base.specs.Frame.{is_drop, is_refusal, put_in}
-use Rattle.world_base.specs.Steps.{Deed, nothing, changes, does, joins, leaves, notifies, notifies_additionally, asked, list_after, is_parting}
+use Rattle.world_base.specs.Steps.{Effect, nothing, changes, does, joins, leaves, notifies, notifies_additionally, asked, list_after, is_parting}
 use Rattle.world_base.specs.Rosters.{how_many}
 use Rattle.world_mutex.specs.Guarded.{knows}
 use Rattle.world_mutex.specs.State.{State, World, standing_of, is_starved, is_free, mark_of, IsClear}
@@ -53,7 +53,7 @@ pub data Change : Type 0 where
 pub data ListName : Type 0 where
   for_the_lock : ListName
 
-abbrev pub state_after : ℕ → Deed Change ListName → State → State
+abbrev pub state_after : ℕ → Effect Change ListName → State → State
 state_after p (changes takes) s = record { holder = Some p; starved = s.starved; value = s.value }
 state_after p (changes releases) s = record { holder = None; starved = s.starved; value = s.value }
 state_after p (changes starves) s = record { holder = s.holder; starved = slice_set s.starved p true; value = s.value }
@@ -61,12 +61,12 @@ state_after p (changes recovers) s = record { holder = s.holder; starved = slice
 state_after p (changes (puts v)) s = record { holder = s.holder; starved = s.starved; value = v }
 state_after p _ s = s
 
-abbrev pub entries_after : ℕ → Deed Change ListName → List (Entry ℕ) → List (Entry ℕ)
+abbrev pub entries_after : ℕ → Effect Change ListName → List (Entry ℕ) → List (Entry ℕ)
 entries_after p (does for_the_lock f) l = list_after p f l
 entries_after p _ l = l
 
 -- Once its call is decided, a party only gives back: the lock, its starved count, its entry, a notification.
-abbrev pub gives_back : Deed Change ListName → Bool
+abbrev pub gives_back : Effect Change ListName → Bool
 gives_back nothing = true
 gives_back (changes releases) = true
 gives_back (changes recovers) = true
@@ -74,14 +74,14 @@ gives_back (changes _) = false
 gives_back (does list f) = is_parting f
 
 -- What gives something up: the lock, the starved count, or a place in the list without asking there.
-abbrev pub gives_up : Deed Change ListName → Bool
+abbrev pub gives_up : Effect Change ListName → Bool
 gives_up (changes releases) = true
 gives_up (changes recovers) = true
 gives_up (does list leaves) = true
 gives_up _ = false
 
 -- A party that notifies notifies for one, and not beside one that was notified before.
-abbrev pub notifies_one : Deed Change ListName → Bool
+abbrev pub notifies_one : Effect Change ListName → Bool
 notifies_one (does list (notifies n)) = n == 1
 notifies_one (does list (notifies_additionally n)) = false
 notifies_one _ = true
@@ -99,18 +99,18 @@ may_tell s starved n = false
 
 -- A move changes one thing of the state or does one list function, never both, and moves no other party. A join has found memory; a party whose call is decided only gives back, and no other gives anything up.
 pub record ChangesOneThing (old : World) (m : Move) (new : World) : Type 0 where
-  pub deed : Deed Change ListName
-  pub state : new.state ≡ state_after m.party deed old.state
-  pub entries : new.entries ≡ entries_after m.party deed old.entries
+  pub effect : Effect Change ListName
+  pub state : new.state ≡ state_after m.party effect old.state
+  pub entries : new.entries ≡ entries_after m.party effect old.entries
   pub limit : new.limit ≡ old.limit
   pub opening_value : new.opening_value ≡ old.opening_value
   pub others : (q : ℕ) → q ≢ m.party → standing_of new q ≡ standing_of old q
   pub parties : length new.standings ≡ length old.standings
-  pub found_memory : (list : ListName) → deed ≡ does list joins → (inputs_of m.what).memory ≡ true
-  pub parting : is_decided (standing_of old m.party) || is_drop m.what ≡ true → gives_back deed ≡ true
-  pub giving_up : gives_up deed ≡ true → is_decided (standing_of old m.party) || is_drop m.what ≡ true
-  pub notice : notifies_one deed ≡ true
-  pub tells : (list : ListName) (n : ℕ) → deed ≡ does list (notifies n) → may_tell (standing_of old m.party) (is_starved old.state m.party) (entries_of m.party old.entries) ≡ true
+  pub found_memory : (list : ListName) → effect ≡ does list joins → (inputs_of m.what).memory ≡ true
+  pub parting : is_decided (standing_of old m.party) || is_drop m.what ≡ true → gives_back effect ≡ true
+  pub giving_up : gives_up effect ≡ true → is_decided (standing_of old m.party) || is_drop m.what ≡ true
+  pub notice : notifies_one effect ≡ true
+  pub tells : (list : ListName) (n : ℕ) → effect ≡ does list (notifies n) → may_tell (standing_of old m.party) (is_starved old.state m.party) (entries_of m.party old.entries) ≡ true
 
 -- ---- Who may have the lock
 

@@ -1,5 +1,5 @@
 pub mod Course
-pub mod Deeds
+pub mod Effects
 pub mod Tally
 pub mod Parties
 pub mod Machine

@@ -15,7 +15,7 @@ pub use Rattle.sync_program.specs.declared.once_cell.Place.TheVariants.{Claim, C
 pub use Rattle.sync_program.specs.declared.once_cell.Position.TheVariants.{Out, ToMake, WaitingToMake, Making, ToWait, Waiting, At}
 pub use Rattle.world_base.specs.Frame.{is_drop, is_giving_back, is_poll_after_ready, is_refusal}
 pub use Rattle.world_base.specs.Standings.{inside, is_outside, is_outside_stage, is_possible, Standing, outside, forgotten, is_decided, decision, inputs_of, call_in, is_stepped, may_end, refused, IsUndecided}
-pub use Rattle.world_base.specs.Steps.{Deed, nothing, changes, does, joins, asks, leaves, notifies, notifies_additionally, ListFunction, list_after}
+pub use Rattle.world_base.specs.Steps.{Effect, nothing, changes, does, joins, asks, leaves, notifies, notifies_additionally, ListFunction, list_after}
 pub use Rattle.world_base.specs.Whole.{going_on, moves_of, answers_of}
 pub use Rattle.world_base.specs.any_world.Steps.{StepsWell, left_by, beginning}
 pub use Rattle.world_base.specs.declared.moves.Answer.{Answer}
@@ -56,6 +56,6 @@ pub use Rattle.world_once_cell.specs.declared.program.words.Content.TheVariants.
 pub use Rattle.world_once_cell.specs.machine.Machine.{OnceCell, IsCell, IsAtRest, goes_with, runs, is_begun, is_abandoning, is_maker, position_at, AllTold, knows, answer_by, IsKept, is_polling, is_trying, is_cancelling, Acts, is_pending, Moves, with_value, new_cell}
 pub use Rattle.world_once_cell.specs.machine.Seats.{fills_with, task_at, makes_at, in_active, in_passive_at, waits, owes, value_known, is_late, will_tell, verdict, is_resting, Seat, seat_of, seated, Task, failed, task_of as place_task, verdict_of, no_task, waits_only, task_by, sets, initializes}
 pub use Rattle.world_once_cell.specs.machine.Tally.{tally_of, free_of, Tally, Counts, counts_of}
-pub use Rattle.world_once_cell.specs.program.Deeds.{Change, begins, fills, empties, content_after, Finds, deed_of, active_after, passive_after, CanDo, everyone, list_of, claimed_after, IsDone, FindsContent, FindsMade, FindsAsk}
+pub use Rattle.world_once_cell.specs.program.Effects.{Change, begins, fills, empties, content_after, Finds, effect_of, active_after, passive_after, CanDo, everyone, list_of, claimed_after, IsDone, FindsContent, FindsMade, FindsAsk}
 pub use Rattle.world_once_cell.specs.program.Program.{Place, Position, action_of, position_after, Found, Action, next_of, place_for, Maker, Next, got_of, got_left}
 pub use Rattle.world_once_cell.specs.program.Words.{value_in, content_of, kept_of, content_by, kept_by, refilled}

@@ -1,7 +1,7 @@
 -- One value at most enters along a run.
-use Rattle.world_once_cell.proofs.Prelude.{◌≡◌, ℕ, ◌+◌, ◌≤◌, if◌then◌else◌, Bool, true, false, List, [], ◌∷◌, refl, arith, ap, sym, ◌∙◌, Answer, Move, Deed, nothing, changes, does, ListName, Content, Empty, BeingMade, Full, Change, begins, fills, empties, content_after, World, is_full, IsAllowed, Legal, Steps, Known, Runs, learn, enters, entered}
+use Rattle.world_once_cell.proofs.Prelude.{◌≡◌, ℕ, ◌+◌, ◌≤◌, if◌then◌else◌, Bool, true, false, List, [], ◌∷◌, refl, arith, ap, sym, ◌∙◌, Answer, Move, Effect, nothing, changes, does, ListName, Content, Empty, BeingMade, Full, Change, begins, fills, empties, content_after, World, is_full, IsAllowed, Legal, Steps, Known, Runs, learn, enters, entered}
 
-stays_by : (w : World) (m : Move) (d : Deed Change ListName) (c : Content) → IsAllowed w m d → c ≡ content_after m.party d w.cell → (v : ℕ) → w.cell ≡ Full v → c ≡ Full v
+stays_by : (w : World) (m : Move) (d : Effect Change ListName) (c : Content) → IsAllowed w m d → c ≡ content_after m.party d w.cell → (v : ℕ) → w.cell ≡ Full v → c ≡ Full v
 stays_by w m nothing c ok e v full = e ∙ full
 stays_by w m (does list f) c ok e v full = e ∙ full
 stays_by w m (changes begins) c ok e v full = let never : Empty ≡ Full v = sym ok.0 ∙ full in absurd (cc never)
@@ -10,7 +10,7 @@ stays_by w m (changes empties) c ok e v full = let never : BeingMade m.party ≡
 
 -- a full cell stays full, with its value
 pub stays_full : (w : World) (m : Move) (a : Answer) (u : World) → Legal w m a u → (v : ℕ) → w.cell ≡ Full v → u.cell ≡ Full v
-stays_full w m a u l v full = stays_by w m l.one_change.deed u.cell l.one_change.allowed l.one_change.cell v full
+stays_full w m a u l v full = stays_by w m l.one_change.effect u.cell l.one_change.allowed l.one_change.cell v full
 
 its_value : (c : Content) → is_full c ≡ true → (v : ℕ) × (c ≡ Full v)
 its_value Empty h = absurd (cc h)

@@ -17,12 +17,12 @@ use Rattle.world_base.specs.declared.standing.Within.{Within}
 use Rattle.world_base.specs.Standings.{Standing, outside, inside, inputs_of, is_decided, is_possible, refused, decision}
 use Rattle.world_base.specs.Frame as frame
 use Rattle.world_base.specs.Frame.{is_drop, is_giving_back, is_refusal}
-use Rattle.world_base.specs.Steps.{Deed, nothing, changes, does, joins, asks, leaves, notifies, notifies_additionally, is_parting}
+use Rattle.world_base.specs.Steps.{Effect, nothing, changes, does, joins, asks, leaves, notifies, notifies_additionally, is_parting}
 use Rattle.sync_program.specs.declared.once_cell.ListName.{ListName}
 use Rattle.sync_program.specs.declared.once_cell.ListName.TheVariants.{Active}
 use Rattle.world_once_cell.specs.declared.program.words.Content.TheVariants.{Empty, BeingMade, Full}
 use Rattle.world_once_cell.specs.machine.Seats.{Task, no_task, initializes, sets, fills_with, failed}
-use Rattle.world_once_cell.specs.program.Deeds.{Change, begins, fills, empties, content_after, active_after, passive_after, everyone}
+use Rattle.world_once_cell.specs.program.Effects.{Change, begins, fills, empties, content_after, active_after, passive_after, everyone}
 use Rattle.world_once_cell.specs.machine.Machine.{knows, is_maker}
 use Rattle.world_once_cell.specs.State.{World, list_in, standing_of, task_of, is_full}
 use Rattle.world_once_cell.specs.Tasks.{task_in, task_then, makes, list_for, given, is_open}
@@ -43,14 +43,14 @@ IsPossible = frame.IsPossible standing_of (λ w p. knows)
 -- ---- What changes
 
 -- Once its call is decided, a party only gives back: the making, its entry, notifications; and a try fills the cell.
-abbrev pub gives_something_back : Deed Change ListName → Bool
+abbrev pub gives_something_back : Effect Change ListName → Bool
 gives_something_back nothing = true
 gives_something_back (changes begins) = false
 gives_something_back (changes _) = true
 gives_something_back (does list f) = is_parting f
 
 -- What gives something up: the making, with no value, or a place in a list without asking there.
-abbrev pub gives_up : Deed Change ListName → Bool
+abbrev pub gives_up : Effect Change ListName → Bool
 gives_up (changes empties) = true
 gives_up (does list leaves) = true
 gives_up _ = false
@@ -67,7 +67,7 @@ MayTell w m list (inside within (Some (answer.Refused n))) = IsItsList w m list
 MayTell w m list s = ⊥
 
 -- Where a change may be made. Making begins only in an empty cell, by a party that may make. It ends only by its maker: by the value that the maker gave, which enters; or with no value, where the maker failed or is dropped. A party joins, asks in and leaves its own list only, and who makes neither joins nor asks. One notifies one at a time, whom one may tell; but who has filled the cell notifies all.
-abbrev pub IsAllowed : World → Move → Deed Change ListName → Type 0
+abbrev pub IsAllowed : World → Move → Effect Change ListName → Type 0
 IsAllowed w m (changes begins) = (w.cell ≡ Empty) × (makes (task_then m.what (task_of w m.party)) ≡ true)
 IsAllowed w m (changes (fills v)) = (w.cell ≡ BeingMade m.party) × (task_of w m.party ≡ fills_with v)
 IsAllowed w m (changes empties) = (w.cell ≡ BeingMade m.party) × ((is_drop m.what ≡ true) ⊎ (task_of w m.party ≡ failed))
@@ -80,16 +80,16 @@ IsAllowed w m nothing = Unit {0}
 
 -- A move makes one change of the cell or does one list function, never both, and moves no other party. A join has found memory; a party whose call is decided only gives back, and no other gives anything up but the maker.
 pub record ChangesOneThing (old : World) (m : Move) (new : World) : Type 0 where
-  pub deed : Deed Change ListName
-  pub allowed : IsAllowed old m deed
-  pub cell : new.cell ≡ content_after m.party deed old.cell
-  pub active : new.active ≡ active_after m.party deed old.active
-  pub passive : new.passive ≡ passive_after m.party deed old.passive
+  pub effect : Effect Change ListName
+  pub allowed : IsAllowed old m effect
+  pub cell : new.cell ≡ content_after m.party effect old.cell
+  pub active : new.active ≡ active_after m.party effect old.active
+  pub passive : new.passive ≡ passive_after m.party effect old.passive
   pub others : (q : ℕ) → q ≢ m.party → standing_of new q ≡ standing_of old q
   pub parties : length new.standings ≡ length old.standings
-  pub found_memory : (list : ListName) → deed ≡ does list joins → (inputs_of m.what).memory ≡ true
-  pub parting : is_decided (standing_of old m.party) || is_giving_back m.what ≡ true → gives_something_back deed ≡ true
-  pub giving_up : gives_up deed ≡ true → (is_decided (standing_of old m.party) || is_giving_back m.what) || is_maker old.cell m.party ≡ true
+  pub found_memory : (list : ListName) → effect ≡ does list joins → (inputs_of m.what).memory ≡ true
+  pub parting : is_decided (standing_of old m.party) || is_giving_back m.what ≡ true → gives_something_back effect ≡ true
+  pub giving_up : gives_up effect ≡ true → (is_decided (standing_of old m.party) || is_giving_back m.what) || is_maker old.cell m.party ≡ true
 
 -- What a future is for stays what its first call said, while it lasts; only the maker's step, whose party makes the cell's value, puts in its place what the maker gave by the move's input.
 pub record KnowsTask (old : World) (m : Move) (a : Answer) (new : World) : Type 0 where

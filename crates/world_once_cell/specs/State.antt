@@ -8,7 +8,7 @@ use Rattle.sync_program.specs.declared.once_cell.ListName.{ListName}
 use Rattle.world_once_cell.specs.declared.program.words.Content.{Content}
 use Rattle.world_once_cell.specs.declared.program.words.Content.TheVariants.{Empty, BeingMade, Full}
 use Rattle.world_once_cell.specs.machine.Seats.{Task, no_task, fills_with}
-use Rattle.world_once_cell.specs.program.Deeds.{list_of}
+use Rattle.world_once_cell.specs.program.Effects.{list_of}
 use Rattle.world_once_cell.specs.machine.Machine.{OnceCell, new_cell}
 
 -- What is in the cell: nothing, nothing yet while one party makes its value, or a value. The list of those that would make it, and the list of those that only wait, with their marks; how each party stands; and what each party's future is for. What stands behind the World is named by no clause but that of its own step.

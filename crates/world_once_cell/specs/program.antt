@@ -1,3 +1,3 @@
 pub mod Words
 pub mod Program
-pub mod Deeds
+pub mod Effects

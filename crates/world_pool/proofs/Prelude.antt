@@ -43,7 +43,7 @@ pub use Rattle.world_pool.specs.declared.program.places.Position.TheVariants.{Ou
 pub use Rattle.world_pool.specs.declared.program.places.Return.{Return}
 pub use Rattle.world_pool.specs.declared.program.places.Taker.{Taker}
 pub use Rattle.world_pool.specs.program.Program.{Next, action_of, next_of, place_for, position_after, got_with, after_permit, after_lock, after_try_permit, after_try_lock, after_release, released, after_return, returned, after_cancel_permit, after_cancel, cancelled, with_lock, lock_refused, without_permit}
-pub use Rattle.world_pool.specs.program.Deeds.{OnPermits, OnLock, OnItems, CanLocks, CanItems}
+pub use Rattle.world_pool.specs.program.Effects.{OnPermits, OnLock, OnItems, CanLocks, CanItems}
 pub use Rattle.world_pool.specs.machine.Roles.{InPermits, without, wants, polls, has, returns, InLock, outside as unlocked, waits, takes, holds, releases, cancels, fits_permits, fits_lock, seat_of, seat_at, Seat, in_permits, in_lock, is_leased, is_resting, is_taking_out, is_giving, is_to_give}
 pub use Rattle.world_pool.specs.machine.Machine.{Pool, position_at, lease_at, numbered, new_pool, as_number, is_item, leases_item, in_list, leased, leases_any, how_many_leased, AreDifferent, how_many_taking_out, IsKept, IsAtRest, IsPool, knows, is_take, is_try, is_give, is_drop, is_poll, is_lose, is_begun, runs, goes_with, Stands, left_from, steps_left, left_after, answer_by, Acts, Moves}
 pub use Rattle.world_base.specs.Frame.{is_poll_after_ready}
@@ -56,7 +56,7 @@ pub use Rattle.world_base.proofs.of_table.Views.{outside_so, rest_seen, outside_
 pub use Rattle.world_base.proofs.of_table.Ways.{way, by_way}
 pub use Rattle.world_pool.specs.State.{World, standing_of, lease_of, gives, seeks, available, limit, made, lost, HasPermit, HoldsLock, new_world, opening_of}
 pub use Rattle.world_pool.specs.View.{view_of, verdict, verdict_of, verdict_in, decided_inside, decided_ending, decided_return}
-pub use Rattle.world_pool.specs.Legal.{Legal, HasItsOwn, HasNothing, HasLease, IsPending, ChangesOneThing, EndsProperly, IsPossible, StandsAfter, Deed, Does, Pops, Pushes, Loses, MayPop, MayPush, call_of, ends}
+pub use Rattle.world_pool.specs.Legal.{Legal, HasItsOwn, HasNothing, HasLease, IsPending, ChangesOneThing, EndsProperly, IsPossible, StandsAfter, Effect, Does, Pops, Pushes, Loses, MayPop, MayPush, call_of, ends}
 pub use Rattle.world_pool.specs.Laws.{IsSound, IsAwake, is_at_rest}
 pub use Rattle.world_pool.specs.AtOnce.{AnswersAtOnce, is_first_take, is_lease_drop}
 pub use Rattle.world_pool.specs.Steps.{Steps, Stands as StandsWell, Did, IsPoolTable, TableSteps}

@@ -37,13 +37,13 @@ IsPossible = frame.IsPossible standing_of (λ w p. knows)
 -- ---- What changes
 
 -- A step does nothing, or one thing: it is one step of its party's call on the semaphore, or on the list's lock; it takes the last item out of the list, or puts one back; or it loses an item.
-pub data Deed : Type 0 where
-  nothing : Deed
-  in_semaphore : Deed
-  in_lock : Deed
-  pops : Deed
-  pushes : Deed
-  loses : Deed
+pub data Effect : Type 0 where
+  nothing : Effect
+  in_semaphore : Effect
+  in_lock : Effect
+  pops : Effect
+  pushes : Effect
+  loses : Effect
 
 -- The semaphore, the lock, the list and the mover's lease, each left as it was.
 abbrev pub SameSemaphore : World → World → Type 0
@@ -96,7 +96,7 @@ pub record Loses (old : World) (m : Move) (new : World) : Type 0 where
   pub forgotten : limit new + 1 ≡ limit old
   pub conduct : semaphore.IsLegal (inputs_of m.what).memory m.party 1 (Some GivenBack) (step.End GivenBack) old.semaphore new.semaphore
 
-abbrev pub Does : Deed → World → Move → World → Type 0
+abbrev pub Does : Effect → World → Move → World → Type 0
 Does nothing old m new = SameSemaphore old new × SameLock old new × SameItems old new
 Does in_semaphore old m new = StepsInSemaphore old m new × SameLock old new × SameItems old new
 Does in_lock old m new = SameSemaphore old new × StepsInLock old m new × SameItems old new
@@ -106,8 +106,8 @@ Does loses old m new = SameLock old new × Loses old m new
 
 -- A move does one thing, and moves no other party: no party's lease changes but the mover's.
 pub record ChangesOneThing (old : World) (m : Move) (new : World) : Type 0 where
-  pub deed : Deed
-  pub does : Does deed old m new
+  pub effect : Effect
+  pub does : Does effect old m new
   pub others : (q : ℕ) → q ≢ m.party → standing_of new q ≡ standing_of old q
   pub other_leases : (q : ℕ) → q ≢ m.party → lease_of new q ≡ lease_of old q
   pub parties : length new.standings ≡ length old.standings

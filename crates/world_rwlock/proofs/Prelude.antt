@@ -28,7 +28,7 @@ pub use Rattle.world_base.specs.Frame.{put_in, is_poll_after_ready, is_refusal, 
 pub use Rattle.world_base.specs.Rights.{Right, read, upgradable, write, wait_to_write, excludes}
 pub use Rattle.world_base.specs.Rosters.{how_many, is_on}
 pub use Rattle.world_base.specs.Standings.{inputs_of, outside, is_outside_stage, is_outside, is_decided, forgotten, is_possible, Standing, inside, kind_of, may_begin, call_in, may_end, refused, leaves_as_it_was, StandsAfter, IsUndecided, is_stepped}
-pub use Rattle.world_base.specs.Steps.{ListFunction, joins, asks, leaves, notifies, list_after, Deed, changes, nothing, does, notifies_additionally}
+pub use Rattle.world_base.specs.Steps.{ListFunction, joins, asks, leaves, notifies, list_after, Effect, changes, nothing, does, notifies_additionally}
 pub use Rattle.world_base.specs.Whole.{going_on, moves_of, answers_of}
 pub use Rattle.world_base.specs.any_world.Steps.{StepsWell, left_by, beginning}
 pub use Rattle.world_base.specs.declared.moves.Answer.{Answer}
@@ -58,7 +58,7 @@ pub use Rattle.world_base.proofs.of_table.Past.{inside_or_past, by_stage_or_past
 pub use Rattle.world_base.proofs.of_table.Views.{outside_so, none_decided, inside_as, rest_seen, outside_stage, outside_at, standings_at, length-standings, all_idle}
 pub use Rattle.world_mutex.specs.machine.Conduct.{IsLegal, decided_then, IsReason, IsAllowed as MayDo, HandsOn}
 pub use Rattle.world_mutex.specs.machine.Course.{Course as TurnCourse, listed, out, holding, taking, releasing, undecided, called, counting, has_lock, gives_up as giving_up, is_out, is_holding, is_waiting, is_cancelling, is_releasing, is_due, counted, is_resting as rests_in_turn, holds, Takes, Tries, Releases, Cancels, is_counting, decision, waiting as waiting_there, is_taking, cancelling, may_tell, is_told}
-pub use Rattle.world_mutex.specs.machine.Deeds.{most_steps as most_turn_steps, decided_by}
+pub use Rattle.world_mutex.specs.machine.Effects.{most_steps as most_turn_steps, decided_by}
 pub use Rattle.world_mutex.specs.machine.Mutex.{course_at as turn_at, IsStarved, holders, starved, holder_of, is_counted, steps_left as turn_steps_left, Mutex, left_after as turn_left_after, IsMutex, IsAtRest as IsTurnAtRest, new_mutex, TakenFairly, starved_of, is_holder}
 pub use Rattle.world_mutex.proofs.of_machine.callers.Callers.{out_unlisted, holding_unlisted, gave_way, may_lock, may_try, may_poll, may_cancel, may_release, out_rests, holding_rests, waiting_rests, listed_once, new_is_out, new_parties, holding_holds, first_marked, out_free, waiting_listed, waiting_free, releasing_free, out_unstarved, holding_unstarved, releasing_decided, cancelling_decided, IsPolls, taking_decided, new_has_no_holder, new_has_none_starved, out_uncounted, holding_uncounted, waiting_uncounted}
 pub use Rattle.world_rwlock.specs.Bound.{IsSoloForTurn, IsToldOfTurn, IsToldToRead, IsSoloToWrite, TakesTurn, GivesTurnWay, SoloPollForTurn, TakesToRead, TakesToWrite, Promises, PassesTurnOver, IsTurnBounded, IsReadingBounded, IsWritingBounded}

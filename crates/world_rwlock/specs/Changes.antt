@@ -2,7 +2,7 @@
 use Rattle.std.specs.Prelude.{◌≡◌, ℕ, ◌<◌, ◌⊎◌, Bool, true, false, List, Some, slice_set}
 use Rattle.lock_event.specs.declared.event.Entry.{Entry}
 use Rattle.world_base.specs.Rosters.{how_many}
-use Rattle.world_base.specs.Steps.{Deed, nothing, changes, does, leaves, list_after, is_parting}
+use Rattle.world_base.specs.Steps.{Effect, nothing, changes, does, leaves, list_after, is_parting}
 use Rattle.world_rwlock.specs.State.{ListName, for_the_turn, for_no_readers, for_no_writer, Turn, nobody, passes, is_upgradable, waits_to_write, writes, State, World, reads, is_starved, is_marked, how_many_read}
 use Rattle.world_base.specs.Steps.{notifies, notifies_additionally}
 use Rattle.world_base.specs.queue.Parties.{entries_of}
@@ -37,7 +37,7 @@ pub data Change : Type 0 where
   -- a writer leaves a value
   puts : ℕ → Change
 
-abbrev pub turn_after : ℕ → Deed Change ListName → Turn → Turn
+abbrev pub turn_after : ℕ → Effect Change ListName → Turn → Turn
 turn_after p (changes takes_turn) t = passes p
 turn_after p (changes leaves_turn) t = nobody
 turn_after p (changes becomes_upgradable) t = is_upgradable p
@@ -51,7 +51,7 @@ turn_after p (changes downgrades) t = passes p
 turn_after p (changes downgrades_to_upgradable) t = is_upgradable p
 turn_after p _ t = t
 
-abbrev pub readers_after : ℕ → Deed Change ListName → List Bool → List Bool
+abbrev pub readers_after : ℕ → Effect Change ListName → List Bool → List Bool
 readers_after p (changes begins_to_read) rs = slice_set rs p true
 readers_after p (changes becomes_upgradable) rs = slice_set rs p true
 readers_after p (changes downgrades) rs = slice_set rs p true
@@ -62,20 +62,20 @@ readers_after p (changes upgrades) rs = slice_set rs p false
 readers_after p (changes upgrades_at_once) rs = slice_set rs p false
 readers_after p _ rs = rs
 
-abbrev pub starved_after : ℕ → Deed Change ListName → List Bool → List Bool
+abbrev pub starved_after : ℕ → Effect Change ListName → List Bool → List Bool
 starved_after p (changes starves) s = slice_set s p true
 starved_after p (changes recovers) s = slice_set s p false
 starved_after p _ s = s
 
-abbrev pub value_after : Deed Change ListName → ℕ → ℕ
+abbrev pub value_after : Effect Change ListName → ℕ → ℕ
 value_after (changes (puts v)) old = v
 value_after _ old = old
 
-abbrev pub state_after : ℕ → Deed Change ListName → State → State
+abbrev pub state_after : ℕ → Effect Change ListName → State → State
 state_after p d s = record { readers = readers_after p d s.readers; turn = turn_after p d s.turn; starved = starved_after p d s.starved; value = value_after d s.value }
 
 -- A list function changes its own list alone.
-abbrev pub entries_after : ℕ → Deed Change ListName → ListName → List (Entry ℕ) → List (Entry ℕ)
+abbrev pub entries_after : ℕ → Effect Change ListName → ListName → List (Entry ℕ) → List (Entry ℕ)
 entries_after p (does for_the_turn f) for_the_turn l = list_after p f l
 entries_after p (does for_no_readers f) for_no_readers l = list_after p f l
 entries_after p (does for_no_writer f) for_no_writer l = list_after p f l
@@ -108,7 +108,7 @@ pub record MayTell (w : World) (p n : ℕ) : Type 0 where
   pub starved : 0 < entries_of p w.turn_list → is_starved w p ≡ true
 
 -- Beside the changes, one notifies one in each list, and not beside one that was notified before: the writer whoever has to tell it, and readers whoever has to tell them or seeks to read.
-abbrev pub IsAllowed : ℕ → Deed Change ListName → World → Type 0
+abbrev pub IsAllowed : ℕ → Effect Change ListName → World → Type 0
 IsAllowed p (changes c) w = May p c w
 IsAllowed p (does for_the_turn (notifies n)) w = MayTell w p n
 IsAllowed p (does for_no_writer (notifies n)) w = (n ≡ 1) × ((has_to_tell for_no_writer w p ≡ true) ⊎ (sought_by w p ≡ Some read))
@@ -117,7 +117,7 @@ IsAllowed p (does list (notifies_additionally n)) w = ⊥
 IsAllowed p _ w = Unit {0}
 
 -- Once its call is decided, a party only gives back: the turn, its starved count, a right, the writer's bit, its entry, a notification.
-abbrev pub gives_back : Deed Change ListName → Bool
+abbrev pub gives_back : Effect Change ListName → Bool
 gives_back nothing = true
 gives_back (changes leaves_turn) = true
 gives_back (changes recovers) = true
@@ -128,7 +128,7 @@ gives_back (changes _) = false
 gives_back (does list f) = is_parting f
 
 -- What gives something up: the turn, a right, the writer's bit, or a place in a list of readers or of the writer without asking there.
-abbrev pub gives_up : Deed Change ListName → Bool
+abbrev pub gives_up : Effect Change ListName → Bool
 gives_up (changes leaves_turn) = true
 gives_up (changes stops_reading) = true
 gives_up (changes stops_upgradable) = true

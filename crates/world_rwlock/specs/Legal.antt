@@ -21,7 +21,7 @@ use Rattle.world_base.specs.Frame.{is_drop, is_giving_back, is_refusal, put_in}
 use Rattle.world_base.specs.Rights.{Right, read, upgradable, write}
 use Rattle.world_base.specs.Rosters.{how_many}
 use Rattle.world_base.specs.Standings.{Standing, outside, inside, forgotten, inputs_of, is_possible, is_decided, decision, refused}
-use Rattle.world_base.specs.Steps.{Deed, nothing, does, joins, leaves, list_after}
+use Rattle.world_base.specs.Steps.{Effect, nothing, does, joins, leaves, list_after}
 use Rattle.world_rwlock.specs.State.{ListName, list_of, Turn, passes, is_upgradable, waits_to_write, writes, World, standing_of, sought_by, reads, how_many_read, is_marked, is_turn_free, HasTurn, entries_in, told_in, is_upgrader, IsClear}
 use Rattle.world_rwlock.specs.Changes.{Change, state_after, entries_after, IsAllowed, gives_back, gives_up}
 use Rattle.world_base.specs.Standings.{IsUndecided}
@@ -70,21 +70,21 @@ IsPossible = frame.IsPossible standing_of knows_of
 
 -- A move changes one thing of the state where it may, or does one list function, never both, and moves no other party. A join has found memory, and what is refused for want of it, or since too many are starved, does nothing else. A party whose call is decided only gives back, and none gives anything up before, but in a call that is for that.
 pub record ChangesOneThing (old : World) (m : Move) (a : Answer) (new : World) : Type 0 where
-  pub deed : Deed Change ListName
-  pub state : new.state ≡ state_after m.party deed old.state
-  pub allowed : IsAllowed m.party deed old
-  pub lists : (list : ListName) → list_of new list ≡ entries_after m.party deed list (list_of old list)
+  pub effect : Effect Change ListName
+  pub state : new.state ≡ state_after m.party effect old.state
+  pub allowed : IsAllowed m.party effect old
+  pub lists : (list : ListName) → list_of new list ≡ entries_after m.party effect list (list_of old list)
   pub starved_limit : new.starved_limit ≡ old.starved_limit
   pub readers_limit : new.readers_limit ≡ old.readers_limit
   pub opening_value : new.opening_value ≡ old.opening_value
   pub sought : new.sought ≡ slice_set old.sought m.party (sought_after (sought_by old m.party) m.what a)
   pub others : (q : ℕ) → q ≢ m.party → standing_of new q ≡ standing_of old q
   pub parties : length new.standings ≡ length old.standings
-  pub found_memory : (list : ListName) → deed ≡ does list joins → (inputs_of m.what).memory ≡ true
-  pub refused_idly : DecidesOn old m a new (refused refusal.Memory) → deed ≡ nothing
-  pub starved_idly : DecidesOn old m a new (refused refusal.Starved) → deed ≡ nothing
-  pub parting : is_decided (standing_of old m.party) || is_drop m.what ≡ true → gives_back deed ≡ true
-  pub giving_up : gives_up deed ≡ true → is_decided (standing_of old m.party) || is_giving_back m.what ≡ true
+  pub found_memory : (list : ListName) → effect ≡ does list joins → (inputs_of m.what).memory ≡ true
+  pub refused_idly : DecidesOn old m a new (refused refusal.Memory) → effect ≡ nothing
+  pub starved_idly : DecidesOn old m a new (refused refusal.Starved) → effect ≡ nothing
+  pub parting : is_decided (standing_of old m.party) || is_drop m.what ≡ true → gives_back effect ≡ true
+  pub giving_up : gives_up effect ≡ true → is_decided (standing_of old m.party) || is_giving_back m.what ≡ true
 
 -- ---- What parties have
 

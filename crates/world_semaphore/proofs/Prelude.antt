@@ -57,7 +57,7 @@ pub use Rattle.world_semaphore.specs.State.{World, available, has_permits, size_
 pub use Rattle.world_semaphore.specs.Steps.{IsSemaphoreTable, Steps, TableSteps, Stands}
 pub use Rattle.world_semaphore.specs.View.{view_of}
 pub use Rattle.world_semaphore.specs.declared.machine.words.Words.{Words}
-pub use Rattle.world_semaphore.specs.machine.Deeds.{Finds, deed_of, words_after, entries_after, weights_after, FindsSo, words, told_by, CanDo, Deed, ListFunction, nothing, changes, does, joins, asks, removes, fits, list_after, takes, gives_back, forgets, raises, gives, share_after, FindsPermits, FindsRoom, Change, gives_something_back, gives_up}
+pub use Rattle.world_semaphore.specs.machine.Effects.{Finds, effect_of, words_after, entries_after, weights_after, FindsSo, words, told_by, CanDo, Effect, ListFunction, nothing, changes, does, joins, asks, removes, fits, list_after, takes, gives_back, forgets, raises, gives, share_after, FindsPermits, FindsRoom, Change, gives_something_back, gives_up}
 pub use Rattle.world_semaphore.specs.machine.Machine.{Semaphore, IsSemaphore, IsAtRest, goes_with, runs, is_begun, position_at, sizes_of, knows, answer_by, IsKept, is_polling, Acts, is_adding, Moves, new_semaphore}
 pub use Rattle.world_semaphore.specs.machine.Program.{action_of, position_after, next_of, place_for, Next}
 pub use Rattle.world_semaphore.specs.machine.Seats.{Share, bit, pays, listed, waits, owes, size_at, debt_at, is_short, verdict, is_resting, Seat, seat_of, seated, permits_of, permits_at, under_way_at, waits_for, fit_if, is_short_at, guard_of, share_of, Debt, a_fit, verdict_of, a_look, nothing_owed, nothing_had}

@@ -16,7 +16,7 @@ use Rattle.world_base.specs.declared.standing.Rest.TheVariants.{Idle, Pending, H
 use Rattle.world_base.specs.Frame.{is_drop}
 use Rattle.world_base.specs.declared.standing.Within.{Within}
 use Rattle.world_base.specs.Standings.{Standing, outside, inside, is_possible, refused, decision}
-use Rattle.world_semaphore.specs.machine.Deeds.{changes, takes, gives_back, forgets, raises, gives}
+use Rattle.world_semaphore.specs.machine.Effects.{changes, takes, gives_back, forgets, raises, gives}
 use Rattle.world_semaphore.specs.machine.Seats.{nothing_owed, a_look, a_fit}
 use Rattle.world_semaphore.specs.State.{World, share_at, has_permits, available, standing_of, size_of, debt_of}
 use Rattle.world_semaphore.specs.Legal.{state_after, added_in, is_forget, wanted}

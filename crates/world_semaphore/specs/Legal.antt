@@ -20,7 +20,7 @@ use Rattle.world_base.specs.Standings.{Standing, outside, inside, inputs_of, is_
 use Rattle.world_base.specs.Frame as frame
 use Rattle.world_base.specs.Frame.{is_drop, is_giving_back, is_refusal}
 use Rattle.world_semaphore.specs.machine.Seats.{nothing_had, guard_of, under_way_of, nothing_owed, a_fit}
-use Rattle.world_semaphore.specs.machine.Deeds.{Deed, changes, does, joins, fits, takes, gives_back, forgets, raises, gives, limit_after, share_after, entries_after, gives_something_back, gives_up}
+use Rattle.world_semaphore.specs.machine.Effects.{Effect, changes, does, joins, fits, takes, gives_back, forgets, raises, gives, limit_after, share_after, entries_after, gives_something_back, gives_up}
 use Rattle.world_semaphore.specs.machine.Machine.{knows}
 use Rattle.world_semaphore.specs.machine.Owing.{Owes}
 use Rattle.world_semaphore.specs.State.{State, World, share_at, available, standing_of, size_of, debt_of, mark_of}
@@ -40,7 +40,7 @@ IsPossible = frame.IsPossible standing_of (λ w p. knows)
 
 -- ---- What changes
 
-abbrev pub state_after : ℕ → Deed → State → State
+abbrev pub state_after : ℕ → Effect → State → State
 state_after p (changes c) s = record { limit = limit_after c s.limit; shares = slice_set s.shares p (share_after c (share_at s p)) }
 state_after p _ s = s
 
@@ -68,7 +68,7 @@ abbrev pub wanted : World → Move → ℕ
 wanted w m = wanted_in m.what (size_of w m.party)
 
 -- Where a change may be made. Permits are taken as many as the call is for, where as many are available; a drop gives back what its party's guard has, and a forget ends it; an add raises the limit if that doesn't pass its greatest value, and gives what it raised it by. Only a party whose call is decided tells others, and of so many permits as it owes to tell of.
-abbrev pub IsAllowed : World → Move → Deed → Type 0
+abbrev pub IsAllowed : World → Move → Effect → Type 0
 IsAllowed w m (changes (takes k)) = (wanted w m ≡ k) × (k ≤ available w.state) × (share_at w.state m.party ≡ nothing_had)
 IsAllowed w m (changes (gives_back k)) = (share_at w.state m.party ≡ guard_of k) × (is_drop m.what ≡ true)
 IsAllowed w m (changes (forgets k)) = (share_at w.state m.party ≡ guard_of k) × (is_forget m.what ≡ true)
@@ -79,17 +79,17 @@ IsAllowed w m _ = Unit {0}
 
 -- A move changes one thing of the state or does one list function, never both, and moves no other party. A join has found memory; a party whose call is decided only gives back, and no other gives anything up.
 pub record ChangesOneThing (old : World) (m : Move) (new : World) : Type 0 where
-  pub deed : Deed
-  pub allowed : IsAllowed old m deed
-  pub state : new.state ≡ state_after m.party deed old.state
-  pub entries : new.entries ≡ entries_after (size_of old) m.party deed old.entries
+  pub effect : Effect
+  pub allowed : IsAllowed old m effect
+  pub state : new.state ≡ state_after m.party effect old.state
+  pub entries : new.entries ≡ entries_after (size_of old) m.party effect old.entries
   pub most : new.most ≡ old.most
   pub opening_permits : new.opening_permits ≡ old.opening_permits
   pub others : (q : ℕ) → q ≢ m.party → standing_of new q ≡ standing_of old q
   pub parties : length new.standings ≡ length old.standings
-  pub found_memory : deed ≡ does joins → (inputs_of m.what).memory ≡ true
-  pub parting : is_decided (standing_of old m.party) || is_giving_back m.what ≡ true → gives_something_back deed ≡ true
-  pub giving_up : gives_up deed ≡ true → is_decided (standing_of old m.party) || is_giving_back m.what ≡ true
+  pub found_memory : effect ≡ does joins → (inputs_of m.what).memory ≡ true
+  pub parting : is_decided (standing_of old m.party) || is_giving_back m.what ≡ true → gives_something_back effect ≡ true
+  pub giving_up : gives_up effect ≡ true → is_decided (standing_of old m.party) || is_giving_back m.what ≡ true
 
 -- For how many permits a party's future, guard or call is after a move: an acquire says it, and it stays so until a drop or a forget.
 abbrev pub size_after : What → Answer → ℕ → ℕ

@@ -1,7 +1,7 @@
 pub mod Program
 pub mod Seats
 pub mod Owing
-pub mod Deeds
+pub mod Effects
 pub mod Carried
 pub mod Tally
 pub mod Machine

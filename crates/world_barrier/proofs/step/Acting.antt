@@ -1,5 +1,5 @@
 -- An action of a party is a legal step, as callers see it.
-use Rattle.world_barrier.proofs.Prelude.{◌≡◌, ◌≢◌, ℕ, ◌<◌, ◌||◌, ◌⊎◌, inl, inr, Bool, true, false, List, length, Option, Some, None, is_some, refl, arith, ap, sym, ◌∙◌, subst, get_or-set_same, get_or-set_other, set, Answer, Inputs, Move, What, Refusal, Rest, Stage, Within, Standing, inside, inputs_of, call_in, is_possible, is_stepped, is_decided, may_end, refused, IsUndecided, is_drop, is_poll_after_ready, is_refusal, number_of, is_on, Deed, nothing, changes, does, some_eq, none_some, stage_at, stands_as, call_at, polls_again, stage_after, Table, call_seen, again_seen, stands_seen, decided_after, decision_seen, Course, Mutex, course_at, Action, Aim, Found, Next, Place, Arrive, Complete, Position, Out, Made, At, Progress, Words, progress, arrivals_at, place_for, action_of, next_of, position_after, words_after, arrival_after, OnLock, fits_lock, in_lock, listed, Wait, wait_at, verdict_of, verdict, Barrier, IsBarrier, Acts, knows, runs, position_at, arrival_at, answer_by, ListName, World, standing_of, wait_of, is_starved, is_held_by, IsClear, verdict_in, view_of, Change, takes, releases, starves, recovers, arrives, lock_after, wait_then, wait_after, call_of, DecidesOn, MayTake, IsAllowed, ChangesOneThing, TellsOnRelease, IsTakenFairly, Carried, Carries, Waits, IsCause, IsRefusedForCause, LeavesClear, EndsProperly, Legal, IsBarrierTable, is_counting, is_releasing}
+use Rattle.world_barrier.proofs.Prelude.{◌≡◌, ◌≢◌, ℕ, ◌<◌, ◌||◌, ◌⊎◌, inl, inr, Bool, true, false, List, length, Option, Some, None, is_some, refl, arith, ap, sym, ◌∙◌, subst, get_or-set_same, get_or-set_other, set, Answer, Inputs, Move, What, Refusal, Rest, Stage, Within, Standing, inside, inputs_of, call_in, is_possible, is_stepped, is_decided, may_end, refused, IsUndecided, is_drop, is_poll_after_ready, is_refusal, number_of, is_on, Effect, nothing, changes, does, some_eq, none_some, stage_at, stands_as, call_at, polls_again, stage_after, Table, call_seen, again_seen, stands_seen, decided_after, decision_seen, Course, Mutex, course_at, Action, Aim, Found, Next, Place, Arrive, Complete, Position, Out, Made, At, Progress, Words, progress, arrivals_at, place_for, action_of, next_of, position_after, words_after, arrival_after, OnLock, fits_lock, in_lock, listed, Wait, wait_at, verdict_of, verdict, Barrier, IsBarrier, Acts, knows, runs, position_at, arrival_at, answer_by, ListName, World, standing_of, wait_of, is_starved, is_held_by, IsClear, verdict_in, view_of, Change, takes, releases, starves, recovers, arrives, lock_after, wait_then, wait_after, call_of, DecidesOn, MayTake, IsAllowed, ChangesOneThing, TellsOnRelease, IsTakenFairly, Carried, Carries, Waits, IsCause, IsRefusedForCause, LeavesClear, EndsProperly, Legal, IsBarrierTable, is_counting, is_releasing}
 use Rattle.world_base.specs.Standings.{decision}
 use Rattle.world_base.proofs.of_table.Acting as acting
 use Rattle.world_barrier.proofs.of_machine.stages.Links.{lock_others}
@@ -13,28 +13,28 @@ use Rattle.world_barrier.proofs.step.Turns.{said}
 use Rattle.world_barrier.proofs.step.Rows.{row}
 use Rattle.world_barrier.proofs.step.Endings.{said_so, possible_by, said_then, ends_by, wait_goes}
 
--- ---- By the deed
+-- ---- By the effect
 
-wait_deed : (d : Deed Change ListName) (k : ℕ) (what : What) (n : Next) (b : Wait) → wait_by d k (answer_by n) (wait_then what Answer.Stepped b) ≡ wait_after d k what (answer_by n) b
-wait_deed (changes arrives) k what n b = refl
-wait_deed (changes _) k what n b = sym (wait_goes what n b)
-wait_deed nothing k what n b = sym (wait_goes what n b)
-wait_deed (does list f) k what n b = sym (wait_goes what n b)
+wait_effect : (d : Effect Change ListName) (k : ℕ) (what : What) (n : Next) (b : Wait) → wait_by d k (answer_by n) (wait_then what Answer.Stepped b) ≡ wait_after d k what (answer_by n) b
+wait_effect (changes arrives) k what n b = refl
+wait_effect (changes _) k what n b = sym (wait_goes what n b)
+wait_effect nothing k what n b = sym (wait_goes what n b)
+wait_effect (does list f) k what n b = sym (wait_goes what n b)
 
 some_party : (p q : ℕ) → Some p ≡ Some q → q ≡ p
 some_party p q e = sym (some_eq e)
 
 module _ (old : World) (m : Move) (new : World) where
-  abbrev Locked : Deed Change ListName → Type 0
+  abbrev Locked : Effect Change ListName → Type 0
   Locked d = new.lock ≡ lock_after m.party d old.lock
 
-  its_holder : (d : Deed Change ListName) → Locked d → new.lock.holder ≡ (lock_after m.party d old.lock).holder
+  its_holder : (d : Effect Change ListName) → Locked d → new.lock.holder ≡ (lock_after m.party d old.lock).holder
   its_holder d e = ap (λ s. s.holder) e
 
-  its_starved : (d : Deed Change ListName) → Locked d → new.lock.starved ≡ (lock_after m.party d old.lock).starved
+  its_starved : (d : Effect Change ListName) → Locked d → new.lock.starved ≡ (lock_after m.party d old.lock).starved
   its_starved d e = ap (λ s. s.starved) e
 
-  fairly : (d : Deed Change ListName) → IsAllowed old m d → Locked d → IsTakenFairly old new
+  fairly : (d : Effect Change ListName) → IsAllowed old m d → Locked d → IsTakenFairly old new
   fairly (changes takes) may e q now before = let P : ℕ → Type 0 = MayTake old in subst P (some_eq (sym (its_holder (changes takes) e) ∙ now)) may
   fairly (changes releases) may e q now before = absurd (none_some (sym (its_holder (changes releases) e) ∙ now))
   fairly (changes starves) may e q now before = absurd (before (sym (its_holder (changes starves) e) ∙ now))
@@ -46,10 +46,10 @@ module _ (old : World) (m : Move) (new : World) where
   abbrev Same : ℕ → Type 0
   Same q = ((new.lock.holder ≡ Some q) → (old.lock.holder ≡ Some q)) × ((old.lock.holder ≡ Some q) → (new.lock.holder ≡ Some q))
 
-  still : (d : Deed Change ListName) (q : ℕ) → new.lock.holder ≡ old.lock.holder → Same q
+  still : (d : Effect Change ListName) (q : ℕ) → new.lock.holder ≡ old.lock.holder → Same q
   still d q e = ((λ h. sym e ∙ h), (λ h. e ∙ h))
 
-  keep_lock : (d : Deed Change ListName) → IsAllowed old m d → Locked d → (q : ℕ) → q ≢ m.party → Same q
+  keep_lock : (d : Effect Change ListName) → IsAllowed old m d → Locked d → (q : ℕ) → q ≢ m.party → Same q
   keep_lock (changes takes) may e q apart = ((λ h. absurd (apart (some_party m.party q (sym (its_holder (changes takes) e) ∙ h)))), (λ h. absurd (none_some (sym may.0 ∙ h))))
   keep_lock (changes releases) may e q apart = ((λ h. absurd (none_some (sym (its_holder (changes releases) e) ∙ h))), (λ h. absurd (apart (some_party m.party q (sym may.0 ∙ h)))))
   keep_lock (changes starves) may e q apart = still (changes starves) q (its_holder (changes starves) e)
@@ -58,7 +58,7 @@ module _ (old : World) (m : Move) (new : World) where
   keep_lock nothing may e q apart = still nothing q (its_holder nothing e)
   keep_lock (does list f) may e q apart = still (does list f) q (its_holder (does list f) e)
 
-  keep_starved : (d : Deed Change ListName) → Locked d → (q : ℕ) → q ≢ m.party → is_starved new.lock q ≡ is_starved old.lock q
+  keep_starved : (d : Effect Change ListName) → Locked d → (q : ℕ) → q ≢ m.party → is_starved new.lock q ≡ is_starved old.lock q
   keep_starved (changes starves) e q apart = ap (λ l. is_on l q) (its_starved (changes starves) e) ∙ get_or-set_other old.lock.starved m.party q true false apart
   keep_starved (changes recovers) e q apart = ap (λ l. is_on l q) (its_starved (changes recovers) e) ∙ get_or-set_other old.lock.starved m.party q false false apart
   keep_starved (changes takes) e q apart = ap (λ l. is_on l q) (its_starved (changes takes) e)
@@ -258,14 +258,14 @@ module _ (t u : Table Barrier) (m : Move) (a : Answer) (w : Within) where
     decided_there : is_decided (standing_of old p) || is_drop m.what ≡ is_some (verdict_of from c)
     decided_there = ap (λ z. is_decided z || is_drop m.what) stood ∙ k.here.decides c
 
-    own_wait : wait_of new p ≡ wait_after r.deed old.arrivals m.what a (wait_of old p)
+    own_wait : wait_of new p ≡ wait_after r.effect old.arrivals m.what a (wait_of old p)
     own_wait =
-        r.wait ∙ (ap (wait_by r.deed old.arrivals (answer_by n)) (sym (k.here.wait num)) ∙ (ap (λ b. wait_by r.deed old.arrivals (answer_by n) (wait_then m.what Answer.Stepped b)) (sym wait_old)
-        ∙ (wait_deed r.deed old.arrivals m.what n (wait_of old p) ∙ ap (λ b. wait_after r.deed old.arrivals m.what b (wait_of old p)) (sym k.answer))))
+        r.wait ∙ (ap (wait_by r.effect old.arrivals (answer_by n)) (sym (k.here.wait num)) ∙ (ap (λ b. wait_by r.effect old.arrivals (answer_by n) (wait_then m.what Answer.Stepped b)) (sym wait_old)
+        ∙ (wait_effect r.effect old.arrivals m.what n (wait_of old p) ∙ ap (λ b. wait_after r.effect old.arrivals m.what b (wait_of old p)) (sym k.answer))))
 
     one_change : ChangesOneThing old m a new
     one_change = record {
-      deed = r.deed;
+      effect = r.effect;
       allowed = r.allowed;
       lock = r.lock;
       arrivals = r.arrivals;
@@ -354,8 +354,8 @@ module _ (t u : Table Barrier) (m : Move) (a : Answer) (w : Within) where
     legal = record {
       possible = acting.possible_so standing_of (λ y q. knows) Rest.Finished old m a new w called is_possible_now;
       one_change = one_change;
-      taken_fairly = fairly old m new r.deed r.allowed r.lock;
-      others_keep = record { lock = keep_lock old m new r.deed r.allowed r.lock; starved = keep_starved old m new r.deed r.lock };
+      taken_fairly = fairly old m new r.effect r.allowed r.lock;
+      others_keep = record { lock = keep_lock old m new r.effect r.allowed r.lock; starved = keep_starved old m new r.effect r.lock };
       tells_on_release = tells_on_release;
       carries = carries;
       waits = waits;

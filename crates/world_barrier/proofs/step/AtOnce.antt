@@ -1,16 +1,16 @@
 -- What the first step of a poll decides at once.
-use Rattle.world_barrier.proofs.Prelude.{◌≡◌, ℕ, ◌+◌, ◌<◌, ◌==◌, ◌&&◌, ◌⊎◌, inl, inr, if◌then◌else◌, Bool, true, false, Option, Some, None, is_none, refl, arith, ap, sym, ◌∙◌, subst, nat_tests, is_marked_at, is_party, entries_of, Answer, Inputs, Move, Call, What, Begin, Within, how_many, Standing, outside, inputs_of, some_eq, none_some, stage_at, stands_as, inside_as, Table, Course, is_waiting, listed_there, LockStep, course_at, holders, starved, out_unlisted, waiting_listed, Aim, Found, Place, EnterLock, WaitLock, Ask, Position, Out, Made, Locking, Waiting, At, Progress, place_for, action_of, next_of, after_lock, Finds, FindsAsk, OnLock, fits_lock, in_lock, listed, verdict, Barrier, position_at, arrival_at, answer_by, World, standing_of, is_free, view_of, TakesAtOnce, AnswersAtOnce, entries_in, is_first_poll, is_later_poll, ◌≢◌, notified, Go, Refusal, Stage, Inside, inside, refused, call_at, End as LockEnd, decision, starved_there as counted, bit, holding_holds, IsLegal, MayDo, may_tell, is_dropping, true≢false, Deed, nothing, changes, does, joins, asks, notifies, notifies_additionally, Ending, TakeLock, ReleaseLock, ReleasingLock, NotifyAll, CancelLock, CancellingLock, CancelLeave, Abandon, after_release, released, knows, refused_by, verdict_of, verdict_until, is_starved}
+use Rattle.world_barrier.proofs.Prelude.{◌≡◌, ℕ, ◌+◌, ◌<◌, ◌==◌, ◌&&◌, ◌⊎◌, inl, inr, if◌then◌else◌, Bool, true, false, Option, Some, None, is_none, refl, arith, ap, sym, ◌∙◌, subst, nat_tests, is_marked_at, is_party, entries_of, Answer, Inputs, Move, Call, What, Begin, Within, how_many, Standing, outside, inputs_of, some_eq, none_some, stage_at, stands_as, inside_as, Table, Course, is_waiting, listed_there, LockStep, course_at, holders, starved, out_unlisted, waiting_listed, Aim, Found, Place, EnterLock, WaitLock, Ask, Position, Out, Made, Locking, Waiting, At, Progress, place_for, action_of, next_of, after_lock, Finds, FindsAsk, OnLock, fits_lock, in_lock, listed, verdict, Barrier, position_at, arrival_at, answer_by, World, standing_of, is_free, view_of, TakesAtOnce, AnswersAtOnce, entries_in, is_first_poll, is_later_poll, ◌≢◌, notified, Go, Refusal, Stage, Inside, inside, refused, call_at, End as LockEnd, decision, starved_there as counted, bit, holding_holds, IsLegal, MayDo, may_tell, is_dropping, true≢false, Effect, nothing, changes, does, joins, asks, notifies, notifies_additionally, Ending, TakeLock, ReleaseLock, ReleasingLock, NotifyAll, CancelLock, CancellingLock, CancelLeave, Abandon, after_release, released, knows, refused_by, verdict_of, verdict_until, is_starved}
 use Rattle.world_base.specs.declared.standing.Rest.TheVariants.{Pending}
 use Rattle.world_mutex.proofs.of_machine.callers.Holders as sees
 use Rattle.world_barrier.proofs.step.Here.{HasEntries, enters_lock}
 use Rattle.world_barrier.proofs.step.Owns.{at_most_once}
 use Rattle.world_barrier.proofs.step.Acting as acting
 use Rattle.world_barrier.proofs.step.Acting.{Acting}
-use Rattle.world_mutex.specs.machine.Deeds.{entries_after as lock_entries_after}
+use Rattle.world_mutex.specs.machine.Effects.{entries_after as lock_entries_after}
 use Rattle.world_base.specs.Frame.{is_drop}
 use Rattle.world_base.specs.Steps.{leaves, list_after}
 use Rattle.world_mutex.specs.machine.Course as course
-use Rattle.world_mutex.specs.machine.Deeds as mutex
+use Rattle.world_mutex.specs.machine.Effects as mutex
 
 -- a free inner lock
 free_by : (h : Option ℕ) (n : ℕ) → is_none h && (n == 0) ≡ true → (h ≡ None) × (n ≡ 0)
@@ -241,17 +241,17 @@ module _ (t u : Table Barrier) (m : Move) (a : Answer) (w : Within) (k : Acting 
   abbrev Quiet : Type 0
   Quiet = (new.lock_list ≡ old.lock_list) ⊎ (new.lock_list ≡ list_after p leaves old.lock_list)
 
-  quiet_deed : (d : Deed mutex.Change mutex.ListName) → mutex.gives_back d ≡ true → MayDo p d t.machine.lock → may_tell c ≡ false → new.lock_list ≡ lock_entries_after p d old.lock_list → Quiet
-  quiet_deed nothing g may h e = inl e
-  quiet_deed (changes x) g may h e = inl e
-  quiet_deed (does mutex.for_the_lock joins) g may h e = absurd (cc g)
-  quiet_deed (does mutex.for_the_lock asks) g may h e = absurd (cc g)
-  quiet_deed (does mutex.for_the_lock leaves) g may h e = inr e
-  quiet_deed (does mutex.for_the_lock (notifies n)) g may h e = absurd (true≢false (sym may.1 ∙ h))
-  quiet_deed (does mutex.for_the_lock (notifies_additionally n)) g may h e = absurd may
+  quiet_effect : (d : Effect mutex.Change mutex.ListName) → mutex.gives_back d ≡ true → MayDo p d t.machine.lock → may_tell c ≡ false → new.lock_list ≡ lock_entries_after p d old.lock_list → Quiet
+  quiet_effect nothing g may h e = inl e
+  quiet_effect (changes x) g may h e = inl e
+  quiet_effect (does mutex.for_the_lock joins) g may h e = absurd (cc g)
+  quiet_effect (does mutex.for_the_lock asks) g may h e = absurd (cc g)
+  quiet_effect (does mutex.for_the_lock leaves) g may h e = inr e
+  quiet_effect (does mutex.for_the_lock (notifies n)) g may h e = absurd (true≢false (sym may.1 ∙ h))
+  quiet_effect (does mutex.for_the_lock (notifies_additionally n)) g may h e = absurd may
 
   quiet_step : (decided : Option LockEnd) (s : LockStep) → IsLegal i.memory p decided s t.machine.lock u.machine.lock → decided ≡ Some LockEnd.GivenBack → may_tell c ≡ false → Quiet
-  quiet_step decided s l is h = quiet_deed l.deed (l.kept LockEnd.GivenBack is).1 l.allowed h l.entries
+  quiet_step decided s l is h = quiet_effect l.effect (l.kept LockEnd.GivenBack is).1 l.allowed h l.entries
 
   quiet_by : (y : Place) (f : Found) → Drops c y → OnLock i p (action_of y) f t.machine.lock u.machine.lock → Quiet
   quiet_by CancelLock (Found.Lock s) d l = quiet_step (Some LockEnd.GivenBack) s l.legal refl (silent c (inl (d.waits refl)))

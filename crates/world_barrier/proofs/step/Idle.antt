@@ -42,7 +42,7 @@ module _ (w : World) (m : Move) (well : Standing_well w) where
 
   still_one : (a : Answer) → wait_then m.what a (wait_of w m.party) ≡ wait_of w m.party → ChangesOneThing w m a w
   still_one a e = record {
-    deed = nothing;
+    effect = nothing;
     allowed = tt;
     lock = refl;
     arrivals = refl;

@@ -1,7 +1,7 @@
 -- What each place's step in the inner lock does, by what it comes to there.
-use Rattle.world_barrier.proofs.Prelude.{◌≡◌, ◌≢◌, ℕ, ◌+◌, ◌||◌, ◌⊎◌, inl, inr, Bool, true, false, List, Option, Some, None, is_some, refl, arith, ap, sym, ◌∙◌, subst, entries_of, Answer, Move, Refusal, Within, is_refusal, refused, Deed, nothing, changes, does, joins, asks, leaves, notifies, notifies_additionally, some_eq, none_some, Table, Course, holds, starved_there, decision, is_holding, is_releasing, Takes, Releases, End, LockStep as Step, holders, starved, holder_of, starved_of, IsLegal, IsReason, decided_then, MayDo, IsPolls, holding_holds, releasing_free, Aim, Ending, Found, Next, Made, Words, arrivals_at, position_after, after_lock, after_cancel, after_release, released, with_lock, Wait, no_wait, wait_for, wait_until, wait_at, refused_by, verdict_until, Barrier, IsBarrier, answer_by, ListName, Lock, Generation, LockState, World, list_in, wait_of, is_held_by, is_starved, Change, takes, releases, lock_after, lock_list_after, gives_back, gives_up, IsAllowed, ◌<◌, IsUndecided, listed_there, may_tell, taking as polling, releasing, undecided, called, counting, has_lock, giving_up, standing_of}
+use Rattle.world_barrier.proofs.Prelude.{◌≡◌, ◌≢◌, ℕ, ◌+◌, ◌||◌, ◌⊎◌, inl, inr, Bool, true, false, List, Option, Some, None, is_some, refl, arith, ap, sym, ◌∙◌, subst, entries_of, Answer, Move, Refusal, Within, is_refusal, refused, Effect, nothing, changes, does, joins, asks, leaves, notifies, notifies_additionally, some_eq, none_some, Table, Course, holds, starved_there, decision, is_holding, is_releasing, Takes, Releases, End, LockStep as Step, holders, starved, holder_of, starved_of, IsLegal, IsReason, decided_then, MayDo, IsPolls, holding_holds, releasing_free, Aim, Ending, Found, Next, Made, Words, arrivals_at, position_after, after_lock, after_cancel, after_release, released, with_lock, Wait, no_wait, wait_for, wait_until, wait_at, refused_by, verdict_until, Barrier, IsBarrier, answer_by, ListName, Lock, Generation, LockState, World, list_in, wait_of, is_held_by, is_starved, Change, takes, releases, lock_after, lock_list_after, gives_back, gives_up, IsAllowed, ◌<◌, IsUndecided, listed_there, may_tell, taking as polling, releasing, undecided, called, counting, has_lock, giving_up, standing_of}
 use Rattle.std.proofs.Math.Bool.{or-true}
-use Rattle.world_mutex.specs.machine.Deeds as mutex
+use Rattle.world_mutex.specs.machine.Effects as mutex
 use Rattle.world_mutex.specs.machine.Mutex.{is_counted}
 use Rattle.world_mutex.proofs.of_machine.callers.Holders as sees
 use Rattle.world_mutex.proofs.of_machine.callers.Rosters.{is_zero}
@@ -9,7 +9,7 @@ use Rattle.lock_program.specs.declared.end.Next.TheVariants as next
 use Rattle.world_barrier.proofs.table.Seen.{its_holder}
 use Rattle.world_barrier.proofs.step.Turns as turns
 use Rattle.world_barrier.proofs.step.Turns.{said}
-use Rattle.world_barrier.proofs.step.Locks.{ends, deed_of, lock_then, entries_then, IsOfLock, is_of_lock, gives_back_so, gives_up_so, joins_so, leaves_none, releasing_unstarved, releasing_unlisted}
+use Rattle.world_barrier.proofs.step.Locks.{ends, effect_of, lock_then, entries_then, IsOfLock, is_of_lock, gives_back_so, gives_up_so, joins_so, leaves_none, releasing_unstarved, releasing_unlisted}
 
 -- ---- what is told by where a step leads
 
@@ -159,14 +159,14 @@ module _ (t u : Table Barrier) (m : Move) (w : Within) (laws : IsBarrier t.machi
   abbrev memory : Bool
   memory = (turns.i t u m w).memory
 
-  -- ---- the deed in the inner lock, as one on the barrier
+  -- ---- the effect in the inner lock, as one on the barrier
 
-  pub record LockDeed (deed : Deed Change ListName) : Type 0 where
-    pub of_lock : IsOfLock deed
-    pub allowed : IsAllowed old m deed
-    pub lock : new.lock ≡ lock_after p deed old.lock
-    pub lock_list : new.lock_list ≡ lock_list_after p deed old.lock_list
-    pub memory : (list : ListName) → deed ≡ does list joins → memory ≡ true
+  pub record LockEffect (effect : Effect Change ListName) : Type 0 where
+    pub of_lock : IsOfLock effect
+    pub allowed : IsAllowed old m effect
+    pub lock : new.lock ≡ lock_after p effect old.lock
+    pub lock_list : new.lock_list ≡ lock_list_after p effect old.lock_list
+    pub memory : (list : ListName) → effect ≡ does list joins → memory ≡ true
 
   is_starved_so : starved_there c ≡ 1 → is_starved old.lock p ≡ true
   is_starved_so h = sees.starved_at t.machine.lock.courses p ∙ sees.is_one (is_counted c) (sees.counted_bit c ∙ h)
@@ -178,7 +178,7 @@ module _ (t u : Table Barrier) (m : Move) (w : Within) (laws : IsBarrier t.machi
   is_unstarved_so : starved_there c ≡ 0 → is_starved old.lock p ≡ false
   is_unstarved_so h = sees.starved_at t.machine.lock.courses p ∙ is_zero (is_counted c) (sees.counted_bit c ∙ h)
 
-  allowed_so : (x : Deed mutex.Change mutex.ListName) → MayDo p x t.machine.lock → (x ≡ changes mutex.releases → IsAllowed old m (changes releases)) → IsAllowed old m (deed_of x)
+  allowed_so : (x : Effect mutex.Change mutex.ListName) → MayDo p x t.machine.lock → (x ≡ changes mutex.releases → IsAllowed old m (changes releases)) → IsAllowed old m (effect_of x)
   allowed_so nothing may r = tt
   allowed_so (changes mutex.takes) may r = may_take may.0 may.1
   allowed_so (changes mutex.releases) may r = r refl
@@ -195,13 +195,13 @@ module _ (t u : Table Barrier) (m : Move) (w : Within) (laws : IsBarrier t.machi
   allowed_so (does mutex.for_the_lock leaves) may r = tt
 
   module _ (decided : Option End) (s : Step) (l : IsLegal memory p decided s t.machine.lock u.machine.lock) where
-    pub lock_deed : (l.deed ≡ changes mutex.releases → IsAllowed old m (changes releases)) → LockDeed (deed_of l.deed)
-    lock_deed r = record {
-      of_lock = is_of_lock l.deed;
-      allowed = allowed_so l.deed l.allowed r;
-      lock = same_state _ _ _ _ l.holder l.starved ∙ lock_then p l.deed (holder_of t.machine.lock) (starved_of t.machine.lock);
-      lock_list = l.entries ∙ entries_then p l.deed t.machine.lock.entries;
-      memory = λ list e. l.found_memory mutex.for_the_lock (joins_so l.deed list e);
+    pub lock_effect : (l.effect ≡ changes mutex.releases → IsAllowed old m (changes releases)) → LockEffect (effect_of l.effect)
+    lock_effect r = record {
+      of_lock = is_of_lock l.effect;
+      allowed = allowed_so l.effect l.allowed r;
+      lock = same_state _ _ _ _ l.holder l.starved ∙ lock_then p l.effect (holder_of t.machine.lock) (starved_of t.machine.lock);
+      lock_list = l.entries ∙ entries_then p l.effect t.machine.lock.entries;
+      memory = λ list e. l.found_memory mutex.for_the_lock (joins_so l.effect list e);
     }
 
   -- a row from it, where nothing else is done
@@ -212,17 +212,17 @@ module _ (t u : Table Barrier) (m : Move) (w : Within) (laws : IsBarrier t.machi
     never_more : new.arrivals ≡ k + 1 → ⊥
     never_more e = let a : new.arrivals ≡ k = same_arrivals in omega arith
 
-    pub record Told (deed : Deed Change ListName) (b : Wait) (v : Option Answer) (n : Next) (starts : Bool) : Type 0 where
+    pub record Told (effect : Effect Change ListName) (b : Wait) (v : Option Answer) (n : Next) (starts : Bool) : Type 0 where
       pub wait : wait_of new p ≡ ends (answer_by n) b
-      pub parting : is_some v ≡ true → gives_back deed ≡ true
-      pub giving_up : gives_up deed ≡ true → is_some v || is_held_by old.lock.holder p ≡ true
+      pub parting : is_some v ≡ true → gives_back effect ≡ true
+      pub giving_up : gives_up effect ≡ true → is_some v || is_held_by old.lock.holder p ≡ true
       pub judged : Judged starts v (said n d)
       pub clear : Clear n
       pub not_over : NotOver n
 
-    pub row_of : (deed : Deed Change ListName) (b : Wait) (v : Option Answer) (n : Next) (starts : Bool) → LockDeed deed → Told deed b v n starts → Row b v n starts
-    row_of deed b v n starts g x = record {
-      deed = deed;
+    pub row_of : (effect : Effect Change ListName) (b : Wait) (v : Option Answer) (n : Next) (starts : Bool) → LockEffect effect → Told effect b v n starts → Row b v n starts
+    row_of effect b v n starts g x = record {
+      effect = effect;
       allowed = g.allowed;
       lock = g.lock;
       arrivals = same_arrivals ∙ sym (g.of_lock.arrivals old.arrivals);
@@ -308,21 +308,21 @@ module _ (t u : Table Barrier) (m : Move) (w : Within) (laws : IsBarrier t.machi
 
     module _ (a : Aim) (starts : Bool) (decided : Option End) (s : Step) (l : IsLegal memory p decided s t.machine.lock u.machine.lock) (polls : IsPolls decided) (leads : Takes s d)
         (got : decided ≡ Some End.Got → holds c ≡ 1) (free : (r : Refusal) → decided ≡ Some (End.Refused r) → holds c ≡ 0) (unheld : decided ≡ None → holds c ≡ 0) where
-      up : (o : Option End) → decided ≡ o → IsPolls o → gives_up (deed_of l.deed) ≡ true → is_some (refused_by o) || is_held_by old.lock.holder p ≡ true
-      up None e q h = let never = l.holds_on e in let is = gives_up_so l.deed in absurd (cc (h, never, is))
+      up : (o : Option End) → decided ≡ o → IsPolls o → gives_up (effect_of l.effect) ≡ true → is_some (refused_by o) || is_held_by old.lock.holder p ≡ true
+      up None e q h = let never = l.holds_on e in let is = gives_up_so l.effect in absurd (cc (h, never, is))
       up (Some End.Got) e q h = ap (λ o. is_held_by o p) (sees.holds_it t.machine.lock.courses p laws.lock.one_holder (got e)) ∙ its_holder p
       up (Some (End.Refused r)) e q h = refl
       up (Some x) e q h = unpolled a starts x q (λ y. cc y) (λ r y. cc y)
 
-      back : (o : Option End) → decided ≡ o → is_some (refused_by o) ≡ true → gives_back (deed_of l.deed) ≡ true
-      back (Some (End.Refused r)) e h = gives_back_so l.deed ∙ (l.kept (End.Refused r) e).1
+      back : (o : Option End) → decided ≡ o → is_some (refused_by o) ≡ true → gives_back (effect_of l.effect) ≡ true
+      back (Some (End.Refused r)) e h = gives_back_so l.effect ∙ (l.kept (End.Refused r) e).1
       back None e h = absurd (cc h)
       back (Some _) e h = absurd (cc h)
 
-      keeps_it : (o : Option End) → decided ≡ o → IsPolls o → l.deed ≡ changes mutex.releases → ⊥
+      keeps_it : (o : Option End) → decided ≡ o → IsPolls o → l.effect ≡ changes mutex.releases → ⊥
       keeps_it None e q h = let never : mutex.gives_up (changes mutex.releases) ≡ false = ap mutex.gives_up (sym h) ∙ l.holds_on e in cc never
       keeps_it (Some End.Got) e q h = let never : mutex.is_release (changes mutex.releases) ≡ false = ap mutex.is_release (sym h) ∙ l.keeps_lock e in cc never
-      keeps_it (Some (End.Refused r)) e q h = let one : holds c ≡ 1 = (let P : Deed mutex.Change mutex.ListName → Type 0 = λ x. MayDo p x t.machine.lock in subst P h l.allowed) in let none = free r e in omega arith
+      keeps_it (Some (End.Refused r)) e q h = let one : holds c ≡ 1 = (let P : Effect mutex.Change mutex.ListName → Type 0 = λ x. MayDo p x t.machine.lock in subst P h l.allowed) in let none = free r e in omega arith
       keeps_it (Some x) e q h = unpolled a starts x q (λ y. cc y) (λ r y. cc y)
 
       waits_still : (z : Step) → z ≡ s → (r : Refusal) → decided_then z d ≡ Some (End.Refused r) → wait_of new p ≡ wait_at (position_after (after_lock a (Found.Lock z))) num → wait_of new p ≡ wait_for a num
@@ -331,7 +331,7 @@ module _ (t u : Table Barrier) (m : Move) (w : Within) (laws : IsBarrier t.machi
 
       pub taking : entries_of p t.machine.entries ≡ 0 → ((r : Refusal) → decided_then s d ≡ Some (End.Refused r) → (starts ≡ false) × (wait_of old p ≡ wait_for a num) × (decided ≡ None → IsUndecided (standing_of old p)))
           → wait_of new p ≡ wait_at (position_after (after_lock a (Found.Lock s))) num → Row (wait_for a num) (refused_by decided) (after_lock a (Found.Lock s)) starts
-      taking none refusable after = row_of (deed_of l.deed) (wait_for a num) (refused_by decided) (after_lock a (Found.Lock s)) starts (lock_deed decided s l (λ e. absurd (keeps_it decided refl polls e))) (record {
+      taking none refusable after = row_of (effect_of l.effect) (wait_for a num) (refused_by decided) (after_lock a (Found.Lock s)) starts (lock_effect decided s l (λ e. absurd (keeps_it decided refl polls e))) (record {
         wait = after ∙ taken_wait a s num;
         parting = back decided refl;
         giving_up = up decided refl polls;
@@ -348,22 +348,22 @@ module _ (t u : Table Barrier) (m : Move) (w : Within) (laws : IsBarrier t.machi
 
     pub cancelling : (starts : Bool) (s : Step) (l : IsLegal memory p (Some End.GivenBack) s t.machine.lock u.machine.lock) → holds c ≡ 0
         → wait_of new p ≡ wait_at (position_after (after_cancel (Found.Lock s))) num → Row no_wait (Some Answer.GivenBack) (after_cancel (Found.Lock s)) starts
-    cancelling starts s l none after = row_of (deed_of l.deed) no_wait (Some Answer.GivenBack) (after_cancel (Found.Lock s)) starts (lock_deed (Some End.GivenBack) s l unheld) (record {
+    cancelling starts s l none after = row_of (effect_of l.effect) no_wait (Some Answer.GivenBack) (after_cancel (Found.Lock s)) starts (lock_effect (Some End.GivenBack) s l unheld) (record {
       wait = after ∙ cancel_wait s num;
-      parting = λ h. gives_back_so l.deed ∙ (l.kept End.GivenBack refl).1;
+      parting = λ h. gives_back_so l.effect ∙ (l.kept End.GivenBack refl).1;
       giving_up = λ h. refl;
       judged = cancel_said s d;
       clear = cancel_clear s;
       not_over = cancel_over s;
     }) where
-      unheld : l.deed ≡ changes mutex.releases → IsAllowed old m (changes releases)
-      unheld h = let one : holds c ≡ 1 = (let P : Deed mutex.Change mutex.ListName → Type 0 = λ x. MayDo p x t.machine.lock in subst P h l.allowed) in absurd (omega arith)
+      unheld : l.effect ≡ changes mutex.releases → IsAllowed old m (changes releases)
+      unheld h = let one : holds c ≡ 1 = (let P : Effect mutex.Change mutex.ListName → Type 0 = λ x. MayDo p x t.machine.lock in subst P h l.allowed) in absurd (omega arith)
 
     -- ---- the release of the inner lock
 
-    pub releasing_on : (e : Ending) (starts : Bool) (s : Step) (deed : Deed Change ListName) → LockDeed deed → gives_back deed ≡ true → (gives_up deed ≡ true → is_held_by old.lock.holder p ≡ true)
+    pub releasing_on : (e : Ending) (starts : Bool) (s : Step) (effect : Effect Change ListName) → LockEffect effect → gives_back effect ≡ true → (gives_up effect ≡ true → is_held_by old.lock.holder p ≡ true)
         → wait_of new p ≡ wait_at (position_after (after_release e (Found.Lock s))) num → Row (wait_until e num) (verdict_until e) (after_release e (Found.Lock s)) starts
-    releasing_on e starts s deed g backs ups after = row_of deed (wait_until e num) (verdict_until e) (after_release e (Found.Lock s)) starts g (record {
+    releasing_on e starts s effect g backs ups after = row_of effect (wait_until e num) (verdict_until e) (after_release e (Found.Lock s)) starts g (record {
       wait = after ∙ release_wait e s num;
       parting = λ h. backs;
       giving_up = λ h. ap (λ b. is_some (verdict_until e) || b) (ups h) ∙ or-true (is_some (verdict_until e));
@@ -379,7 +379,7 @@ module _ (t u : Table Barrier) (m : Move) (w : Within) (laws : IsBarrier t.machi
       kept (Ending.RefuseMemory b) = refl
 
   -- it begins with the release itself
-  must_release : (x : Deed mutex.Change mutex.ListName) → new.lock.holder ≡ mutex.holder_after p x (Some p) → (new.lock.holder ≡ Some p → ⊥) → x ≡ changes mutex.releases
+  must_release : (x : Effect mutex.Change mutex.ListName) → new.lock.holder ≡ mutex.holder_after p x (Some p) → (new.lock.holder ≡ Some p → ⊥) → x ≡ changes mutex.releases
   must_release (changes mutex.releases) e f = refl
   must_release nothing e f = absurd (f e)
   must_release (changes mutex.takes) e f = absurd (f e)
@@ -395,24 +395,24 @@ module _ (t u : Table Barrier) (m : Move) (w : Within) (laws : IsBarrier t.machi
   -- and once it is released, what is left is to notify
   module _ (s : Step) (l : IsLegal memory p (Some End.GivenBack) s t.machine.lock u.machine.lock) (out_of : is_releasing c ≡ true) where
     pub record Parting : Type 0 where
-      pub deed : Deed Change ListName
-      pub of : LockDeed deed
-      pub backs : gives_back deed ≡ true
-      pub keeps : gives_up deed ≡ false
+      pub effect : Effect Change ListName
+      pub of : LockEffect effect
+      pub backs : gives_back effect ≡ true
+      pub keeps : gives_up effect ≡ false
 
-    may_do : (x : Deed mutex.Change mutex.ListName) → l.deed ≡ x → MayDo p x t.machine.lock
-    may_do x e = let P : Deed mutex.Change mutex.ListName → Type 0 = λ y. MayDo p y t.machine.lock in subst P e l.allowed
+    may_do : (x : Effect mutex.Change mutex.ListName) → l.effect ≡ x → MayDo p x t.machine.lock
+    may_do x e = let P : Effect mutex.Change mutex.ListName → Type 0 = λ y. MayDo p y t.machine.lock in subst P e l.allowed
 
-    unheld : l.deed ≡ changes mutex.releases → IsAllowed old m (changes releases)
+    unheld : l.effect ≡ changes mutex.releases → IsAllowed old m (changes releases)
     unheld e = let one : holds c ≡ 1 = may_do (changes mutex.releases) e in let none = releasing_free c out_of in absurd (omega arith)
 
-    lifted : (x : Deed mutex.Change mutex.ListName) → l.deed ≡ x → LockDeed (deed_of x)
-    lifted x e = let P : Deed mutex.Change mutex.ListName → Type 0 = λ y. LockDeed (deed_of y) in subst P e (lock_deed (Some End.GivenBack) s l unheld)
+    lifted : (x : Effect mutex.Change mutex.ListName) → l.effect ≡ x → LockEffect (effect_of x)
+    lifted x e = let P : Effect mutex.Change mutex.ListName → Type 0 = λ y. LockEffect (effect_of y) in subst P e (lock_effect (Some End.GivenBack) s l unheld)
 
-    backs_so : (x : Deed mutex.Change mutex.ListName) → l.deed ≡ x → mutex.gives_back x ≡ true
+    backs_so : (x : Effect mutex.Change mutex.ListName) → l.effect ≡ x → mutex.gives_back x ≡ true
     backs_so x e = ap mutex.gives_back (sym e) ∙ (l.kept End.GivenBack refl).1
 
-    leaves_nothing : l.deed ≡ does mutex.for_the_lock leaves → LockDeed nothing
+    leaves_nothing : l.effect ≡ does mutex.for_the_lock leaves → LockEffect nothing
     leaves_nothing e = record {
       of_lock = is_of_lock nothing;
       allowed = tt;
@@ -421,30 +421,30 @@ module _ (t u : Table Barrier) (m : Move) (w : Within) (laws : IsBarrier t.machi
       memory = λ list h. absurd (cc h);
     }
 
-    parted : (x : Deed mutex.Change mutex.ListName) → l.deed ≡ x → Parting
-    parted nothing e = record { deed = nothing; of = lifted nothing e; backs = refl; keeps = refl }
+    parted : (x : Effect mutex.Change mutex.ListName) → l.effect ≡ x → Parting
+    parted nothing e = record { effect = nothing; of = lifted nothing e; backs = refl; keeps = refl }
     parted (changes mutex.takes) e = let no = backs_so (changes mutex.takes) e in absurd (cc no)
     parted (changes mutex.releases) e = let one : holds c ≡ 1 = may_do (changes mutex.releases) e in let none = releasing_free c out_of in absurd (omega arith)
     parted (changes mutex.starves) e = let no = backs_so (changes mutex.starves) e in absurd (cc no)
     parted (changes mutex.recovers) e = let one : starved_there c ≡ 1 = may_do (changes mutex.recovers) e in let none = releasing_unstarved c out_of in absurd (omega arith)
     parted (does mutex.for_the_lock joins) e = let no = backs_so (does mutex.for_the_lock joins) e in absurd (cc no)
     parted (does mutex.for_the_lock asks) e = let no = backs_so (does mutex.for_the_lock asks) e in absurd (cc no)
-    parted (does mutex.for_the_lock leaves) e = record { deed = nothing; of = leaves_nothing e; backs = refl; keeps = refl }
-    parted (does mutex.for_the_lock (notifies n)) e = record { deed = does Lock (notifies n); of = lifted (does mutex.for_the_lock (notifies n)) e; backs = refl; keeps = refl }
-    parted (does mutex.for_the_lock (notifies_additionally n)) e = record { deed = does Lock (notifies_additionally n); of = lifted (does mutex.for_the_lock (notifies_additionally n)) e; backs = refl; keeps = refl }
+    parted (does mutex.for_the_lock leaves) e = record { effect = nothing; of = leaves_nothing e; backs = refl; keeps = refl }
+    parted (does mutex.for_the_lock (notifies n)) e = record { effect = does Lock (notifies n); of = lifted (does mutex.for_the_lock (notifies n)) e; backs = refl; keeps = refl }
+    parted (does mutex.for_the_lock (notifies_additionally n)) e = record { effect = does Lock (notifies_additionally n); of = lifted (does mutex.for_the_lock (notifies_additionally n)) e; backs = refl; keeps = refl }
 
     pub parting : Parting
-    parting = parted l.deed refl
+    parting = parted l.effect refl
 
   module _ (still : u.machine.words ≡ t.machine.words) (unlisted : u.machine.entries ≡ t.machine.entries) (e : Ending) (starts : Bool) (s : Step) (l : IsLegal memory p (Some End.GivenBack) s t.machine.lock u.machine.lock)
       (after : wait_of new p ≡ wait_at (position_after (after_release e (Found.Lock s))) num) where
     pub releasing_row : is_releasing c ≡ true → Row (wait_until e num) (verdict_until e) (after_release e (Found.Lock s)) starts
-    releasing_row r = let x = parting s l r in releasing_on still unlisted e starts s x.deed x.of x.backs (λ h. absurd (cc (h, x.keeps))) after
+    releasing_row r = let x = parting s l r in releasing_on still unlisted e starts s x.effect x.of x.backs (λ h. absurd (cc (h, x.keeps))) after
 
     pub release_row : is_holding c ≡ true → Releases s d → ((old.lock.holder ≡ Some p) → IsAllowed old m (changes releases)) → Row (wait_until e num) (verdict_until e) (after_release e (Found.Lock s)) starts
     release_row held leads may =
         let has : old.lock.holder ≡ Some p = sees.holds_it t.machine.lock.courses p laws.lock.one_holder (holding_holds c held) in
         let free : new.lock.holder ≡ Some p → ⊥ = (λ h. (let one = sees.is_held_by u.machine.lock.courses p h in let none = left_free s leads in omega arith)) in
-        let is : l.deed ≡ changes mutex.releases = must_release l.deed (l.holder ∙ ap (mutex.holder_after p l.deed) has) free in
-        let P : Deed mutex.Change mutex.ListName → Type 0 = λ y. LockDeed (deed_of y) in
-        releasing_on still unlisted e starts s (changes releases) (subst P is (lock_deed (Some End.GivenBack) s l (λ h. may has))) refl (λ h. ap (λ o. is_held_by o p) has ∙ its_holder p) after
+        let is : l.effect ≡ changes mutex.releases = must_release l.effect (l.holder ∙ ap (mutex.holder_after p l.effect) has) free in
+        let P : Effect mutex.Change mutex.ListName → Type 0 = λ y. LockEffect (effect_of y) in
+        releasing_on still unlisted e starts s (changes releases) (subst P is (lock_effect (Some End.GivenBack) s l (λ h. may has))) refl (λ h. ap (λ o. is_held_by o p) has ∙ its_holder p) after

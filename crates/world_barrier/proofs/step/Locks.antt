@@ -1,18 +1,18 @@
--- A step in the inner lock, as a deed on the barrier.
-use Rattle.world_barrier.proofs.Prelude.{◌≡◌, ℕ, ◌+◌, Bool, true, List, [], ◌∷◌, Option, Some, None, refl, arith, sym, Entry, mark_at, without, nat_tests, is_party, entries_of, Answer, Refusal, Deed, nothing, changes, does, joins, asks, leaves, notifies, notifies_additionally, list_after, some_eq, none_some, Course, out, holding, waiting, taking, releasing, cancelling, undecided, called, counting, has_lock, giving_up, holds, starved_there, listed_there, decision, is_out, is_holding, is_waiting, is_taking, is_releasing, is_cancelling, ListName, Lock, Wait, no_wait, counted, LockState, Change, takes, releases, starves, recovers, arrives, lock_after, arrivals_after, lock_list_after, generation_list_after, gives_back, gives_up}
+-- A step in the inner lock, as an effect on the barrier.
+use Rattle.world_barrier.proofs.Prelude.{◌≡◌, ℕ, ◌+◌, Bool, true, List, [], ◌∷◌, Option, Some, None, refl, arith, sym, Entry, mark_at, without, nat_tests, is_party, entries_of, Answer, Refusal, Effect, nothing, changes, does, joins, asks, leaves, notifies, notifies_additionally, list_after, some_eq, none_some, Course, out, holding, waiting, taking, releasing, cancelling, undecided, called, counting, has_lock, giving_up, holds, starved_there, listed_there, decision, is_out, is_holding, is_waiting, is_taking, is_releasing, is_cancelling, ListName, Lock, Wait, no_wait, counted, LockState, Change, takes, releases, starves, recovers, arrives, lock_after, arrivals_after, lock_list_after, generation_list_after, gives_back, gives_up}
 use Rattle.lock_program.specs.declared.end.End.TheVariants.{Got, Pending, Refused}
-use Rattle.world_mutex.specs.machine.Deeds as mutex
+use Rattle.world_mutex.specs.machine.Effects as mutex
 
--- the deed on the inner lock is one on the barrier
-abbrev pub deed_of : Deed mutex.Change mutex.ListName → Deed Change ListName
-deed_of nothing = nothing
-deed_of (changes mutex.takes) = changes takes
-deed_of (changes mutex.releases) = changes releases
-deed_of (changes mutex.starves) = changes starves
-deed_of (changes mutex.recovers) = changes recovers
-deed_of (does mutex.for_the_lock f) = does Lock f
+-- the effect on the inner lock is one on the barrier
+abbrev pub effect_of : Effect mutex.Change mutex.ListName → Effect Change ListName
+effect_of nothing = nothing
+effect_of (changes mutex.takes) = changes takes
+effect_of (changes mutex.releases) = changes releases
+effect_of (changes mutex.starves) = changes starves
+effect_of (changes mutex.recovers) = changes recovers
+effect_of (does mutex.for_the_lock f) = does Lock f
 
-pub lock_then : (p : ℕ) (d : Deed mutex.Change mutex.ListName) (h : Option ℕ) (s : List Bool) → Path LockState (record { holder = mutex.holder_after p d h; starved = mutex.starved_after p d s }) (lock_after p (deed_of d) (record { holder = h; starved = s }))
+pub lock_then : (p : ℕ) (d : Effect mutex.Change mutex.ListName) (h : Option ℕ) (s : List Bool) → Path LockState (record { holder = mutex.holder_after p d h; starved = mutex.starved_after p d s }) (lock_after p (effect_of d) (record { holder = h; starved = s }))
 lock_then p nothing h s = refl
 lock_then p (changes mutex.takes) h s = refl
 lock_then p (changes mutex.releases) h s = refl
@@ -20,7 +20,7 @@ lock_then p (changes mutex.starves) h s = refl
 lock_then p (changes mutex.recovers) h s = refl
 lock_then p (does mutex.for_the_lock f) h s = refl
 
-pub entries_then : (p : ℕ) (d : Deed mutex.Change mutex.ListName) (l : List (Entry ℕ)) → mutex.entries_after p d l ≡ lock_list_after p (deed_of d) l
+pub entries_then : (p : ℕ) (d : Effect mutex.Change mutex.ListName) (l : List (Entry ℕ)) → mutex.entries_after p d l ≡ lock_list_after p (effect_of d) l
 entries_then p nothing l = refl
 entries_then p (changes mutex.takes) l = refl
 entries_then p (changes mutex.releases) l = refl
@@ -33,17 +33,17 @@ abbrev pub ends : Answer → Wait → Wait
 ends (Answer.Ready g) b = no_wait
 ends a b = b
 
-abbrev pub wait_by : Deed Change ListName → ℕ → Answer → Wait → Wait
+abbrev pub wait_by : Effect Change ListName → ℕ → Answer → Wait → Wait
 wait_by (changes arrives) k a b = counted (k + 1)
 wait_by _ k a b = ends a b
 
 -- it does nothing else
-pub record IsOfLock (d : Deed Change ListName) : Type 0 where
+pub record IsOfLock (d : Effect Change ListName) : Type 0 where
   pub list : (p : ℕ) (l : List (Entry ℕ)) → generation_list_after p d l ≡ l
   pub arrivals : (k : ℕ) → arrivals_after d k ≡ k
   pub ends : (k : ℕ) (a : Answer) (b : Wait) → wait_by d k a b ≡ ends a b
 
-pub is_of_lock : (d : Deed mutex.Change mutex.ListName) → IsOfLock (deed_of d)
+pub is_of_lock : (d : Effect mutex.Change mutex.ListName) → IsOfLock (effect_of d)
 is_of_lock nothing = record { list = λ p l. refl; arrivals = λ k. refl; ends = λ k a b. refl }
 is_of_lock (changes mutex.takes) = record { list = λ p l. refl; arrivals = λ k. refl; ends = λ k a b. refl }
 is_of_lock (changes mutex.releases) = record { list = λ p l. refl; arrivals = λ k. refl; ends = λ k a b. refl }
@@ -51,7 +51,7 @@ is_of_lock (changes mutex.starves) = record { list = λ p l. refl; arrivals = λ
 is_of_lock (changes mutex.recovers) = record { list = λ p l. refl; arrivals = λ k. refl; ends = λ k a b. refl }
 is_of_lock (does mutex.for_the_lock f) = record { list = λ p l. refl; arrivals = λ k. refl; ends = λ k a b. refl }
 
-pub gives_back_so : (d : Deed mutex.Change mutex.ListName) → gives_back (deed_of d) ≡ mutex.gives_back d
+pub gives_back_so : (d : Effect mutex.Change mutex.ListName) → gives_back (effect_of d) ≡ mutex.gives_back d
 gives_back_so nothing = refl
 gives_back_so (changes mutex.takes) = refl
 gives_back_so (changes mutex.releases) = refl
@@ -59,7 +59,7 @@ gives_back_so (changes mutex.starves) = refl
 gives_back_so (changes mutex.recovers) = refl
 gives_back_so (does mutex.for_the_lock f) = refl
 
-pub gives_up_so : (d : Deed mutex.Change mutex.ListName) → gives_up (deed_of d) ≡ mutex.gives_up d
+pub gives_up_so : (d : Effect mutex.Change mutex.ListName) → gives_up (effect_of d) ≡ mutex.gives_up d
 gives_up_so nothing = refl
 gives_up_so (changes mutex.takes) = refl
 gives_up_so (changes mutex.releases) = refl
@@ -71,7 +71,7 @@ gives_up_so (does mutex.for_the_lock leaves) = refl
 gives_up_so (does mutex.for_the_lock (notifies n)) = refl
 gives_up_so (does mutex.for_the_lock (notifies_additionally n)) = refl
 
-pub joins_so : (d : Deed mutex.Change mutex.ListName) (list : ListName) → deed_of d ≡ does list joins → d ≡ does mutex.for_the_lock joins
+pub joins_so : (d : Effect mutex.Change mutex.ListName) (list : ListName) → effect_of d ≡ does list joins → d ≡ does mutex.for_the_lock joins
 joins_so nothing list e = absurd (cc e)
 joins_so (changes mutex.takes) list e = absurd (cc e)
 joins_so (changes mutex.releases) list e = absurd (cc e)

@@ -1,5 +1,5 @@
 -- What each place's action does that is no step in the inner lock, finding by finding.
-use Rattle.world_barrier.proofs.Prelude.{◌≡◌, ℕ, ◌+◌, ◌≤◌, inl, inr, true, false, List, Some, None, refl, arith, ap, sym, ◌∙◌, subst, Entry, is_marked_at, mark_at, is_party, entries_of, Answer, Got, Move, Refusal, Within, nothing, changes, does, joins, asks, leaves, notifies, list_after, Table, is_holding, Mutex, holder_of, starved_of, holding_holds, holding_unlisted, Found, Place, Look, Join, Arrive, Complete, NotifyAll, Check, JoinAgain, Ask, CancelLeave, Abandon, Progress, Words, arrivals_at, everyone, Wait, uncounted, counted, Barrier, IsBarrier, ListName, Lock, Generation, Leads, generations_of, LockState, World, list_in, wait_of, told_in, arrives, HasToWait, IsAnswered, IsAsBefore, ◌||◌, Bool, Option, is_some, Deed, Course, lock_after, lock_list_after, arrivals_after, generation_list_after, gives_back, gives_up, is_refusal, answer_by, next_of, place_wait, verdict_of, Change, true≢false, false≢true, inputs_of, is_held_by, IsAllowed, ◌≢◌, refused}
+use Rattle.world_barrier.proofs.Prelude.{◌≡◌, ℕ, ◌+◌, ◌≤◌, inl, inr, true, false, List, Some, None, refl, arith, ap, sym, ◌∙◌, subst, Entry, is_marked_at, mark_at, is_party, entries_of, Answer, Got, Move, Refusal, Within, nothing, changes, does, joins, asks, leaves, notifies, list_after, Table, is_holding, Mutex, holder_of, starved_of, holding_holds, holding_unlisted, Found, Place, Look, Join, Arrive, Complete, NotifyAll, Check, JoinAgain, Ask, CancelLeave, Abandon, Progress, Words, arrivals_at, everyone, Wait, uncounted, counted, Barrier, IsBarrier, ListName, Lock, Generation, Leads, generations_of, LockState, World, list_in, wait_of, told_in, arrives, HasToWait, IsAnswered, IsAsBefore, ◌||◌, Bool, Option, is_some, Effect, Course, lock_after, lock_list_after, arrivals_after, generation_list_after, gives_back, gives_up, is_refusal, answer_by, next_of, place_wait, verdict_of, Change, true≢false, false≢true, inputs_of, is_held_by, IsAllowed, ◌≢◌, refused}
 use Rattle.lock_event.specs.declared.event.Mark.TheVariants.{Waiting as Waits_unmarked}
 use Rattle.world_base.proofs.of_queue.Told.{waits_at}
 use Rattle.world_mutex.proofs.of_machine.callers.Holders as sees
@@ -125,7 +125,7 @@ module _ (t u : Table Barrier) (m : Move) (w : Within) (laws : IsBarrier t.machi
   implied false b h e = absurd (false≢true e)
 
   -- A step that leaves the inner lock and the count alone makes at most one call of the generation's list.
-  abbrev on_list : Option ListFunction → Deed Change ListName
+  abbrev on_list : Option ListFunction → Effect Change ListName
   on_list None = nothing
   on_list (Some g) = does Generation g
 
@@ -152,7 +152,7 @@ module _ (t u : Table Barrier) (m : Move) (w : Within) (laws : IsBarrier t.machi
   -- A decided call only gives back, only a decided call gives up, and no call is refused before the lock is released.
   beside : (o : Option ListFunction) (y : Place) (f : Found) → u.machine.lock ≡ t.machine.lock → u.machine.words ≡ words → not (is_some (verdict_of y c)) || gives_back (on_list o) ≡ true → not (gives_up (on_list o)) || is_some (verdict_of y c) ≡ true → is_refusal (answer_by (next_of y f)) ≡ false → answer_by (next_of y f) ≢ refused Refusal.Finished → Beside o y f → RowAt y f
   beside o y f lock still back up unrefused over b = record {
-    deed = on_list o;
+    effect = on_list o;
     allowed = b.allowed;
     lock = same_lock lock ∙ sym (lock_alone o old.lock);
     arrivals = same_arrivals lock still ∙ sym (arrivals_alone o old.arrivals);
@@ -218,7 +218,7 @@ module _ (t u : Table Barrier) (m : Move) (w : Within) (laws : IsBarrier t.machi
 
   pub arrive : Known Arrive Found.Done → RowAt Arrive Found.Done
   arrive x = record {
-    deed = changes arrives;
+    effect = changes arrives;
     allowed = record {
       holds = its_lock x.link;
       uncounted = x.before refl;
@@ -241,7 +241,7 @@ module _ (t u : Table Barrier) (m : Move) (w : Within) (laws : IsBarrier t.machi
 
   pub complete : Known Complete Found.Done → RowAt Complete Found.Done
   complete x = record {
-    deed = changes arrives;
+    effect = changes arrives;
     allowed = record {
       holds = its_lock x.link;
       uncounted = x.before refl;

@@ -1,6 +1,6 @@
 -- Whoever releases the inner lock goes on, and tells one by its next step.
-use Rattle.world_barrier.proofs.Prelude.{◌≡◌, ℕ, ◌≤◌, true, false, Some, refl, arith, ap, ◌∙◌, subst, notified, Answer, Inputs, Deed, nothing, changes, does, End, LockStep as Step, Refusal, IsLegal, Course, waiting, taking, has_lock, holds, decision, is_taking, is_releasing, Takes, Releases, Cancels, Mutex, course_at, holders, holder_of, out_free, waiting_free, releasing_free, holding_holds, Found, Place, EnterLock, WaitLock, TakeLock, ReleaseLock, ReleasingLock, Ask, CancelLock, CancellingLock, CancelLeave, Abandon, At, action_of, next_of, after_release, OnLock, answer_by, fits_lock, in_lock}
-use Rattle.world_mutex.specs.machine.Deeds as mutex
+use Rattle.world_barrier.proofs.Prelude.{◌≡◌, ℕ, ◌≤◌, true, false, Some, refl, arith, ap, ◌∙◌, subst, notified, Answer, Inputs, Effect, nothing, changes, does, End, LockStep as Step, Refusal, IsLegal, Course, waiting, taking, has_lock, holds, decision, is_taking, is_releasing, Takes, Releases, Cancels, Mutex, course_at, holders, holder_of, out_free, waiting_free, releasing_free, holding_holds, Found, Place, EnterLock, WaitLock, TakeLock, ReleaseLock, ReleasingLock, Ask, CancelLock, CancellingLock, CancelLeave, Abandon, At, action_of, next_of, after_release, OnLock, answer_by, fits_lock, in_lock}
+use Rattle.world_mutex.specs.machine.Effects as mutex
 use Rattle.world_mutex.proofs.of_machine.callers.Holders as sees
 use Rattle.world_barrier.proofs.step.Locks.{cancelling_free, out_quiet, waiting_quiet, holding_quiet, taking_quiet, cancelling_quiet}
 
@@ -44,7 +44,7 @@ module _ (i : Inputs) (p : ℕ) (l k : Mutex) (one : holders l ≤ 1) where
   holds_not none has = let some = sees.is_held_by l.courses p has in absurd (omega (arith, none, some))
 
   -- who got the lock in a poll keeps it
-  kept_by : (x : Deed mutex.Change mutex.ListName) → mutex.is_release x ≡ false → mutex.holder_after p x (Some p) ≡ Some p
+  kept_by : (x : Effect mutex.Change mutex.ListName) → mutex.is_release x ≡ false → mutex.holder_after p x (Some p) ≡ Some p
   kept_by nothing h = refl
   kept_by (changes mutex.takes) h = refl
   kept_by (changes mutex.releases) h = absurd (cc h)
@@ -53,7 +53,7 @@ module _ (i : Inputs) (p : ℕ) (l k : Mutex) (one : holders l ≤ 1) where
   kept_by (does list f) h = refl
 
   keeps : (s : Step) → IsLegal i.memory p (decision c) s l k → is_taking c ≡ true → Held l → Held k
-  keeps s g polls has = g.holder ∙ (ap (mutex.holder_after p g.deed) has ∙ kept_by g.deed (g.keeps_lock (has_lock_decided c polls (sees.is_held_by l.courses p has))))
+  keeps s g polls has = g.holder ∙ (ap (mutex.holder_after p g.effect) has ∙ kept_by g.effect (g.keeps_lock (has_lock_decided c polls (sees.is_held_by l.courses p has))))
 
   -- a step that releases the lock goes on
   pub released_by : (y : Place) (f : Found) → Fits y → On y f → Held l → (Held k → ⊥) → (answer_by (next_of y f) ≡ Answer.Stepped) × (is_releasing d ≡ true)

@@ -1,5 +1,5 @@
 -- What a step is to show at its place, and what is known of it.
-use Rattle.world_barrier.proofs.Prelude.{◌≡◌, ◌≢◌, ℕ, ◌+◌, ◌||◌, ◌⊎◌, Bool, true, false, Option, Some, None, is_some, entries_of, Answer, Got, Inputs, Move, Refusal, Within, is_drop, is_refusal, number_of, inside, inputs_of, refused, Deed, does, joins, answer_of, Table, Course, course_at, Aim, Found, Next, Place, Made, At, Progress, Words, arrivals_at, IsFollower, action_of, next_of, position_after, got_left, Finds, words_after, arrival_after, entries_after, OnLock, fits_lock, in_lock, listed, follows, Sure, HasOutcome, Wait, wait_at, place_wait, verdict_of, Barrier, arrival_at, answer_by, ListName, Lock, Generation, Leads, World, standing_of, wait_of, is_held_by, told_in, view_of, Change, lock_after, arrivals_after, lock_list_after, generation_list_after, gives_back, gives_up, IsAllowed, IsCounted, IsCause, Carried, is_counting}
+use Rattle.world_barrier.proofs.Prelude.{◌≡◌, ◌≢◌, ℕ, ◌+◌, ◌||◌, ◌⊎◌, Bool, true, false, Option, Some, None, is_some, entries_of, Answer, Got, Inputs, Move, Refusal, Within, is_drop, is_refusal, number_of, inside, inputs_of, refused, Effect, does, joins, answer_of, Table, Course, course_at, Aim, Found, Next, Place, Made, At, Progress, Words, arrivals_at, IsFollower, action_of, next_of, position_after, got_left, Finds, words_after, arrival_after, entries_after, OnLock, fits_lock, in_lock, listed, follows, Sure, HasOutcome, Wait, wait_at, place_wait, verdict_of, Barrier, arrival_at, answer_by, ListName, Lock, Generation, Leads, World, standing_of, wait_of, is_held_by, told_in, view_of, Change, lock_after, arrivals_after, lock_list_after, generation_list_after, gives_back, gives_up, IsAllowed, IsCounted, IsCause, Carried, is_counting}
 use Rattle.lock_event.specs.declared.event.Mark.TheVariants.{Waiting}
 use Rattle.lock_program.specs.declared.end.Next.TheVariants as next
 use Rattle.world_barrier.proofs.step.Here.{may_begin_at, changes_wait, only_drops}
@@ -74,18 +74,18 @@ module _ (t u : Table Barrier) (m : Move) (w : Within) where
   Judged starts None None = Unit {0}
   Judged starts None (Some b) = Reason starts b
 
-  -- A step does one deed that it may do, as its wait and its call's verdict were and are.
+  -- A step does one effect that it may do, as its wait and its call's verdict were and are.
   pub record Row (b : Wait) (v : Option Answer) (n : Next) (starts : Bool) : Type 0 where
-    pub deed : Deed Change ListName
-    pub allowed : IsAllowed old m deed
-    pub lock : new.lock ≡ lock_after p deed old.lock
-    pub arrivals : new.arrivals ≡ arrivals_after deed old.arrivals
-    pub lock_list : new.lock_list ≡ lock_list_after p deed old.lock_list
-    pub list : new.list ≡ generation_list_after p deed old.list
-    pub wait : wait_of new p ≡ wait_by deed k (answer_by n) b
-    pub memory : (list : ListName) → deed ≡ does list joins → i.memory ≡ true
-    pub parting : is_some v ≡ true → gives_back deed ≡ true
-    pub giving_up : gives_up deed ≡ true → is_some v || is_held_by old.lock.holder p ≡ true
+    pub effect : Effect Change ListName
+    pub allowed : IsAllowed old m effect
+    pub lock : new.lock ≡ lock_after p effect old.lock
+    pub arrivals : new.arrivals ≡ arrivals_after effect old.arrivals
+    pub lock_list : new.lock_list ≡ lock_list_after p effect old.lock_list
+    pub list : new.list ≡ generation_list_after p effect old.list
+    pub wait : wait_of new p ≡ wait_by effect k (answer_by n) b
+    pub memory : (list : ListName) → effect ≡ does list joins → i.memory ≡ true
+    pub parting : is_some v ≡ true → gives_back effect ≡ true
+    pub giving_up : gives_up effect ≡ true → is_some v || is_held_by old.lock.holder p ≡ true
     pub judged : Judged starts v (said n d)
     pub led : new.arrivals ≡ k + 1 → Leads new.size new.arrivals → (v ≡ None) × (said n d ≡ Some (Answer.Ready (Got.Leader true)))
     pub clear : is_refusal (answer_by n) ≡ true → (for : Aim) × (position_after n ≡ Made for)

@@ -1,8 +1,8 @@
 -- What comes of a poll that has the inner lock and is carried out alone, action by action.
-use Rattle.world_barrier.proofs.Prelude.{◌≡◌, ◌≢◌, ℕ, ◌+◌, ◌<◌, ◌≤◌, ◌⊎◌, inl, inr, true, false, length, Some, None, refl, sym, ap, ◌∙◌, subst, arith, if◌then◌else◌, marked_count, is_marked_at, without, is_party, Answer, Inputs, Refusal, refused, Deed, nothing, changes, does, joined_unmarked, LockStep, End, is_holding, is_releasing, holds, Mutex, course_at, IsMutex, holder_of, holding_holds, releasing_free, releasing_decided, holds_it, Action, Aim, Ending, Found, Next, Place, Look, Join, Arrive, Complete, NotifyAll, Check, JoinAgain, ReleaseLock, ReleasingLock, Ask, Position, Out, Made, Waiting, At, Progress, Words, progress, with_progress, action_of, next_of, position_after, released, Finds, words_after, arrival_after, entries_after, LockBegins, LockGoesOn, OnLock, Sure, fits_lock, in_lock, listed, Barrier, IsBarrier, position_at, arrival_at, answer_by, is_own_marked}
+use Rattle.world_barrier.proofs.Prelude.{◌≡◌, ◌≢◌, ℕ, ◌+◌, ◌<◌, ◌≤◌, ◌⊎◌, inl, inr, true, false, length, Some, None, refl, sym, ap, ◌∙◌, subst, arith, if◌then◌else◌, marked_count, is_marked_at, without, is_party, Answer, Inputs, Refusal, refused, Effect, nothing, changes, does, joined_unmarked, LockStep, End, is_holding, is_releasing, holds, Mutex, course_at, IsMutex, holder_of, holding_holds, releasing_free, releasing_decided, holds_it, Action, Aim, Ending, Found, Next, Place, Look, Join, Arrive, Complete, NotifyAll, Check, JoinAgain, ReleaseLock, ReleasingLock, Ask, Position, Out, Made, Waiting, At, Progress, Words, progress, with_progress, action_of, next_of, position_after, released, Finds, words_after, arrival_after, entries_after, LockBegins, LockGoesOn, OnLock, Sure, fits_lock, in_lock, listed, Barrier, IsBarrier, position_at, arrival_at, answer_by, is_own_marked}
 use Rattle.world_base.specs.declared.moves.Got.TheVariants.{Leader}
 use Rattle.lock_program.specs.declared.mutex.LockCall.{LockCall}
-use Rattle.world_mutex.specs.machine.Deeds.{Change, takes, releases, starves, recovers, ListName, holder_after, gives_back}
+use Rattle.world_mutex.specs.machine.Effects.{Change, takes, releases, starves, recovers, ListName, holder_after, gives_back}
 use Rattle.world_mutex.proofs.of_machine.callers.Holders.{is_held_by}
 use Rattle.world_mutex.proofs.of_machine.callers.Released.{released_marks}
 use Rattle.lock_program.specs.declared.end.Next.TheVariants as next
@@ -25,7 +25,7 @@ Then Going AtEnd n y = AtEnd (answer_by n) (position_after n) y
 
 -- ---- the inner lock is given back
 
-holder_or_none : (p : ℕ) (d : Deed Change ListName) → (holder_after p d (Some p) ≡ None) ⊎ (holder_after p d (Some p) ≡ Some p)
+holder_or_none : (p : ℕ) (d : Effect Change ListName) → (holder_after p d (Some p) ≡ None) ⊎ (holder_after p d (Some p) ≡ Some p)
 holder_or_none p (changes takes) = inr refl
 holder_or_none p (changes releases) = inl refl
 holder_or_none p (changes starves) = inr refl
@@ -33,7 +33,7 @@ holder_or_none p (changes recovers) = inr refl
 holder_or_none p (does list f) = inr refl
 holder_or_none p nothing = inr refl
 
-still_none : (p : ℕ) (d : Deed Change ListName) → gives_back d ≡ true → holder_after p d None ≡ None
+still_none : (p : ℕ) (d : Effect Change ListName) → gives_back d ≡ true → holder_after p d None ≡ None
 still_none p (changes takes) h = absurd (cc h)
 still_none p (changes releases) h = refl
 still_none p (changes starves) h = refl
@@ -43,21 +43,21 @@ still_none p nothing h = refl
 
 -- with the first action of its release
 begins_free : (i : Inputs) (p : ℕ) (s : LockStep) (m n : Mutex) → IsMutex m → is_holding (course_at m.courses p) ≡ true → LockBegins i p LockCall.Release s m n → s ≡ LockStep.More → holder_of n ≡ None
-begins_free i p s m n mutex holds_there o goes = by_deed (holder_or_none p o.legal.deed) where
-  held : holder_of n ≡ holder_after p o.legal.deed (Some p)
-  held = o.legal.holder ∙ ap (holder_after p o.legal.deed) (holds_it m.courses p mutex.one_holder (holding_holds (course_at m.courses p) holds_there))
+begins_free i p s m n mutex holds_there o goes = by_effect (holder_or_none p o.legal.effect) where
+  held : holder_of n ≡ holder_after p o.legal.effect (Some p)
+  held = o.legal.holder ∙ ap (holder_after p o.legal.effect) (holds_it m.courses p mutex.one_holder (holding_holds (course_at m.courses p) holds_there))
 
   releasing : is_releasing (course_at n.courses p) ≡ true
   releasing = rw goes at o.leads
 
-  by_deed : (holder_after p o.legal.deed (Some p) ≡ None) ⊎ (holder_after p o.legal.deed (Some p) ≡ Some p) → holder_of n ≡ None
-  by_deed (inl e) = held ∙ e
-  by_deed (inr e) = let one : holds (course_at n.courses p) ≡ 1 = is_held_by n.courses p (held ∙ e) in absurd (omega (arith, one, releasing_free (course_at n.courses p) releasing))
+  by_effect : (holder_after p o.legal.effect (Some p) ≡ None) ⊎ (holder_after p o.legal.effect (Some p) ≡ Some p) → holder_of n ≡ None
+  by_effect (inl e) = held ∙ e
+  by_effect (inr e) = let one : holds (course_at n.courses p) ≡ 1 = is_held_by n.courses p (held ∙ e) in absurd (omega (arith, one, releasing_free (course_at n.courses p) releasing))
 
 goes_free : (i : Inputs) (p : ℕ) (s : LockStep) (m n : Mutex) → is_releasing (course_at m.courses p) ≡ true → LockGoesOn i p s m n → holder_of m ≡ None → holder_of n ≡ None
 goes_free i p s m n releasing o free =
-    let given : gives_back o.legal.deed ≡ true = (o.legal.kept End.GivenBack (releasing_decided (course_at m.courses p) releasing)).1 in
-    o.legal.holder ∙ (ap (holder_after p o.legal.deed) free ∙ still_none p o.legal.deed given)
+    let given : gives_back o.legal.effect ≡ true = (o.legal.kept End.GivenBack (releasing_decided (course_at m.courses p) releasing)).1 in
+    o.legal.holder ∙ (ap (holder_after p o.legal.effect) free ∙ still_none p o.legal.effect given)
 
 -- ---- what comes of the poll
 

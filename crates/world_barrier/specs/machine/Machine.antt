@@ -34,7 +34,7 @@ use Rattle.world_barrier.specs.declared.program.words.Progress.{Progress}
 use Rattle.world_barrier.specs.declared.program.words.Words.{Words}
 use Rattle.world_barrier.specs.program.Words.{progress, new_words, IsSound, IsPast, IsWithin, IsFollower}
 use Rattle.world_barrier.specs.program.Program.{place_for, action_of, next_of, position_after, got_left}
-use Rattle.world_barrier.specs.program.Deeds.{Finds, words_after, arrival_after, entries_after}
+use Rattle.world_barrier.specs.program.Effects.{Finds, words_after, arrival_after, entries_after}
 use Rattle.world_barrier.specs.program.Locks.{OnLock}
 use Rattle.world_barrier.specs.machine.Ranks.{left, left_at, left_then}
 use Rattle.world_barrier.specs.machine.Roles.{fits_lock, listed, in_lock, follows, is_late, will_tell, Sure, HasOutcome, is_resting}

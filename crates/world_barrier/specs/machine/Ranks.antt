@@ -1,7 +1,7 @@
 -- How many steps of a party's call are left, if the others stand still.
 use Rattle.std.specs.Prelude.{ℕ, ◌+◌, if◌then◌else◌, Bool}
 use Rattle.lock_program.specs.declared.mutex.LockCall.TheVariants as lock_call
-use Rattle.world_mutex.specs.machine.Deeds.{most_steps as most_lock_steps}
+use Rattle.world_mutex.specs.machine.Effects.{most_steps as most_lock_steps}
 use Rattle.sync_program.specs.declared.barrier.Aim.{Aim}
 use Rattle.sync_program.specs.declared.barrier.Aim.TheVariants as aim
 use Rattle.sync_program.specs.declared.barrier.Ending.{Ending}

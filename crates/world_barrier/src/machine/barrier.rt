@@ -8,7 +8,7 @@ ghost use Rattle.world_barrier.specs.machine.Machine.{new_barrier, IsBarrier, an
 ghost use Rattle.world_barrier.specs.machine.Waits.{is_counted, wait_of, wait_at};
 
 use crate::program::calls::{got_left, position_left, start};
-use crate::program::deeds::carry_out;
+use crate::program::effects::carry_out;
 use crate::program::words::{Progress, Words};
 use lock_event::Entry;
 use lock_program::Next;

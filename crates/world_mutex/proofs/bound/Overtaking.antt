@@ -1,5 +1,5 @@
 -- A starved party is overtaken at most as often as entries stand before its own.
-use Rattle.world_mutex.proofs.Prelude.{◌≡◌, ◌≢◌, ℕ, ◌+◌, ◌-◌, ◌<◌, ◌≤◌, ◌==◌, inl, inr, true, List, Some, sym, ap, ◌∙◌, subst, arith, nat_tests, chosen, Entry, notifies_one, without, marked_count, is_marked_at, IsMarkedFirst, is_party, entries_of, Answer, Call, Inputs, What, Begin, Move, Rest, outside, Account, accounts_after, accounts_of, going_on, moves_of, answers_of, Deed, nothing, changes, does, joins, asks, leaves, notifies, notifies_additionally, beginning, along, first_of, Onward, IsNotified, IsSound, Promises, is_later_poll, Runs, HoldsWell, World, standing_of, Stands, Steps}
+use Rattle.world_mutex.proofs.Prelude.{◌≡◌, ◌≢◌, ℕ, ◌+◌, ◌-◌, ◌<◌, ◌≤◌, ◌==◌, inl, inr, true, List, Some, sym, ap, ◌∙◌, subst, arith, nat_tests, chosen, Entry, notifies_one, without, marked_count, is_marked_at, IsMarkedFirst, is_party, entries_of, Answer, Call, Inputs, What, Begin, Move, Rest, outside, Account, accounts_after, accounts_of, going_on, moves_of, answers_of, Effect, nothing, changes, does, joins, asks, leaves, notifies, notifies_additionally, beginning, along, first_of, Onward, IsNotified, IsSound, Promises, is_later_poll, Runs, HoldsWell, World, standing_of, Stands, Steps}
 use Rattle.std.proofs.lemmas.Bool.{cases_lt}
 use Rattle.world_base.proofs.Lists.{others}
 use Rattle.world_base.proofs.Overtaking.{list_before, marked_there, told_before, some_on, seldom}
@@ -15,7 +15,7 @@ use Rattle.world_base.proofs.OneMarked.{one_after}
 notifies_so : (n : ℕ) → (n == 1) ≡ true → n ≡ 1
 notifies_so n e = grind (arith, nat_tests)
 
-one_more : (p : ℕ) (d : Deed Change ListName) (l : List (Entry ℕ)) → notifies_one d ≡ true → marked_count l ≤ 1 → marked_count (entries_after p d l) ≤ 1
+one_more : (p : ℕ) (d : Effect Change ListName) (l : List (Entry ℕ)) → notifies_one d ≡ true → marked_count l ≤ 1 → marked_count (entries_after p d l) ≤ 1
 one_more p nothing l so one = one
 one_more p (changes c) l so one = one
 one_more p (does for_the_lock joins) l so one = one_after p joins l tt one
@@ -26,7 +26,7 @@ one_more p (does for_the_lock (notifies_additionally n)) l so one = absurd (cc s
 
 -- each step leaves it so
 pub one_told : (x v : World) (m : Move) (a : Answer) → Steps x m a v → marked_count x.entries ≤ 1 → marked_count v.entries ≤ 1
-one_told x v m a s one = omega (arith, ap marked_count s.legal.one_change.entries, one_more m.party s.legal.one_change.deed x.entries s.legal.one_change.notice one)
+one_told x v m a s one = omega (arith, ap marked_count s.legal.one_change.entries, one_more m.party s.legal.one_change.effect x.entries s.legal.one_change.notice one)
 
 -- ---- along a call of another party
 
@@ -35,16 +35,16 @@ module _ (q p : ℕ) (apart : p ≢ q) (i : Inputs) (bound : ℕ) where
     pub low : before q y.entries ≤ bound
     pub there : 0 < entries_of q y.entries
 
-  deed_keeps : (x v : World) (d : Deed Change ListName) → v.entries ≡ entries_after p d x.entries → Before x → Before v
-  deed_keeps x v nothing e b = record { low = rw e b.low; there = rw e b.there }
-  deed_keeps x v (changes c) e b = record { low = rw e b.low; there = rw e b.there }
-  deed_keeps x v (does for_the_lock f) e b = record {
+  effect_keeps : (x v : World) (d : Effect Change ListName) → v.entries ≡ entries_after p d x.entries → Before x → Before v
+  effect_keeps x v nothing e b = record { low = rw e b.low; there = rw e b.there }
+  effect_keeps x v (changes c) e b = record { low = rw e b.low; there = rw e b.there }
+  effect_keeps x v (does for_the_lock f) e b = record {
     low = omega (arith, ap (before q) e, list_before q p f x.entries apart b.there, b.low);
     there = omega (arith, ap (entries_of q) e, others p x.entries f q (λ h. apart (sym h)), b.there);
   }
 
   keeps : (x : World) (what : What) (a : Answer) (v : World) → Before x → Steps x (record { party = p; what = what }) a v → Onward Before (λ b y. Before y) a v
-  keeps x what a v b s = let on = deed_keeps x v s.legal.one_change.deed s.legal.one_change.entries b in record { going = λ e. on; ended = λ e. on }
+  keeps x what a v b s = let on = effect_keeps x v s.legal.one_change.effect s.legal.one_change.entries b in record { going = λ e. on; ended = λ e. on }
 
 -- ---- a whole call
 
@@ -63,7 +63,7 @@ module _ (known : ℕ → Account) (w : World) (q p : ℕ) (apart : p ≢ q) (c 
       let low : before q v.entries ≤ b = (along Steps accounts_after HoldsWell p i (Before q p apart i b) (λ z y. Before q p apart i b y) (λ x z y g s. keeps q p apart i b x (What.Go i) z y g s) known n w (beginning p c i) a v
       (λ z x s. (
       let gone : x.entries ≡ without (is_party p) w.entries = (s.at_once.listed later (marked_there p w.entries told.marked)).2 ∙ chosen (is_marked_at (is_party p) w.entries) (without (is_party p) w.entries) w.entries told.marked in
-      let kept = deed_keeps q p apart i (before q w.entries) w x s.legal.one_change.deed s.legal.one_change.entries (record { low = omega arith; there = there }) in
+      let kept = effect_keeps q p apart i (before q w.entries) w x s.legal.one_change.effect s.legal.one_change.entries (record { low = omega arith; there = there }) in
       let on : Before q p apart i b x = record { low = omega (arith, ap (before q) gone, first); there = kept.there } in
       record { going = λ e. on; ended = λ e. on }
       )) ended runs).low in

@@ -1,9 +1,9 @@
 -- What the lock carries out for a party is a legal step, as callers see it.
-use Rattle.world_mutex.proofs.Prelude.{◌≡◌, ◌≢◌, ℕ, ◌<◌, ◌⊎◌, ◌↔◌, ◌||◌, inl, inr, Bool, true, false, zero, suc, List, [], ◌∷◌, length, Option, Some, None, is_some, refl, arith, ap, sym, ◌∙◌, subst, get_or-set_same, nat_tests, set, Entry, Waiting, Answer, Value, Move, Refusal, Rest, Stage, Within, is_drop, is_refusal, is_poll_after_ready, put_in, how_many, is_on, inside, inputs_of, call_in, is_possible, is_stepped, may_end, is_decided, decided_on, refused, IsUndecided, Deed, nothing, changes, does, joins, asks, leaves, notifies, notifies_additionally, some_eq, none_some, stage_at, stands_as, call_at, polls_again, stage_after, Table, End, Next, Place, Out, place_after, Lock, place_at, IsMutex, starved, decision, decided_then, IsReason, IsAllowed, IsLegal, counted, listed, holder_of, starved_of, is_counted, Guarded, knows, place_of, is_try_kind, answer_by, Carries, state_after, notifies_one, call_of, DecidesOn, ChangesOneThing, IsTakenFairly, OthersKeepTheirs, CarriesValue, Waits, IsCause, IsRefusedForCause, LeavesClear, IsValueKept, EndsProperly, Legal, State, World, standing_of, is_starved, mark_of, IsMutexTable, answer_on, verdict, view_of, entries_of, may_tell as may_tell_there}
+use Rattle.world_mutex.proofs.Prelude.{◌≡◌, ◌≢◌, ℕ, ◌<◌, ◌⊎◌, ◌↔◌, ◌||◌, inl, inr, Bool, true, false, zero, suc, List, [], ◌∷◌, length, Option, Some, None, is_some, refl, arith, ap, sym, ◌∙◌, subst, get_or-set_same, nat_tests, set, Entry, Waiting, Answer, Value, Move, Refusal, Rest, Stage, Within, is_drop, is_refusal, is_poll_after_ready, put_in, how_many, is_on, inside, inputs_of, call_in, is_possible, is_stepped, may_end, is_decided, decided_on, refused, IsUndecided, Effect, nothing, changes, does, joins, asks, leaves, notifies, notifies_additionally, some_eq, none_some, stage_at, stands_as, call_at, polls_again, stage_after, Table, End, Next, Place, Out, place_after, Lock, place_at, IsMutex, starved, decision, decided_then, IsReason, IsAllowed, IsLegal, counted, listed, holder_of, starved_of, is_counted, Guarded, knows, place_of, is_try_kind, answer_by, Carries, state_after, notifies_one, call_of, DecidesOn, ChangesOneThing, IsTakenFairly, OthersKeepTheirs, CarriesValue, Waits, IsCause, IsRefusedForCause, LeavesClear, IsValueKept, EndsProperly, Legal, State, World, standing_of, is_starved, mark_of, IsMutexTable, answer_on, verdict, view_of, entries_of, may_tell as may_tell_there}
 use Rattle.lock_program.specs.Refusals.{number_of}
 use Rattle.world_base.proofs.of_table.Acting as acting
 use Rattle.world_base.proofs.of_table.Calls.{decided_after, call_seen, again_seen, stands_seen}
-use Rattle.world_mutex.specs.machine.Deeds as lock
+use Rattle.world_mutex.specs.machine.Effects as lock
 use Rattle.world_mutex.proofs.of_machine.legal.Promised.{begins_unrefused}
 use Rattle.world_mutex.proofs.of_machine.laws.Seen as sees
 use Rattle.world_mutex.specs.Legal.{Change, ListName, takes, releases, starves, recovers, for_the_lock, entries_after, gives_back, gives_up}
@@ -14,30 +14,30 @@ use Rattle.world_mutex.proofs.table.Turns.{Lands}
 use Rattle.world_mutex.specs.Legal.{may_tell}
 use Rattle.world_mutex.proofs.step.Due as due
 
--- ---- the lock's deed, as callers see it
+-- ---- the lock's effect, as callers see it
 
-abbrev pub world_deed : Deed lock.Change lock.ListName → Deed Change ListName
-world_deed nothing = nothing
-world_deed (changes lock.takes) = changes takes
-world_deed (changes lock.releases) = changes releases
-world_deed (changes lock.starves) = changes starves
-world_deed (changes lock.recovers) = changes recovers
-world_deed (does lock.for_the_lock f) = does for_the_lock f
+abbrev pub world_effect : Effect lock.Change lock.ListName → Effect Change ListName
+world_effect nothing = nothing
+world_effect (changes lock.takes) = changes takes
+world_effect (changes lock.releases) = changes releases
+world_effect (changes lock.starves) = changes starves
+world_effect (changes lock.recovers) = changes recovers
+world_effect (does lock.for_the_lock f) = does for_the_lock f
 
-record IsSame (p : ℕ) (d : Deed lock.Change lock.ListName) : Type 0 where
-  pub state : (h : Option ℕ) (s : List Bool) (v : ℕ) → Path State (record { holder = lock.holder_after p d h; starved = lock.starved_after p d s; value = v }) (state_after p (world_deed d) (record { holder = h; starved = s; value = v }))
-  pub entries : (l : List (Entry ℕ)) → lock.entries_after p d l ≡ entries_after p (world_deed d) l
-  pub back : lock.gives_back d ≡ gives_back (world_deed d)
-  pub up : lock.gives_up d ≡ gives_up (world_deed d)
-  pub joins : (list : ListName) → world_deed d ≡ does list joins → d ≡ does lock.for_the_lock joins
+record IsSame (p : ℕ) (d : Effect lock.Change lock.ListName) : Type 0 where
+  pub state : (h : Option ℕ) (s : List Bool) (v : ℕ) → Path State (record { holder = lock.holder_after p d h; starved = lock.starved_after p d s; value = v }) (state_after p (world_effect d) (record { holder = h; starved = s; value = v }))
+  pub entries : (l : List (Entry ℕ)) → lock.entries_after p d l ≡ entries_after p (world_effect d) l
+  pub back : lock.gives_back d ≡ gives_back (world_effect d)
+  pub up : lock.gives_up d ≡ gives_up (world_effect d)
+  pub joins : (list : ListName) → world_effect d ≡ does list joins → d ≡ does lock.for_the_lock joins
 
-same_deed : (p : ℕ) (d : Deed lock.Change lock.ListName) → IsSame p d
-same_deed p nothing = record { state = λ h s v. refl; entries = λ l. refl; back = refl; up = refl; joins = λ list e. absurd (cc) }
-same_deed p (changes lock.takes) = record { state = λ h s v. refl; entries = λ l. refl; back = refl; up = refl; joins = λ list e. absurd (cc) }
-same_deed p (changes lock.releases) = record { state = λ h s v. refl; entries = λ l. refl; back = refl; up = refl; joins = λ list e. absurd (cc) }
-same_deed p (changes lock.starves) = record { state = λ h s v. refl; entries = λ l. refl; back = refl; up = refl; joins = λ list e. absurd (cc) }
-same_deed p (changes lock.recovers) = record { state = λ h s v. refl; entries = λ l. refl; back = refl; up = refl; joins = λ list e. absurd (cc) }
-same_deed p (does lock.for_the_lock f) = record { state = λ h s v. refl; entries = λ l. refl; back = refl; up = refl; joins = λ list e. cc }
+same_effect : (p : ℕ) (d : Effect lock.Change lock.ListName) → IsSame p d
+same_effect p nothing = record { state = λ h s v. refl; entries = λ l. refl; back = refl; up = refl; joins = λ list e. absurd (cc) }
+same_effect p (changes lock.takes) = record { state = λ h s v. refl; entries = λ l. refl; back = refl; up = refl; joins = λ list e. absurd (cc) }
+same_effect p (changes lock.releases) = record { state = λ h s v. refl; entries = λ l. refl; back = refl; up = refl; joins = λ list e. absurd (cc) }
+same_effect p (changes lock.starves) = record { state = λ h s v. refl; entries = λ l. refl; back = refl; up = refl; joins = λ list e. absurd (cc) }
+same_effect p (changes lock.recovers) = record { state = λ h s v. refl; entries = λ l. refl; back = refl; up = refl; joins = λ list e. absurd (cc) }
+same_effect p (does lock.for_the_lock f) = record { state = λ h s v. refl; entries = λ l. refl; back = refl; up = refl; joins = λ list e. cc }
 
 pub made : (h g : Option ℕ) (s t : List Bool) (v u : ℕ) → h ≡ g → s ≡ t → v ≡ u → Path State (record { holder = h; starved = s; value = v }) (record { holder = g; starved = t; value = u })
 made h g s t v u e d f = cc
@@ -145,15 +145,15 @@ six_at _ e = omega (arith, e)
 never_six : (x : Place) (r : Refusal) → decision x ≡ Some (End.Refused r) → 6 ≡ number_of r → ⊥
 never_six x r e six = six_at x (ap number_on e ∙ sym six)
 
-told_deed : (d : Deed lock.Change lock.ListName) (list : ListName) (n : ℕ) → world_deed d ≡ does list (notifies n) → d ≡ does lock.for_the_lock (notifies n)
-told_deed nothing list n e = absurd (cc)
-told_deed (changes lock.takes) list n e = absurd (cc)
-told_deed (changes lock.releases) list n e = absurd (cc)
-told_deed (changes lock.starves) list n e = absurd (cc)
-told_deed (changes lock.recovers) list n e = absurd (cc)
-told_deed (does lock.for_the_lock f) list n e = cc
+told_effect : (d : Effect lock.Change lock.ListName) (list : ListName) (n : ℕ) → world_effect d ≡ does list (notifies n) → d ≡ does lock.for_the_lock (notifies n)
+told_effect nothing list n e = absurd (cc)
+told_effect (changes lock.takes) list n e = absurd (cc)
+told_effect (changes lock.releases) list n e = absurd (cc)
+told_effect (changes lock.starves) list n e = absurd (cc)
+told_effect (changes lock.recovers) list n e = absurd (cc)
+told_effect (does lock.for_the_lock f) list n e = cc
 
-one_notified : (p : ℕ) (d : Deed lock.Change lock.ListName) (l : Lock) → IsAllowed p d l → notifies_one (world_deed d) ≡ true
+one_notified : (p : ℕ) (d : Effect lock.Change lock.ListName) (l : Lock) → IsAllowed p d l → notifies_one (world_effect d) ≡ true
 one_notified p (does lock.for_the_lock (notifies n)) l al = let one : n ≡ 1 = al.0 in grind (arith, nat_tests)
 one_notified p (does lock.for_the_lock (notifies_additionally n)) l al = absurd al
 one_notified p (does lock.for_the_lock joins) l al = refl
@@ -230,8 +230,8 @@ module _ (t u : Table Guarded) (m : Move) (a : Answer) (w : Within) where
     abbrev way : IsLegal memory p (decision from) n g.lock h.lock
     way = k.carries.carried.legal
 
-    abbrev d : Deed lock.Change lock.ListName
-    d = way.deed
+    abbrev d : Effect lock.Change lock.ListName
+    d = way.effect
 
     pub there : p < length g.lock.places
     there = omega (arith, k.inside, k.old_fits.as_many)
@@ -253,19 +253,19 @@ module _ (t u : Table Guarded) (m : Move) (a : Answer) (w : Within) where
     decides = acting.decides verdict Rest.Holding t u p w a k.inside k.stages
         ∙ (ap (λ b. decided_after b (verdict h p)) k.carries.answer ∙ (ap (λ z. decided_after (answer_by trying v n) (answer_on z (decision to))) k.carries.carried.value ∙ said_so trying v n (decision to)))
 
-    pub state_is : new.state ≡ state_after p (world_deed d) old.state
-    state_is = made _ _ _ _ _ _ way.holder way.starved k.carries.carried.value ∙ (same_deed p d).state (holder_of g.lock) (starved_of g.lock) v
+    pub state_is : new.state ≡ state_after p (world_effect d) old.state
+    state_is = made _ _ _ _ _ _ way.holder way.starved k.carries.carried.value ∙ (same_effect p d).state (holder_of g.lock) (starved_of g.lock) v
 
     decided_there : is_decided (standing_of old p) || is_drop m.what ≡ is_some (decision from)
     decided_there = ap (λ z. is_decided z || is_drop m.what) stood ∙ k.here.decides v
 
-    parting : (o : Option End) → decision from ≡ o → is_some o ≡ true → gives_back (world_deed d) ≡ true
-    parting (Some e) is some = sym (same_deed p d).back ∙ (way.kept e is).1
+    parting : (o : Option End) → decision from ≡ o → is_some o ≡ true → gives_back (world_effect d) ≡ true
+    parting (Some e) is some = sym (same_effect p d).back ∙ (way.kept e is).1
     parting None is some = absurd (cc)
 
-    giving_up : (o : Option End) → decision from ≡ o → gives_up (world_deed d) ≡ true → is_some o ≡ true
+    giving_up : (o : Option End) → decision from ≡ o → gives_up (world_effect d) ≡ true → is_some o ≡ true
     giving_up (Some e) is up = refl
-    giving_up None is up = let down = way.holds_on is in let same = (same_deed p d).up in absurd (cc)
+    giving_up None is up = let down = way.holds_on is in let same = (same_effect p d).up in absurd (cc)
 
     tells_so : may_tell_there x ≡ true → may_tell (standing_of old p) (is_starved old.state p) (entries_of p old.entries) ≡ true
     tells_so h =
@@ -275,23 +275,23 @@ module _ (t u : Table Guarded) (m : Move) (a : Answer) (w : Within) where
 
     one_change : ChangesOneThing old m new
     one_change = record {
-      deed = world_deed d;
+      effect = world_effect d;
       state = state_is;
-      entries = way.entries ∙ (same_deed p d).entries g.lock.entries;
+      entries = way.entries ∙ (same_effect p d).entries g.lock.entries;
       limit = way.limit;
       opening_value = k.opening;
       others = others_stand;
       parties = acting.as_many verdict Rest.Holding t u p w a k.inside k.stages;
-      found_memory = λ list e. way.found_memory lock.for_the_lock ((same_deed p d).joins list e);
+      found_memory = λ list e. way.found_memory lock.for_the_lock ((same_effect p d).joins list e);
       parting = λ h. parting (decision from) refl (sym decided_there ∙ h);
       giving_up = λ up. decided_there ∙ giving_up (decision from) refl up;
       notice = one_notified p d g.lock way.allowed;
-      tells = λ list n e. (let A : Deed lock.Change lock.ListName → Type 0 = λ c. IsAllowed p c g.lock in let al : A (does lock.for_the_lock (notifies n)) = subst A (told_deed d list n e) way.allowed in tells_so al.1);
+      tells = λ list n e. (let A : Effect lock.Change lock.ListName → Type 0 = λ c. IsAllowed p c g.lock in let al : A (does lock.for_the_lock (notifies n)) = subst A (told_effect d list n e) way.allowed in tells_so al.1);
     }
 
     -- ---- who has the lock, and who is starved
 
-    fair_so : (q : ℕ) (d : Deed lock.Change lock.ListName) → lock.holder_after p d (holder_of g.lock) ≡ Some q → holder_of g.lock ≢ Some q → (p ≡ q) × (d ≡ changes lock.takes)
+    fair_so : (q : ℕ) (d : Effect lock.Change lock.ListName) → lock.holder_after p d (holder_of g.lock) ≡ Some q → holder_of g.lock ≢ Some q → (p ≡ q) × (d ≡ changes lock.takes)
     fair_so q (changes lock.takes) is was = (some_eq is, refl)
     fair_so q (changes lock.releases) is was = absurd (none_some is)
     fair_so q (changes lock.starves) is was = absurd (was is)
@@ -302,7 +302,7 @@ module _ (t u : Table Guarded) (m : Move) (a : Answer) (w : Within) where
     taken_fairly : IsTakenFairly old new
     taken_fairly q is was =
         let f = fair_so q d (sym way.holder ∙ is) was in
-        let A : Deed lock.Change lock.ListName → Type 0 = λ e. IsAllowed p e g.lock in
+        let A : Effect lock.Change lock.ListName → Type 0 = λ e. IsAllowed p e g.lock in
         let allowed : A (changes lock.takes) = subst A f.1 way.allowed in
         let Q : ℕ → Type 0 = λ j. (how_many old.state.starved ≡ 0) ⊎ (is_starved old.state j ≡ true) in (
           sees.none_held 0 g.lock.places allowed.0,
@@ -312,7 +312,7 @@ module _ (t u : Table Guarded) (m : Move) (a : Answer) (w : Within) where
           ]),
         )
 
-    kept_so : (q : ℕ) → q ≢ p → (d : Deed lock.Change lock.ListName) → IsAllowed p d g.lock → (lock.holder_after p d (holder_of g.lock) ≡ Some q) ↔ (holder_of g.lock ≡ Some q)
+    kept_so : (q : ℕ) → q ≢ p → (d : Effect lock.Change lock.ListName) → IsAllowed p d g.lock → (lock.holder_after p d (holder_of g.lock) ≡ Some q) ↔ (holder_of g.lock ≡ Some q)
     kept_so q apart (changes lock.takes) al = ((λ e. absurd (some_other p q e apart)), (λ e. absurd (none_some (sym (sees.none_held 0 g.lock.places al.0) ∙ e))))
     kept_so q apart (changes lock.releases) al = ((λ e. absurd (none_some e)), (λ e. absurd (some_other p q (sym (sees.holds_it g.lock.places p k.old_laws.one_holder al) ∙ e) apart)))
     kept_so q apart (changes lock.starves) al = ((λ e. e), (λ e. e))
@@ -320,7 +320,7 @@ module _ (t u : Table Guarded) (m : Move) (a : Answer) (w : Within) where
     kept_so q apart nothing al = ((λ e. e), (λ e. e))
     kept_so q apart (does list f) al = ((λ e. e), (λ e. e))
 
-    starves_so : (d : Deed lock.Change lock.ListName) → IsAllowed p d g.lock → is_on (lock.starved_after p d (starved_of g.lock)) p ≡ true → is_on (starved_of g.lock) p ≡ false → starved g.lock < g.lock.limit
+    starves_so : (d : Effect lock.Change lock.ListName) → IsAllowed p d g.lock → is_on (lock.starved_after p d (starved_of g.lock)) p ≡ true → is_on (starved_of g.lock) p ≡ false → starved g.lock < g.lock.limit
     starves_so (changes lock.starves) al is was = al.1
     starves_so (changes lock.recovers) al is was = absurd (none_at (starved_of g.lock) p is)
     starves_so (changes lock.takes) al is was = absurd (cc)

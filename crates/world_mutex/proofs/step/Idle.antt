@@ -59,7 +59,7 @@ module _ (w : World) (m : Move) (well : StandsWell w) where
       record {
         legal = record {
           possible = still.possible;
-          one_change = record { deed = nothing; state = refl; entries = refl; limit = refl; opening_value = refl; others = λ q apart. refl; parties = refl; found_memory = λ list e. absurd (cc); parting = λ h. refl; giving_up = λ g. absurd (cc); notice = refl; tells = λ list n e. absurd (cc) };
+          one_change = record { effect = nothing; state = refl; entries = refl; limit = refl; opening_value = refl; others = λ q apart. refl; parties = refl; found_memory = λ list e. absurd (cc); parting = λ h. refl; giving_up = λ g. absurd (cc); notice = refl; tells = λ list n e. absurd (cc) };
           taken_fairly = λ q is was. absurd (was is);
           others_keep = record { lock = λ q apart. ((λ h. h), (λ h. h)); starved = λ q apart. refl; limit = λ was is. absurd (cc) };
           carries = record { ready = λ got d. (let e = same_decides s Answer.NotPossible (Answer.Ready got) d in absurd (cc)); granted = λ got d. (let e = same_decides s Answer.NotPossible (Answer.Granted got) d in absurd (cc)) };
@@ -89,7 +89,7 @@ module _ (w : World) (m : Move) (well : StandsWell w) where
       record {
         legal = record {
           possible = still.possible;
-          one_change = record { deed = nothing; state = refl; entries = refl; limit = refl; opening_value = refl; others = λ q apart. refl; parties = refl; found_memory = λ list e. absurd (cc); parting = λ h. refl; giving_up = λ g. absurd (cc); notice = refl; tells = λ list n e. absurd (cc) };
+          one_change = record { effect = nothing; state = refl; entries = refl; limit = refl; opening_value = refl; others = λ q apart. refl; parties = refl; found_memory = λ list e. absurd (cc); parting = λ h. refl; giving_up = λ g. absurd (cc); notice = refl; tells = λ list n e. absurd (cc) };
           taken_fairly = λ q is was. absurd (was is);
           others_keep = record { lock = λ q apart. ((λ h. h), (λ h. h)); starved = λ q apart. refl; limit = λ was is. absurd (cc) };
           carries = record { ready = λ got d. (let e = same_decides s (refused Refusal.Finished) (Answer.Ready got) d in absurd (cc)); granted = λ got d. (let e = same_decides s (refused Refusal.Finished) (Answer.Granted got) d in absurd (cc)) };

@@ -63,7 +63,7 @@ module _ (t : Table Guarded) (n p : ℕ) (i : Inputs) (laws : IsMutex t.machine.
     legal = record {
       possible = acting.possible_so standing_of (λ y q. knows) Rest.Holding old m a new (within Kind.Put Rest.Holding) called refl;
       one_change = record {
-        deed = changes (puts n);
+        effect = changes (puts n);
         state = refl;
         entries = refl;
         limit = refl;

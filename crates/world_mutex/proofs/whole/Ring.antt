@@ -1,5 +1,5 @@
 -- A poll of a party that hasn't waited for too long, while nobody is starved, notifies nobody if it is pending in the end.
-use Rattle.world_mutex.proofs.Prelude.{◌≡◌, ℕ, ◌⊎◌, inl, inr, Bool, true, false, List, Option, Some, None, is_some, refl, ap, sym, ◌∙◌, subst, false≢true, true≢false, Entry, Answer, Call, Inputs, What, Begin, Go, Stage, Within, MarksNobody, inputs_of, Deed, nothing, changes, does, joins, asks, leaves, notifies, notifies_additionally, going_on, none_some, some_eq, beginning, Onward, stage_at, call_at, Table, End, LockCall, Next, Place, start_of, starved, is_counting, may_tell, HeedsClock, Change, ListName, for_the_lock, entries_after, gives_up, decision, decided_then, IsAllowed, Lock, place_at, is_counted, Guarded, knows, place_of, answer_by, is_try_kind, World, Steps}
+use Rattle.world_mutex.proofs.Prelude.{◌≡◌, ℕ, ◌⊎◌, inl, inr, Bool, true, false, List, Option, Some, None, is_some, refl, ap, sym, ◌∙◌, subst, false≢true, true≢false, Entry, Answer, Call, Inputs, What, Begin, Go, Stage, Within, MarksNobody, inputs_of, Effect, nothing, changes, does, joins, asks, leaves, notifies, notifies_additionally, going_on, none_some, some_eq, beginning, Onward, stage_at, call_at, Table, End, LockCall, Next, Place, start_of, starved, is_counting, may_tell, HeedsClock, Change, ListName, for_the_lock, entries_after, gives_up, decision, decided_then, IsAllowed, Lock, place_at, is_counted, Guarded, knows, place_of, answer_by, is_try_kind, World, Steps}
 use Rattle.world_base.proofs.Marks.{joined_marks, asked_marks, marks_more}
 use Rattle.world_mutex.proofs.of_machine.laws.Seen as sees
 use Rattle.world_mutex.proofs.of_machine.legal.Promised.{begins_uncounted, none_counted}
@@ -8,16 +8,16 @@ use Rattle.world_mutex.proofs.step.Acting as acting
 use Rattle.world_mutex.proofs.step.Here.{BeginsOrGoes, same_roles}
 use Rattle.world_mutex.proofs.whole.Whole.{from_turn, by_step}
 
--- ---- what a deed marks
+-- ---- what an effect marks
 
-deed_marks : (p : ℕ) (l : Lock) (d : Deed Change ListName) → IsAllowed p d l → may_tell (place_at l.places p) ≡ false → gives_up d ≡ false → MarksNobody p l.entries (entries_after p d l.entries)
-deed_marks p l nothing may quiet keeps = λ q apart h. h
-deed_marks p l (changes c) may quiet keeps = λ q apart h. h
-deed_marks p l (does for_the_lock joins) may quiet keeps = joined_marks p l.entries
-deed_marks p l (does for_the_lock asks) may quiet keeps = asked_marks p l.entries
-deed_marks p l (does for_the_lock leaves) may quiet keeps = absurd (true≢false keeps)
-deed_marks p l (does for_the_lock (notifies n)) may quiet keeps = absurd (false≢true (sym quiet ∙ may.1))
-deed_marks p l (does for_the_lock (notifies_additionally n)) may quiet keeps = absurd may
+effect_marks : (p : ℕ) (l : Lock) (d : Effect Change ListName) → IsAllowed p d l → may_tell (place_at l.places p) ≡ false → gives_up d ≡ false → MarksNobody p l.entries (entries_after p d l.entries)
+effect_marks p l nothing may quiet keeps = λ q apart h. h
+effect_marks p l (changes c) may quiet keeps = λ q apart h. h
+effect_marks p l (does for_the_lock joins) may quiet keeps = joined_marks p l.entries
+effect_marks p l (does for_the_lock asks) may quiet keeps = asked_marks p l.entries
+effect_marks p l (does for_the_lock leaves) may quiet keeps = absurd (true≢false keeps)
+effect_marks p l (does for_the_lock (notifies n)) may quiet keeps = absurd (false≢true (sym quiet ∙ may.1))
+effect_marks p l (does for_the_lock (notifies_additionally n)) may quiet keeps = absurd may
 
 -- ---- at places
 
@@ -115,7 +115,7 @@ module _ (p : ℕ) (i : Inputs) (patient : i.starving ≡ false) (l0 : List (Ent
         let it = none_counted (inputs_of what).memory p from n t.machine.lock u.machine.lock k.carries.carried.acts (subst C still k.carries.carried.clock) (acting.there t u (record { party = p; what = what }) a w k)
         (same_roles (stage_at t.stages p) w (place_of t.machine p) from k.here.begins) none not_next in
         let legal = k.carries.carried.legal in
-        let marks : MarksNobody p t.machine.lock.entries u.machine.lock.entries = (let M : List (Entry ℕ) → Type 0 = MarksNobody p t.machine.lock.entries in subst M (sym legal.entries) (deed_marks p t.machine.lock legal.deed legal.allowed quiet (legal.holds_on midway))) in
+        let marks : MarksNobody p t.machine.lock.entries u.machine.lock.entries = (let M : List (Entry ℕ) → Type 0 = MarksNobody p t.machine.lock.entries in subst M (sym legal.entries) (effect_marks p t.machine.lock legal.effect legal.allowed quiet (legal.holds_on midway))) in
         let more = marks_more p l0 t.machine.lock.entries u.machine.lock.entries kept marks in
         record { going = λ s. inr (record { unstarved = it.0; uncounting = it.1; kept = more }); ended = λ s y. more }
 

@@ -9,7 +9,7 @@ use Rattle.lock_event.specs.Lists.{mark_at, marked_count}
 use Rattle.world_base.specs.queue.Parties.{is_party, entries_of}
 use Rattle.lock_program.specs.declared.refusal.Refusal.{Refusal}
 use Rattle.lock_program.specs.declared.refusal.Refusal.TheVariants.{Memory, Starved}
-use Rattle.world_base.specs.Steps.{Deed, nothing, changes, does, joins}
+use Rattle.world_base.specs.Steps.{Effect, nothing, changes, does, joins}
 use Rattle.lock_program.specs.declared.mutex.LockCall.{LockCall}
 use Rattle.lock_program.specs.declared.mutex.LockCall.TheVariants as call
 use Rattle.lock_program.specs.declared.end.End.{End}
@@ -17,11 +17,11 @@ use Rattle.lock_program.specs.declared.end.End.TheVariants.{Got, Pending, NotFre
 use Rattle.lock_program.specs.declared.mutex.Step.{Step}
 use Rattle.lock_program.specs.declared.mutex.Step.TheVariants as step
 use Rattle.world_mutex.specs.machine.Course.{Course, waiting, counted, decision, is_waiting, is_called, is_counting, is_told, is_untold}
-use Rattle.world_mutex.specs.machine.Deeds.{Change, takes, releases, starves, recovers, ListName, holder_after, starved_after, entries_after, gives_back, gives_up, is_release, is_fresh}
+use Rattle.world_mutex.specs.machine.Effects.{Change, takes, releases, starves, recovers, ListName, holder_after, starved_after, entries_after, gives_back, gives_up, is_release, is_fresh}
 use Rattle.world_mutex.specs.machine.Mutex.{Mutex, course_at, holders, starved, Holds, IsStarved, holder_of, starved_of}
 use Rattle.world_base.specs.Steps.{notifies, notifies_additionally}
 use Rattle.world_mutex.specs.machine.Course.{listed, may_tell, is_releasing}
-use Rattle.world_mutex.specs.machine.Deeds.{for_the_lock}
+use Rattle.world_mutex.specs.machine.Effects.{for_the_lock}
 use Rattle.lock_event.specs.Lists.{is_marked_at}
 use Rattle.world_base.specs.Steps.{asked}
 use Rattle.std.specs.Prelude.{if◌then◌else◌, nat_lt}
@@ -46,7 +46,7 @@ IsReason memory p old new (Refused Starved) = (starved old ≡ old.limit) × (co
 IsReason memory p old new _ = ⊥
 
 -- Where a change may be made: the lock is taken where nobody holds it, and nobody is starved or the taker is; a party is counted once, below the limit; and who may notify does so for one.
-abbrev pub IsAllowed : ℕ → Deed Change ListName → Mutex → Type 0
+abbrev pub IsAllowed : ℕ → Effect Change ListName → Mutex → Type 0
 IsAllowed p (changes takes) m = (holders m ≡ 0) × ((starved m ≡ 0) ⊎ IsStarved m p)
 IsAllowed p (changes releases) m = Holds m p
 IsAllowed p (changes starves) m = (counted (course_at m.courses p) ≡ 0) × (starved m < m.limit)
@@ -57,21 +57,21 @@ IsAllowed p _ m = Unit {0}
 
 -- A step changes one thing of the mutex where it may, or does one list function, never both, and moves no other party. A join has found memory. A call that was decided only gives back, and keeps its decision; who got the lock keeps it; one that wasn't decided gives nothing up; a refusal does nothing else; whoever has released the lock notifies; whoever is refused does as its call ends, once it stands in no list and isn't starved; and one that is decided now has its reason.
 pub record IsLegal (memory : Bool) (p : ℕ) (decided : Option End) (s : Step) (old new : Mutex) : Type 0 where
-  pub deed : Deed Change ListName
-  pub allowed : IsAllowed p deed old
-  pub holder : holder_of new ≡ holder_after p deed (holder_of old)
-  pub starved : starved_of new ≡ starved_after p deed (starved_of old)
-  pub entries : new.entries ≡ entries_after p deed old.entries
-  pub found_memory : (list : ListName) → deed ≡ does list joins → memory ≡ true
+  pub effect : Effect Change ListName
+  pub allowed : IsAllowed p effect old
+  pub holder : holder_of new ≡ holder_after p effect (holder_of old)
+  pub starved : starved_of new ≡ starved_after p effect (starved_of old)
+  pub entries : new.entries ≡ entries_after p effect old.entries
+  pub found_memory : (list : ListName) → effect ≡ does list joins → memory ≡ true
   pub limit : new.limit ≡ old.limit
   pub parties : length new.courses ≡ length old.courses
   pub others : (q : ℕ) → q ≢ p → course_at new.courses q ≡ course_at old.courses q
-  pub kept : (e : End) → decided ≡ Some e → (decided_then s (course_at new.courses p) ≡ Some e) × (gives_back deed ≡ true)
-  pub holds_on : decided ≡ None → gives_up deed ≡ false
-  pub keeps_lock : decided ≡ Some Got → is_release deed ≡ false
-  pub refused_idly : (r : Refusal) → decided ≡ None → decided_then s (course_at new.courses p) ≡ Some (Refused r) → deed ≡ nothing
-  pub releases : is_releasing (course_at old.courses p) ≡ true → deed ≡ does for_the_lock (notifies 1)
-  pub refuses : (r : Refusal) → decided ≡ Some (Refused r) → listed (course_at old.courses p) ≡ 0 → counted (course_at old.courses p) ≡ 0 → (deed ≡ does for_the_lock (notifies 1)) × (s ≡ step.End (Refused r))
+  pub kept : (e : End) → decided ≡ Some e → (decided_then s (course_at new.courses p) ≡ Some e) × (gives_back effect ≡ true)
+  pub holds_on : decided ≡ None → gives_up effect ≡ false
+  pub keeps_lock : decided ≡ Some Got → is_release effect ≡ false
+  pub refused_idly : (r : Refusal) → decided ≡ None → decided_then s (course_at new.courses p) ≡ Some (Refused r) → effect ≡ nothing
+  pub releases : is_releasing (course_at old.courses p) ≡ true → effect ≡ does for_the_lock (notifies 1)
+  pub refuses : (r : Refusal) → decided ≡ Some (Refused r) → listed (course_at old.courses p) ≡ 0 → counted (course_at old.courses p) ≡ 0 → (effect ≡ does for_the_lock (notifies 1)) × (s ≡ step.End (Refused r))
   pub reason : (e : End) → decided ≡ None → decided_then s (course_at new.courses p) ≡ Some e → IsReason memory p old new e
 
 -- A step that asks in the list goes on exactly where the party was notified, and else is pending still; and it does nothing else.

@@ -5,7 +5,7 @@ use Rattle.lock_event.specs.Lists.{mark_at}
 use Rattle.world_base.specs.queue.Parties.{is_party, entries_of}
 use Rattle.lock_program.specs.declared.refusal.Refusal.{Refusal}
 use Rattle.lock_program.specs.declared.refusal.Refusal.TheVariants.{Memory, Starved}
-use Rattle.world_base.specs.Steps.{Deed, nothing, changes, does, joins, notifies, notifies_additionally}
+use Rattle.world_base.specs.Steps.{Effect, nothing, changes, does, joins, notifies, notifies_additionally}
 use Rattle.lock_program.specs.declared.mutex.Place.{Place}
 use Rattle.lock_program.specs.declared.mutex.Place.TheVariants as place
 use Rattle.lock_program.specs.declared.mutex.LockCall.{LockCall}
@@ -17,9 +17,9 @@ use Rattle.world_mutex.specs.machine.Machine.{Lock, place_at}
 use Rattle.world_mutex.specs.machine.Acts.{holders, starved, Holds, IsStarved}
 use Rattle.lock_program.specs.MutexRoles.{counted, listed}
 use Rattle.world_mutex.specs.machine.State.{holder_of, starved_of}
-use Rattle.world_mutex.specs.machine.Deeds.{Change, takes, releases, starves, recovers, ListName, holder_after, starved_after, entries_after, gives_back, gives_up, is_release, is_fresh}
+use Rattle.world_mutex.specs.machine.Effects.{Change, takes, releases, starves, recovers, ListName, holder_after, starved_after, entries_after, gives_back, gives_up, is_release, is_fresh}
 use Rattle.world_mutex.specs.machine.Courses.{is_counting, may_tell, is_releasing}
-use Rattle.world_mutex.specs.machine.Deeds.{for_the_lock}
+use Rattle.world_mutex.specs.machine.Effects.{for_the_lock}
 
 -- The end on which the call of a party at this place is decided.
 abbrev pub decision : Place → Option End
@@ -56,7 +56,7 @@ IsReason memory p old new (Refused Starved) = (starved old ≡ old.limit) × (co
 IsReason memory p old new _ = ⊥
 
 -- Where a change may be made: the lock is taken where nobody holds it, and nobody is starved or the taker is; a party is counted once, below the limit; and a party that may notify does so for one.
-abbrev pub IsAllowed : ℕ → Deed Change ListName → Lock → Type 0
+abbrev pub IsAllowed : ℕ → Effect Change ListName → Lock → Type 0
 IsAllowed p (changes takes) l = (holders l ≡ 0) × ((starved l ≡ 0) ⊎ IsStarved l p)
 IsAllowed p (changes releases) l = Holds l p
 IsAllowed p (changes starves) l = (counted (place_at l.places p) ≡ 0) × (starved l < l.limit)
@@ -67,21 +67,21 @@ IsAllowed p _ l = Unit {0}
 
 -- An action changes one thing of the mutex where it may, or does one list function, never both, and moves no other party. A join has found memory. A call that was decided only gives back, and keeps its decision; who got the lock keeps it; one that wasn't decided gives nothing up; a refusal does nothing else; whoever has released the lock notifies; whoever is refused does as its call ends, once it stands in no list and isn't starved; and one that is decided now has its reason.
 pub record IsLegal (memory : Bool) (p : ℕ) (decided : Option End) (onward : Next) (old new : Lock) : Type 0 where
-  pub deed : Deed Change ListName
-  pub allowed : IsAllowed p deed old
-  pub holder : holder_of new ≡ holder_after p deed (holder_of old)
-  pub starved : starved_of new ≡ starved_after p deed (starved_of old)
-  pub entries : new.entries ≡ entries_after p deed old.entries
-  pub found_memory : (list : ListName) → deed ≡ does list joins → memory ≡ true
+  pub effect : Effect Change ListName
+  pub allowed : IsAllowed p effect old
+  pub holder : holder_of new ≡ holder_after p effect (holder_of old)
+  pub starved : starved_of new ≡ starved_after p effect (starved_of old)
+  pub entries : new.entries ≡ entries_after p effect old.entries
+  pub found_memory : (list : ListName) → effect ≡ does list joins → memory ≡ true
   pub limit : new.limit ≡ old.limit
   pub parties : length new.places ≡ length old.places
   pub others : (q : ℕ) → q ≢ p → place_at new.places q ≡ place_at old.places q
-  pub kept : (e : End) → decided ≡ Some e → (decided_then onward (place_at new.places p) ≡ Some e) × (gives_back deed ≡ true)
-  pub holds_on : decided ≡ None → gives_up deed ≡ false
-  pub keeps_lock : decided ≡ Some Got → is_release deed ≡ false
-  pub refused_idly : (r : Refusal) → decided ≡ None → decided_then onward (place_at new.places p) ≡ Some (Refused r) → deed ≡ nothing
-  pub releases : is_releasing (place_at old.places p) ≡ true → deed ≡ does for_the_lock (notifies 1)
-  pub refuses : (r : Refusal) → decided ≡ Some (Refused r) → listed (place_at old.places p) ≡ 0 → counted (place_at old.places p) ≡ 0 → (deed ≡ does for_the_lock (notifies 1)) × (onward ≡ next.End (Refused r))
+  pub kept : (e : End) → decided ≡ Some e → (decided_then onward (place_at new.places p) ≡ Some e) × (gives_back effect ≡ true)
+  pub holds_on : decided ≡ None → gives_up effect ≡ false
+  pub keeps_lock : decided ≡ Some Got → is_release effect ≡ false
+  pub refused_idly : (r : Refusal) → decided ≡ None → decided_then onward (place_at new.places p) ≡ Some (Refused r) → effect ≡ nothing
+  pub releases : is_releasing (place_at old.places p) ≡ true → effect ≡ does for_the_lock (notifies 1)
+  pub refuses : (r : Refusal) → decided ≡ Some (Refused r) → listed (place_at old.places p) ≡ 0 → counted (place_at old.places p) ≡ 0 → (effect ≡ does for_the_lock (notifies 1)) × (onward ≡ next.End (Refused r))
   pub reason : (e : End) → decided ≡ None → decided_then onward (place_at new.places p) ≡ Some e → IsReason memory p old new e
 
 -- Such a call takes the lock at once exactly where nobody holds it and nobody is starved.

@@ -4,7 +4,7 @@ use Rattle.lock_event.specs.Lists.{is_marked_at}
 use Rattle.world_base.specs.queue.Parties.{is_party}
 use Rattle.lock_program.specs.declared.mutex.Place.{Place}
 use Rattle.lock_program.specs.declared.mutex.Place.TheVariants.{Enter, Clear, CancelUncount, Join, Look, Ask, Retry, PassOn, Count, JoinStarved, LookAlone, PassOnListed, AskStarved, Seize, Uncount, RefuseUncount, RefuseLeave}
-pub use Rattle.world_mutex.specs.machine.Deeds.{most_steps}
+pub use Rattle.world_mutex.specs.machine.Effects.{most_steps}
 use Rattle.world_mutex.specs.declared.program.led.Next.{Next}
 use Rattle.world_mutex.specs.declared.program.led.Next.TheVariants as next
 use Rattle.world_mutex.specs.machine.Machine.{Lock, place_at}

@@ -13,7 +13,7 @@ use Rattle.lock_program.specs.declared.mutex.Step.TheVariants as step
 use Rattle.world_mutex.specs.machine.Alone.{HasBegun, HasGoneOn}
 use Rattle.world_mutex.specs.machine.Conduct.{IsLegal, IsUnrefused, TakesAtOnce, HeedsClock, CountsNobody, HandsOn, BeginsToHandOn, is_some_starved, IsUntold, StaysUntold}
 use Rattle.world_mutex.specs.machine.Course.{decision, is_told, Begins, GoesOn}
-use Rattle.world_mutex.specs.machine.Deeds.{decided_by, is_fresh}
+use Rattle.world_mutex.specs.machine.Effects.{decided_by, is_fresh}
 use Rattle.world_mutex.specs.machine.Mutex.{Mutex, course_at, left_after, steps_left, TakenFairly}
 use Rattle.world_mutex.specs.machine.Ranks.{most_steps}
 

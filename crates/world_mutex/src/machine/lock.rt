@@ -6,7 +6,7 @@
 
 ghost use Rattle.std.specs.Prelude.{◌≡◌, ◌<◌, length, Some, None, slice_get, IfOk, IsSome, IsSomeAnd};
 
-use crate::program::deeds::carry_out;
+use crate::program::effects::carry_out;
 use crate::program::led::{Next, after, led};
 use crate::program::word::Word;
 use lock_event::Entry;
@@ -49,7 +49,7 @@ impl Model for Lock {
 ghost use Rattle.world_mutex.specs.machine.Machine.{SameRoles, place_at, new_lock};
 ghost use Rattle.world_mutex.specs.machine.Acts.{Acts, TakenFairly, IsMutex, holders, starved as starved_lem};
 ghost use Rattle.world_mutex.specs.machine.Legal.{IsLegal, IsUnrefused, TakesAtOnce, TakesFrom, decision};
-ghost use Rattle.world_mutex.specs.machine.Deeds.{decided_by};
+ghost use Rattle.world_mutex.specs.machine.Effects.{decided_by};
 ghost use Rattle.world_mutex.specs.program.Program.{start_of};
 ghost use Rattle.lock_program.specs.MutexRoles.{bit};
 ghost use Rattle.world_mutex.specs.machine.Courses.{Begins, GoesOn, HeedsClock};

@@ -1,5 +1,5 @@
 -- An action of a party is a legal step, as callers see it.
-use Rattle.world_once_cell.proofs.Prelude.{◌≡◌, ◌≢◌, ℕ, ◌<◌, ◌||◌, ◌⊎◌, inl, inr, true, false, List, length, Option, Some, None, is_some, refl, arith, ap, sym, ◌∙◌, subst, get_or-set_same, get_or-set_other, set, Entry, Waits_unmarked, is_marked_at, mark_at, is_party, entries_of, Answer, Call, Got, Inputs, Made, Move, What, Begin, Go, Refusal, Kind, Rest, Stage, Outside, Inside, Forgotten, Within, Standing, inside, inputs_of, call_in, is_possible, is_stepped, is_decided, may_end, decision, refused, IsUndecided, is_drop, is_giving_back, is_poll_after_ready, is_refusal, Deed, nothing, changes, does, joins, asks, leaves, notifies, notifies_additionally, list_after, some_eq, none_some, finished_number, both, notified_marked, stage_at, stands_as, call_at, polls_again, stage_after, Table, call_seen, again_seen, stands_seen, decided_after, decision_seen, later_ends, Action, Found, ListName, Active, Passive, Maker, Closure, Given, Next, Place, Claim, ClaimListed, JoinActive, AskActive, LeaveToMake, Make, Fill, NotifyActive, NotifyPassive, Fail, FailNotify, LeaveFull, RefuseActive, Look, JoinPassive, LookListed, AskPassive, LeavePassive, RefusePassive, Try, TryFill, TryNotifyActive, TryNotifyPassive, CancelMake, CancelNotify, CancelLeave, Abandon, Position, Out, ToMake, WaitingToMake, Making, ToWait, Waiting, At, Content, Empty, BeingMade, place_for, action_of, next_of, position_after, Task, failed, task_at, place_task, Seat, makes_at, in_active, in_passive_at, verdict, verdict_of, Change, begins, fills, empties, deed_of, content_after, active_after, passive_after, Finds, IsDone, OnceCell, IsCell, Acts, knows, goes_with, runs, is_begun, is_polling, is_trying, is_cancelling, is_abandoning, is_maker, position_at, answer_by, World, list_in, standing_of, task_of, view_of, task_in, or_before, task_then, makes, list_for, given, is_open, call_of, DecidesOn, gives_something_back, IsItsList, MayTell, IsAllowed, ChangesOneThing, KnowsTask, Carried, IsGranted, Carries, IsPendingMaker, WaitsInList, Waits, IsCause, IsRefusedForCause, LeavesClear, IsTold, TellsOthers, EndsProperly, Legal, IsCellTable}
+use Rattle.world_once_cell.proofs.Prelude.{◌≡◌, ◌≢◌, ℕ, ◌<◌, ◌||◌, ◌⊎◌, inl, inr, true, false, List, length, Option, Some, None, is_some, refl, arith, ap, sym, ◌∙◌, subst, get_or-set_same, get_or-set_other, set, Entry, Waits_unmarked, is_marked_at, mark_at, is_party, entries_of, Answer, Call, Got, Inputs, Made, Move, What, Begin, Go, Refusal, Kind, Rest, Stage, Outside, Inside, Forgotten, Within, Standing, inside, inputs_of, call_in, is_possible, is_stepped, is_decided, may_end, decision, refused, IsUndecided, is_drop, is_giving_back, is_poll_after_ready, is_refusal, Effect, nothing, changes, does, joins, asks, leaves, notifies, notifies_additionally, list_after, some_eq, none_some, finished_number, both, notified_marked, stage_at, stands_as, call_at, polls_again, stage_after, Table, call_seen, again_seen, stands_seen, decided_after, decision_seen, later_ends, Action, Found, ListName, Active, Passive, Maker, Closure, Given, Next, Place, Claim, ClaimListed, JoinActive, AskActive, LeaveToMake, Make, Fill, NotifyActive, NotifyPassive, Fail, FailNotify, LeaveFull, RefuseActive, Look, JoinPassive, LookListed, AskPassive, LeavePassive, RefusePassive, Try, TryFill, TryNotifyActive, TryNotifyPassive, CancelMake, CancelNotify, CancelLeave, Abandon, Position, Out, ToMake, WaitingToMake, Making, ToWait, Waiting, At, Content, Empty, BeingMade, place_for, action_of, next_of, position_after, Task, failed, task_at, place_task, Seat, makes_at, in_active, in_passive_at, verdict, verdict_of, Change, begins, fills, empties, effect_of, content_after, active_after, passive_after, Finds, IsDone, OnceCell, IsCell, Acts, knows, goes_with, runs, is_begun, is_polling, is_trying, is_cancelling, is_abandoning, is_maker, position_at, answer_by, World, list_in, standing_of, task_of, view_of, task_in, or_before, task_then, makes, list_for, given, is_open, call_of, DecidesOn, gives_something_back, IsItsList, MayTell, IsAllowed, ChangesOneThing, KnowsTask, Carried, IsGranted, Carries, IsPendingMaker, WaitsInList, Waits, IsCause, IsRefusedForCause, LeavesClear, IsTold, TellsOthers, EndsProperly, Legal, IsCellTable}
 use Rattle.world_base.proofs.of_queue.Told.{waits_at}
 use Rattle.lock_program.specs.Refusals.{number_of}
 use Rattle.lock_program.specs.declared.end.End.{End}
@@ -204,14 +204,14 @@ notifies_at list RefusePassive e = refl
 notifies_at list CancelNotify e = refl
 notifies_at list _ e = absurd (cc e)
 
-notify_deed : (list : ListName) (f : Found) → IsDone f → deed_of (act.Notify list) f ≡ does list (notifies 1)
-notify_deed list found.Done h = refl
-notify_deed list _ h = absurd h
+notify_effect : (list : ListName) (f : Found) → IsDone f → effect_of (act.Notify list) f ≡ does list (notifies 1)
+notify_effect list found.Done h = refl
+notify_effect list _ h = absurd h
 
 -- ---- What was decided, and what is decided now
 
 module _ (i : Inputs) (p : ℕ) (c : Content) (x : Place) (f : Found) where
-  parted : (v o : Option Answer) → Judged i p c x f v o → is_some v ≡ true → gives_something_back (deed_of (action_of x) f) ≡ true
+  parted : (v o : Option Answer) → Judged i p c x f v o → is_some v ≡ true → gives_something_back (effect_of (action_of x) f) ≡ true
   parted (Some b) o j h = j.1
   parted None o j h = absurd (cc)
 
@@ -249,8 +249,8 @@ join_unlisted (JoinActive k told) h = (refl, refl, refl)
 join_unlisted (JoinPassive told) h = (refl, refl, refl)
 join_unlisted _ h = absurd (cc)
 
-room_found : (i : Inputs) (p : ℕ) (c : Content) (d : Deed Change ListName) (list : ListName) → Room i p c d → d ≡ does list joins → i.memory ≡ true
-room_found i p c d list h e = let P : Deed Change ListName → Type 0 = Room i p c in subst P e h
+room_found : (i : Inputs) (p : ℕ) (c : Content) (d : Effect Change ListName) (list : ListName) → Room i p c d → d ≡ does list joins → i.memory ≡ true
+room_found i p c d list h e = let P : Effect Change ListName → Type 0 = Room i p c in subst P e h
 
 -- a party that stands so has a future or a try
 open_out : (d : Option Answer) (s : Stage) → goes_with s Out ≡ true → is_open (stands_as d s) ≡ false
@@ -342,8 +342,8 @@ module _ (t u : Table OnceCell) (m : Move) (a : Answer) (w : Within) where
     abbrev to : Position
     to = after from fnd
 
-    abbrev deed : Deed Change ListName
-    deed = deed_of (action_of from) fnd
+    abbrev effect : Effect Change ListName
+    effect = effect_of (action_of from) fnd
 
     r : Row i p c from fnd
     r = row i p c t.machine.active t.machine.passive from fnd k.acts.finds
@@ -413,7 +413,7 @@ module _ (t u : Table OnceCell) (m : Move) (a : Answer) (w : Within) where
     its_list : (list : ListName) → list_for (task_at x) ≡ Some list → IsItsList old m list
     its_list list h = ap list_for task_old ∙ h
 
-    allowed_so : (d : Deed Change ListName) → AllowedAt i p c d from → IsAllowed old m d
+    allowed_so : (d : Effect Change ListName) → AllowedAt i p c d from → IsAllowed old m d
     allowed_so nothing h = tt
     allowed_so (changes begins) h = (h.0, ap makes task_now ∙ h.1)
     allowed_so (changes (fills v)) h = (maker_of h.0, task_old ∙ fits_now (act.Fill v) h.1)
@@ -429,14 +429,14 @@ module _ (t u : Table OnceCell) (m : Move) (a : Answer) (w : Within) where
 
     one_change : ChangesOneThing old m new
     one_change = record {
-      deed = deed;
-      allowed = allowed_so deed r.allowed;
+      effect = effect;
+      allowed = allowed_so effect r.allowed;
       cell = k.acts.content;
       active = k.acts.active;
       passive = k.acts.passive;
       others = others_stand;
       parties = acting.as_many verdict_in Rest.Finished t u p w a k.inside k.stages;
-      found_memory = λ list e. room_found i p c deed list r.room e;
+      found_memory = λ list e. room_found i p c effect list r.room e;
       parting = λ h. parted i p c from fnd (verdict_of from) (said (next_of from fnd)) r.judged (sym decided_there ∙ h);
       giving_up = λ h. ap (λ b. b || is_maker c p) decided_there ∙ (ap (λ b. is_some (verdict_of from) || b) (sym makes_seen) ∙ r.held_on h);
     }
@@ -504,11 +504,11 @@ module _ (t u : Table OnceCell) (m : Move) (a : Answer) (w : Within) where
 
     list_new : (list : ListName) → action_of from ≡ act.Ask list → fnd ≡ found.No → (list_in list new ≡ list_after p asks (list_in list old)) × (is_marked_at (is_party p) (list_in list old) ≡ false)
     list_new Active e f = (
-      k.acts.active ∙ (ap (λ b. active_after p (deed_of b fnd) t.machine.active) e ∙ ap (λ z. active_after p (deed_of (act.Ask Active) z) t.machine.active) f),
+      k.acts.active ∙ (ap (λ b. active_after p (effect_of b fnd) t.machine.active) e ∙ ap (λ z. active_after p (effect_of (act.Ask Active) z) t.machine.active) f),
       (let P : Action → Found → Type 0 = λ b z. Finds i p b z c t.machine.active t.machine.passive in let Q : Action → Type 0 = λ b. P b fnd in subst (P (act.Ask Active)) f (subst Q e k.acts.finds)),
     )
     list_new Passive e f = (
-      k.acts.passive ∙ (ap (λ b. passive_after p (deed_of b fnd) t.machine.passive) e ∙ ap (λ z. passive_after p (deed_of (act.Ask Passive) z) t.machine.passive) f),
+      k.acts.passive ∙ (ap (λ b. passive_after p (effect_of b fnd) t.machine.passive) e ∙ ap (λ z. passive_after p (effect_of (act.Ask Passive) z) t.machine.passive) f),
       (let P : Action → Found → Type 0 = λ b z. Finds i p b z c t.machine.active t.machine.passive in let Q : Action → Type 0 = λ b. P b fnd in subst (P (act.Ask Passive)) f (subst Q e k.acts.finds)),
     )
 
@@ -541,11 +541,11 @@ module _ (t u : Table OnceCell) (m : Move) (a : Answer) (w : Within) where
     }
 
     -- nothing was done: the lists are as before
-    nothing_listed : deed ≡ nothing → (new.cell ≡ old.cell) × (new.active ≡ old.active) × (new.passive ≡ old.passive)
+    nothing_listed : effect ≡ nothing → (new.cell ≡ old.cell) × (new.active ≡ old.active) × (new.passive ≡ old.passive)
     nothing_listed e = (
-      k.acts.content ∙ ap (λ (d : Deed Change ListName). content_after p d c) e,
-      k.acts.active ∙ ap (λ (d : Deed Change ListName). active_after p d t.machine.active) e,
-      k.acts.passive ∙ ap (λ (d : Deed Change ListName). passive_after p d t.machine.passive) e,
+      k.acts.content ∙ ap (λ (d : Effect Change ListName). content_after p d c) e,
+      k.acts.active ∙ ap (λ (d : Effect Change ListName). active_after p d t.machine.active) e,
+      k.acts.passive ∙ ap (λ (d : Effect Change ListName). passive_after p d t.machine.passive) e,
     )
 
     unlisted : is_join from ≡ true → (list : ListName) → entries_of p (list_in list old) ≡ 0
@@ -585,15 +585,15 @@ module _ (t u : Table OnceCell) (m : Move) (a : Answer) (w : Within) where
       refused_maker = λ h. sym (k.new_laws.makers p) ∙ (ap makes_at lands_at ∙ (cleared h).2);
     }
 
-    told_list : (list : ListName) → deed ≡ does list (notifies 1) → list_in list new ≡ list_after p (notifies 1) (list_in list old)
-    told_list Active e = k.acts.active ∙ ap (λ (d : Deed Change ListName). active_after p d t.machine.active) e
-    told_list Passive e = k.acts.passive ∙ ap (λ (d : Deed Change ListName). passive_after p d t.machine.passive) e
+    told_list : (list : ListName) → effect ≡ does list (notifies 1) → list_in list new ≡ list_after p (notifies 1) (list_in list old)
+    told_list Active e = k.acts.active ∙ ap (λ (d : Effect Change ListName). active_after p d t.machine.active) e
+    told_list Passive e = k.acts.passive ∙ ap (λ (d : Effect Change ListName). passive_after p d t.machine.passive) e
 
     told : (list : ListName) → action_of from ≡ act.Notify list → IsTold list new
     told list e =
         let P : Action → Type 0 = λ b. Finds i p b fnd c t.machine.active t.machine.passive in
         let is_done : IsDone fnd = subst P e k.acts.finds in
-        notified_marked (list_in list old) (list_in list new) (told_list list (ap (λ b. deed_of b fnd) e ∙ notify_deed list fnd is_done))
+        notified_marked (list_in list old) (list_in list new) (told_list list (ap (λ b. effect_of b fnd) e ∙ notify_effect list fnd is_done))
 
     tells_others : TellsOthers old m a new
     tells_others = record {

@@ -1,5 +1,5 @@
 -- What the first step of a call decides at once.
-use Rattle.world_once_cell.proofs.Prelude.{◌≡◌, ℕ, ◌<◌, ◌≤◌, ◌&&◌, ◌==◌, if◌then◌else◌, Bool, true, false, List, length, Some, None, refl, arith, ap, sym, ◌∙◌, subst, Entry, is_marked_at, is_party, entries_of, is_unmarked, all_marked, else_marked, Answer, Call, Inputs, Made, Move, What, Begin, Rest, Stage, Outside, Inside, Forgotten, Within, Standing, outside, inside, inputs_of, is_stepped, decision, Deed, does, asks, is_drop, stage_at, stands_as, call_at, polls_again, Table, Action, Found, ListName, Active, Passive, Maker, Closure, Given, Place, Claim, ClaimListed, JoinActive, AskActive, LeaveToMake, Make, Fill, NotifyActive, NotifyPassive, Fail, LeaveFull, RefuseActive, Look, AskPassive, Try, TryFill, TryNotifyActive, TryNotifyPassive, CancelMake, CancelLeave, Position, ToMake, WaitingToMake, Making, At, Content, Empty, Full, action_of, next_of, no_task, waits_only, fills_with, failed, task_by, task_at, place_task, makes_at, in_active, in_passive_at, verdict, Change, deed_of, content_after, active_after, passive_after, Finds, FindsContent, FindsMade, FindsAsk, IsDone, everyone, OnceCell, knows, goes_with, is_begun, is_maker, position_at, answer_by, World, list_in, is_empty, standing_of, task_of, view_of, task_in, or_before, task_then, given, AnswersAtOnce, KeepsLists, TriesAtOnce, MakesAtOnce, WaitsAtOnce, PollsMaker, DropsMaker, AsksAtOnce, is_try, is_poll, would_make, is_first_making, waits_for, is_first_wait, first_answer, maker_answer, both, not_one}
+use Rattle.world_once_cell.proofs.Prelude.{◌≡◌, ℕ, ◌<◌, ◌≤◌, ◌&&◌, ◌==◌, if◌then◌else◌, Bool, true, false, List, length, Some, None, refl, arith, ap, sym, ◌∙◌, subst, Entry, is_marked_at, is_party, entries_of, is_unmarked, all_marked, else_marked, Answer, Call, Inputs, Made, Move, What, Begin, Rest, Stage, Outside, Inside, Forgotten, Within, Standing, outside, inside, inputs_of, is_stepped, decision, Effect, does, asks, is_drop, stage_at, stands_as, call_at, polls_again, Table, Action, Found, ListName, Active, Passive, Maker, Closure, Given, Place, Claim, ClaimListed, JoinActive, AskActive, LeaveToMake, Make, Fill, NotifyActive, NotifyPassive, Fail, LeaveFull, RefuseActive, Look, AskPassive, Try, TryFill, TryNotifyActive, TryNotifyPassive, CancelMake, CancelLeave, Position, ToMake, WaitingToMake, Making, At, Content, Empty, Full, action_of, next_of, no_task, waits_only, fills_with, failed, task_by, task_at, place_task, makes_at, in_active, in_passive_at, verdict, Change, effect_of, content_after, active_after, passive_after, Finds, FindsContent, FindsMade, FindsAsk, IsDone, everyone, OnceCell, knows, goes_with, is_begun, is_maker, position_at, answer_by, World, list_in, is_empty, standing_of, task_of, view_of, task_in, or_before, task_then, given, AnswersAtOnce, KeepsLists, TriesAtOnce, MakesAtOnce, WaitsAtOnce, PollsMaker, DropsMaker, AsksAtOnce, is_try, is_poll, would_make, is_first_making, waits_for, is_first_wait, first_answer, maker_answer, both, not_one}
 use Rattle.lock_event.specs.declared.event.Mark.{Mark}
 use Rattle.sync_program.specs.declared.once_cell.Action.TheVariants as act
 use Rattle.sync_program.specs.declared.once_cell.Found.TheVariants as found
@@ -101,7 +101,7 @@ found_empty _ c e h = absurd e
 
 module _ (p : ℕ) (c : Content) where
   abbrev claimed : Found → Content
-  claimed f = content_after p (deed_of act.Claim f) c
+  claimed f = content_after p (effect_of act.Claim f) c
 
   claims : (f : Found) → FindsContent f c → is_maker c p ≡ false → is_maker (claimed f) p ≡ is_empty c
   claims found.Empty e un = contents.is_its_maker p ∙ sym (ap is_empty e)
@@ -138,17 +138,17 @@ module _ (p : ℕ) (c : Content) where
   ask_passive_answer l found.No e = rw e refl
   ask_passive_answer l _ e = absurd e
 
-  ask_deed : (list : ListName) (l : List (Entry ℕ)) (f : Found) → FindsAsk p f l → deed_of (act.Ask list) f ≡ does list asks
-  ask_deed list l found.Yes e = refl
-  ask_deed list l found.No e = refl
-  ask_deed list l _ e = absurd e
+  ask_effect : (list : ListName) (l : List (Entry ℕ)) (f : Found) → FindsAsk p f l → effect_of (act.Ask list) f ≡ does list asks
+  ask_effect list l found.Yes e = refl
+  ask_effect list l found.No e = refl
+  ask_effect list l _ e = absurd e
 
 -- a claim is of the cell alone
-claimed_active : (p : ℕ) (f : Found) (l : List (Entry ℕ)) → active_after p (deed_of act.Claim f) l ≡ l
+claimed_active : (p : ℕ) (f : Found) (l : List (Entry ℕ)) → active_after p (effect_of act.Claim f) l ≡ l
 claimed_active p found.Empty l = refl
 claimed_active p _ l = refl
 
-claimed_passive : (p : ℕ) (f : Found) (l : List (Entry ℕ)) → passive_after p (deed_of act.Claim f) l ≡ l
+claimed_passive : (p : ℕ) (f : Found) (l : List (Entry ℕ)) → passive_after p (effect_of act.Claim f) l ≡ l
 claimed_passive p found.Empty l = refl
 claimed_passive p _ l = refl
 
@@ -206,7 +206,7 @@ ends_telling v (LeaveFull k u) f e b n = absurd (task_never k v e)
 ends_telling v (RefuseActive k) f e b n = absurd (task_never k v e)
 ends_telling v _ f e b n = absurd (cc e)
 
-told_everyone : (p q : ℕ) (f : Found) (l m : List (Entry ℕ)) → IsDone f → length l ≤ everyone → m ≡ passive_after p (deed_of (act.NotifyAll Passive) f) l → 0 < entries_of q m → is_marked_at (is_party q) m ≡ true
+told_everyone : (p q : ℕ) (f : Found) (l m : List (Entry ℕ)) → IsDone f → length l ≤ everyone → m ≡ passive_after p (effect_of (act.NotifyAll Passive) f) l → 0 < entries_of q m → is_marked_at (is_party q) m ≡ true
 told_everyone p q found.Done l m h few e some = else_marked q m some (λ u. (let P : List (Entry ℕ) → Type 0 = λ z. is_unmarked q z ≡ true in all_marked q Mark.Additional everyone l refl few (subst P e u)))
 told_everyone p q _ l m h few e some = absurd h
 
@@ -304,16 +304,16 @@ module _ (t u : Table OnceCell) (m : Move) (a : Answer) (w : Within) (k : Acting
   unmade : (y : Place) → k.from ≡ y → makes_at (At y) ≡ false → is_maker c p ≡ false
   unmade y e h = sym (acting.makes_seen t u m a w k) ∙ (ap (λ z. makes_at (At z)) e ∙ h)
 
-  active_at : (y : Place) → k.from ≡ y → new.active ≡ active_after p (deed_of (action_of y) k.found) t.machine.active
-  active_at y e = k.acts.active ∙ ap (λ z. active_after p (deed_of (action_of z) k.found) t.machine.active) e
+  active_at : (y : Place) → k.from ≡ y → new.active ≡ active_after p (effect_of (action_of y) k.found) t.machine.active
+  active_at y e = k.acts.active ∙ ap (λ z. active_after p (effect_of (action_of z) k.found) t.machine.active) e
 
-  passive_at : (y : Place) → k.from ≡ y → new.passive ≡ passive_after p (deed_of (action_of y) k.found) t.machine.passive
-  passive_at y e = k.acts.passive ∙ ap (λ z. passive_after p (deed_of (action_of z) k.found) t.machine.passive) e
+  passive_at : (y : Place) → k.from ≡ y → new.passive ≡ passive_after p (effect_of (action_of y) k.found) t.machine.passive
+  passive_at y e = k.acts.passive ∙ ap (λ z. passive_after p (effect_of (action_of z) k.found) t.machine.passive) e
 
   claim_keeps : (y : Place) → k.from ≡ y → action_of y ≡ act.Claim → KeepsLists old new
   claim_keeps y e claim = record {
-    active = active_at y e ∙ (ap (λ b. active_after p (deed_of b k.found) t.machine.active) claim ∙ claimed_active p k.found t.machine.active);
-    passive = passive_at y e ∙ (ap (λ b. passive_after p (deed_of b k.found) t.machine.passive) claim ∙ claimed_passive p k.found t.machine.passive);
+    active = active_at y e ∙ (ap (λ b. active_after p (effect_of b k.found) t.machine.active) claim ∙ claimed_active p k.found t.machine.active);
+    passive = passive_at y e ∙ (ap (λ b. passive_after p (effect_of b k.found) t.machine.passive) claim ∙ claimed_passive p k.found t.machine.passive);
   }
 
   tried : is_try m.what ≡ true → TriesAtOnce old m a new
@@ -376,7 +376,7 @@ module _ (t u : Table OnceCell) (m : Move) (a : Answer) (w : Within) (k : Acting
       polls_at d.0 d.1 task
       )
 
-  emptied : (f : Found) → Finds i p act.Empty f c t.machine.active t.machine.passive → content_after p (deed_of act.Empty f) c ≡ Empty
+  emptied : (f : Found) → Finds i p act.Empty f c t.machine.active t.machine.passive → content_after p (effect_of act.Empty f) c ≡ Empty
   emptied found.Done e = refl
   emptied _ e = absurd e
 
@@ -385,10 +385,10 @@ module _ (t u : Table OnceCell) (m : Move) (a : Answer) (w : Within) (k : Acting
       let q = inside_at (stage_at t.stages p) x y (k.old_fits.stands p k.inside).goes e in
       (acting.goes_inside t u m a w k q.0 (verdict x) (acting.stood t u m a w k ∙ ap (stands_as (verdict x)) q.1)).0
 
-  content_by : (b : Action) → action_of k.from ≡ b → (new.cell ≡ content_after p (deed_of b k.found) c) × Finds i p b k.found c t.machine.active t.machine.passive
-  content_by b e = (k.acts.content ∙ ap (λ z. content_after p (deed_of z k.found) c) e, (let P : Action → Type 0 = λ z. Finds i p z k.found c t.machine.active t.machine.passive in subst P e k.acts.finds))
+  content_by : (b : Action) → action_of k.from ≡ b → (new.cell ≡ content_after p (effect_of b k.found) c) × Finds i p b k.found c t.machine.active t.machine.passive
+  content_by b e = (k.acts.content ∙ ap (λ z. content_after p (effect_of z k.found) c) e, (let P : Action → Type 0 = λ z. Finds i p z k.found c t.machine.active t.machine.passive in subst P e k.acts.finds))
 
-  fills_in : (v : ℕ) (f : Found) → IsDone f → content_after p (deed_of (act.Fill v) f) c ≡ Full v
+  fills_in : (v : ℕ) (f : Found) → IsDone f → content_after p (effect_of (act.Fill v) f) c ≡ Full v
   fills_in v found.Done e = refl
   fills_in v _ e = absurd e
 
@@ -407,7 +407,7 @@ module _ (t u : Table OnceCell) (m : Move) (a : Answer) (w : Within) (k : Acting
       let here = acting.goes_inside t u m a w k z.0 (verdict x) (acting.stood t u m a w k ∙ ap (stands_as (verdict x)) z.1) in
       let tells = ends_telling v k.from k.found (sym (ap task_at here.0) ∙ task) here.1 (ap is_stepped (sym k.answer) ∙ ended) in
       let so = content_by (act.NotifyAll Passive) tells in
-      told_everyone p q k.found t.machine.passive u.machine.passive so.1 k.old_laws.passive_few (k.acts.passive ∙ ap (λ b. passive_after p (deed_of b k.found) t.machine.passive) tells)
+      told_everyone p q k.found t.machine.passive u.machine.passive so.1 k.old_laws.passive_few (k.acts.passive ∙ ap (λ b. passive_after p (effect_of b k.found) t.machine.passive) tells)
 
   fails : is_maker c p ≡ true → task_of old p ≡ failed → new.cell ≡ Empty
   fails made e =
@@ -427,14 +427,14 @@ module _ (t u : Table OnceCell) (m : Move) (a : Answer) (w : Within) (k : Acting
       let d = door.in_active h pending (rw (k.old_laws.active_owners p) at some) in
       record {
         answered = answered (AskActive d.0) d.1 ∙ ask_answer p c d.0 t.machine.active k.found (finds_at (AskActive d.0) d.1);
-        asked = active_at (AskActive d.0) d.1 ∙ ap (λ (b : Deed Change ListName). active_after p b t.machine.active) (ask_deed p c Active t.machine.active k.found (finds_at (AskActive d.0) d.1));
+        asked = active_at (AskActive d.0) d.1 ∙ ap (λ (b : Effect Change ListName). active_after p b t.machine.active) (ask_effect p c Active t.machine.active k.found (finds_at (AskActive d.0) d.1));
       }
       )
   listed h pending Passive some = (
       let e = door.in_passive h pending (rw (k.old_laws.passive_owners p) at some) in
       record {
         answered = answered AskPassive e ∙ ask_passive_answer p c t.machine.passive k.found (finds_at AskPassive e);
-        asked = passive_at AskPassive e ∙ ap (λ (b : Deed Change ListName). passive_after p b t.machine.passive) (ask_deed p c Passive t.machine.passive k.found (finds_at AskPassive e));
+        asked = passive_at AskPassive e ∙ ap (λ (b : Effect Change ListName). passive_after p b t.machine.passive) (ask_effect p c Passive t.machine.passive k.found (finds_at AskPassive e));
       }
       )
 

@@ -60,7 +60,7 @@ module _ (w : World) (m : Move) (well : Standing_well w) where
   not_both made empty = let never : BeingMade m.party ≡ Empty = sym made ∙ empty in cc never
 
   still_one : ChangesOneThing w m w
-  still_one = record { deed = nothing; allowed = tt; cell = refl; active = refl; passive = refl; others = λ q apart. refl; parties = refl; found_memory = λ list e. absurd (cc); parting = λ h. refl; giving_up = λ h. absurd (cc) }
+  still_one = record { effect = nothing; allowed = tt; cell = refl; active = refl; passive = refl; others = λ q apart. refl; parties = refl; found_memory = λ list e. absurd (cc); parting = λ h. refl; giving_up = λ h. absurd (cc) }
 
   abbrev Still : Answer → Type 0
   Still = Idle standing_of (λ x p. knows) Rest.Finished IsCause w m refl

@@ -1,5 +1,5 @@
 -- What each place's action does, finding by finding.
-use Rattle.world_once_cell.proofs.Prelude.{◌≡◌, ◌≢◌, ℕ, ◌||◌, ◌⊎◌, inl, inr, Bool, true, false, List, Option, Some, None, is_some, refl, ap, sym, ◌∙◌, Entry, Answer, Got, Inputs, Made, Refusal, is_refusal, Deed, nothing, changes, does, joins, asks, leaves, notifies, notifies_additionally, Found, got_left, ListName, Active, Passive, Maker, Closure, Given, Next, Place, Claim, ClaimListed, JoinActive, AskActive, LeaveToMake, Make, Fill, NotifyActive, NotifyPassive, Fail, FailNotify, LeaveFull, RefuseActive, Look, JoinPassive, LookListed, AskPassive, LeavePassive, RefusePassive, Try, TryFill, TryNotifyActive, TryNotifyPassive, CancelMake, CancelNotify, CancelLeave, Abandon, Position, Out, At, Content, Empty, BeingMade, Full, action_of, next_of, sets, fills_with, failed, task_by, task_at, place_task, makes_at, in_active, in_passive_at, verdict_of, Change, begins, fills, empties, everyone, deed_of, content_after, Finds, FindsMade, answer_by, is_full, makes, given, gives_something_back, gives_up}
+use Rattle.world_once_cell.proofs.Prelude.{◌≡◌, ◌≢◌, ℕ, ◌||◌, ◌⊎◌, inl, inr, Bool, true, false, List, Option, Some, None, is_some, refl, ap, sym, ◌∙◌, Entry, Answer, Got, Inputs, Made, Refusal, is_refusal, Effect, nothing, changes, does, joins, asks, leaves, notifies, notifies_additionally, Found, got_left, ListName, Active, Passive, Maker, Closure, Given, Next, Place, Claim, ClaimListed, JoinActive, AskActive, LeaveToMake, Make, Fill, NotifyActive, NotifyPassive, Fail, FailNotify, LeaveFull, RefuseActive, Look, JoinPassive, LookListed, AskPassive, LeavePassive, RefusePassive, Try, TryFill, TryNotifyActive, TryNotifyPassive, CancelMake, CancelNotify, CancelLeave, Abandon, Position, Out, At, Content, Empty, BeingMade, Full, action_of, next_of, sets, fills_with, failed, task_by, task_at, place_task, makes_at, in_active, in_passive_at, verdict_of, Change, begins, fills, empties, everyone, effect_of, content_after, Finds, FindsMade, answer_by, is_full, makes, given, gives_something_back, gives_up}
 use Rattle.lock_program.specs.Refusals.{number_of}
 use Rattle.world_base.specs.table.Ends.{answer_of}
 use Rattle.sync_program.specs.declared.once_cell.Action.{Action}
@@ -31,9 +31,9 @@ open_at x = true
 
 module _ (i : Inputs) (p : ℕ) (c : Content) where
   abbrev pub content_then : Place → Found → Content
-  content_then x f = content_after p (deed_of (action_of x) f) c
+  content_then x f = content_after p (effect_of (action_of x) f) c
 
-  abbrev pub AllowedAt : Deed Change ListName → Place → Type 0
+  abbrev pub AllowedAt : Effect Change ListName → Place → Type 0
   AllowedAt nothing x = Unit {0}
   AllowedAt (changes begins) x = (c ≡ Empty) × (makes (place_task x) ≡ true)
   AllowedAt (changes (fills v)) x = (makes_at (At x) ≡ true) × (action_of x ≡ Action.Fill v)
@@ -46,7 +46,7 @@ module _ (i : Inputs) (p : ℕ) (c : Content) where
 
   -- why a call is refused
   abbrev pub Refuses : Place → Found → Refusal → Type 0
-  Refuses x f Refusal.Memory = (i.memory ≡ false) × (is_join x ≡ true) × (deed_of (action_of x) f ≡ nothing)
+  Refuses x f Refusal.Memory = (i.memory ≡ false) × (is_join x ≡ true) × (effect_of (action_of x) f ≡ nothing)
   Refuses x f _ = ⊥
 
   -- why a call is decided on this
@@ -62,11 +62,11 @@ module _ (i : Inputs) (p : ℕ) (c : Content) where
 
   -- what was decided is kept, and its party only gives back; what is decided now has its reason
   abbrev pub Judged : Place → Found → Option Answer → Option Answer → Type 0
-  Judged x f (Some b) o = (o ≡ Some b) × (gives_something_back (deed_of (action_of x) f) ≡ true)
+  Judged x f (Some b) o = (o ≡ Some b) × (gives_something_back (effect_of (action_of x) f) ≡ true)
   Judged x f None None = Unit {0}
   Judged x f None (Some b) = Reason x f b
 
-  abbrev pub Room : Deed Change ListName → Type 0
+  abbrev pub Room : Effect Change ListName → Type 0
   Room (does list joins) = i.memory ≡ true
   Room _ = Unit {0}
 
@@ -75,10 +75,10 @@ module _ (i : Inputs) (p : ℕ) (c : Content) where
   TaskThen x to = (task_at to ≡ place_task x) ⊎ (((k : Maker) × (x ≡ Make k)) × (task_at to ≡ given (place_task x) i.made))
 
   pub record Row (x : Place) (f : Found) : Type 0 where
-    pub allowed : AllowedAt (deed_of (action_of x) f) x
+    pub allowed : AllowedAt (effect_of (action_of x) f) x
     pub judged : Judged x f (verdict_of x) (said (next_of x f))
-    pub room : Room (deed_of (action_of x) f)
-    pub held_on : gives_up (deed_of (action_of x) f) ≡ true → is_some (verdict_of x) || makes_at (At x) ≡ true
+    pub room : Room (effect_of (action_of x) f)
+    pub held_on : gives_up (effect_of (action_of x) f) ≡ true → is_some (verdict_of x) || makes_at (At x) ≡ true
     pub clear : is_refusal (answer_by (next_of x f)) ≡ true → (in_active (after x f) ≡ 0) × (in_passive_at (after x f) ≡ 0) × (makes_at (after x f) ≡ false)
     pub task : open_at (after x f) ≡ true → TaskThen x (after x f)
     pub filled : (v : ℕ) → c ≡ BeingMade p → content_then x f ≡ Full v → (said (next_of x f) ≡ Some (Answer.Ready (Got.Value v))) ⊎ (said (next_of x f) ≡ Some (Answer.Granted Got.Plain))

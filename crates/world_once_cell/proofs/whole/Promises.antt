@@ -1,5 +1,5 @@
 -- What whole calls promise.
-use Rattle.world_once_cell.proofs.Prelude.{◌≡◌, ◌≢◌, ℕ, ◌<◌, ◌⊎◌, inl, inr, Bool, true, false, List, length, Option, Some, None, refl, arith, ap, sym, ◌∙◌, subst, Entry, is_marked_at, marked_count, is_party, entries_of, Answer, Call, Got, Inputs, Move, What, Begin, Go, Refusal, Rest, Stage, Outside, Inside, Forgotten, Within, Standing, outside, inputs_of, call_in, refused, is_poll_after_ready, is_refusal, notifies, list_after, some_none, stage_at, stands_as, call_at, polls_again, Table, call_seen, again_seen, past_last, by_stage_or_past, Action, Found, ListName, Active, Passive, Maker, Closure, Given, Place, Claim, ClaimListed, JoinActive, AskActive, LeaveToMake, Make, Fill, NotifyActive, NotifyPassive, Fail, FailNotify, LeaveFull, RefuseActive, Look, JoinPassive, LookListed, AskPassive, LeavePassive, RefusePassive, CancelMake, CancelNotify, Position, Out, At, Content, Empty, BeingMade, Full, got_of, action_of, next_of, Task, no_task, initializes, sets, waits_only, fills_with, failed, task_by, task_at, place_task, in_active, verdict, list_of, deed_of, content_after, active_after, passive_after, Finds, OnceCell, IsCell, knows, goes_with, runs, is_maker, position_at, answer_by, World, list_in, standing_of, task_of, view_of, or_before, task_then, given, call_of, is_first_making, got_by, IsCellTable, TableSteps, Stands, Steps, ◌-◌, Notified, going_on, moves_of, answers_of, beginning, Known, HoldsWell, learn, Runs}
+use Rattle.world_once_cell.proofs.Prelude.{◌≡◌, ◌≢◌, ℕ, ◌<◌, ◌⊎◌, inl, inr, Bool, true, false, List, length, Option, Some, None, refl, arith, ap, sym, ◌∙◌, subst, Entry, is_marked_at, marked_count, is_party, entries_of, Answer, Call, Got, Inputs, Move, What, Begin, Go, Refusal, Rest, Stage, Outside, Inside, Forgotten, Within, Standing, outside, inputs_of, call_in, refused, is_poll_after_ready, is_refusal, notifies, list_after, some_none, stage_at, stands_as, call_at, polls_again, Table, call_seen, again_seen, past_last, by_stage_or_past, Action, Found, ListName, Active, Passive, Maker, Closure, Given, Place, Claim, ClaimListed, JoinActive, AskActive, LeaveToMake, Make, Fill, NotifyActive, NotifyPassive, Fail, FailNotify, LeaveFull, RefuseActive, Look, JoinPassive, LookListed, AskPassive, LeavePassive, RefusePassive, CancelMake, CancelNotify, Position, Out, At, Content, Empty, BeingMade, Full, got_of, action_of, next_of, Task, no_task, initializes, sets, waits_only, fills_with, failed, task_by, task_at, place_task, in_active, verdict, list_of, effect_of, content_after, active_after, passive_after, Finds, OnceCell, IsCell, knows, goes_with, runs, is_maker, position_at, answer_by, World, list_in, standing_of, task_of, view_of, or_before, task_then, given, call_of, is_first_making, got_by, IsCellTable, TableSteps, Stands, Steps, ◌-◌, Notified, going_on, moves_of, answers_of, beginning, Known, HoldsWell, learn, Runs}
 use Rattle.sync_program.specs.declared.once_cell.Action.TheVariants as act
 use Rattle.sync_program.specs.declared.once_cell.Found.TheVariants as found
 use Rattle.world_once_cell.proofs.of_machine.laws.Kept.{after}
@@ -85,7 +85,7 @@ module _ (p : ℕ) (i : Inputs) (t : Task) where
 
   module _ (c : Content) (q r : List (Entry ℕ)) where
     abbrev active_then : Place → Found → List (Entry ℕ)
-    active_then y f = active_after p (deed_of (action_of y) f) q
+    active_then y f = active_after p (effect_of (action_of y) f) q
 
     record Goes_on (y : Place) (f : Found) : Type 0 where
       pub going : answer_by (next_of y f) ≡ Answer.Stepped → (z : Place) × (after y f ≡ At z) × Coming z (content_then i p c y f) (active_then y f)
@@ -158,8 +158,8 @@ module _ (p : ℕ) (i : Inputs) (t : Task) where
             );
         ended = λ n. (
             let last = rows.ended (λ e. n (k.answer ∙ e)) in
-            let A : Answer → Type 0 = λ b. Ends t p b (content_after p (deed_of (action_of k.from) k.found) t1.machine.content) (active_after p (deed_of (action_of k.from) k.found) t1.machine.active) in
-            let B : Content → Type 0 = λ c. Ends t p a c (active_after p (deed_of (action_of k.from) k.found) t1.machine.active) in
+            let A : Answer → Type 0 = λ b. Ends t p b (content_after p (effect_of (action_of k.from) k.found) t1.machine.content) (active_after p (effect_of (action_of k.from) k.found) t1.machine.active) in
+            let B : Content → Type 0 = λ c. Ends t p a c (active_after p (effect_of (action_of k.from) k.found) t1.machine.active) in
             let D : List (Entry ℕ) → Type 0 = λ l. Ends t p a u.machine.content l in
             comes t p a (view_of u) (subst D (sym k.acts.active) (subst B (sym k.acts.content) (subst A (sym k.answer) last)))
             );
@@ -377,9 +377,9 @@ module _ (p : ℕ) (i : Inputs) (list : ListName) where
   Hands a v = Onward IsHanding HandsOn a v
 
   -- what a notification does to the list
-  told : (f : Found) (c : Content) (q r q' r' : List (Entry ℕ)) → Finds i p (act.Notify list) f c q r → q' ≡ active_after p (deed_of (act.Notify list) f) q → r' ≡ passive_after p (deed_of (act.Notify list) f) r → 0 < length (list_of list q' r') → 0 < marked_count (list_of list q' r')
+  told : (f : Found) (c : Content) (q r q' r' : List (Entry ℕ)) → Finds i p (act.Notify list) f c q r → q' ≡ active_after p (effect_of (act.Notify list) f) q → r' ≡ passive_after p (effect_of (act.Notify list) f) r → 0 < length (list_of list q' r') → 0 < marked_count (list_of list q' r')
   told f c q r q' r' finds eq er some = by_list list f finds eq er some where
-    by_list : (name : ListName) (f : Found) → Finds i p (act.Notify name) f c q r → q' ≡ active_after p (deed_of (act.Notify name) f) q → r' ≡ passive_after p (deed_of (act.Notify name) f) r → 0 < length (list_of name q' r') → 0 < marked_count (list_of name q' r')
+    by_list : (name : ListName) (f : Found) → Finds i p (act.Notify name) f c q r → q' ≡ active_after p (effect_of (act.Notify name) f) q → r' ≡ passive_after p (effect_of (act.Notify name) f) r → 0 < length (list_of name q' r') → 0 < marked_count (list_of name q' r')
     by_list Active found.Done e eq er some = rw eq (notified_some q (rw eq at some))
     by_list Passive found.Done e eq er some = rw er (notified_some r (rw er at some))
     by_list Active _ e eq er some = absurd e
@@ -395,8 +395,8 @@ module _ (p : ℕ) (i : Inputs) (list : ListName) where
             let here : action_of k.from ≡ act.Notify list = rows.refused (ap is_refusal (sym k.answer) ∙ r) in
             let P : Inputs → Action → Type 0 = λ j b. Finds j p b k.found t.machine.content t.machine.active t.machine.passive in
             let Q : Inputs → Type 0 = λ j. P j (action_of k.from) in
-            let A : Action → Type 0 = λ b. u.machine.active ≡ active_after p (deed_of b k.found) t.machine.active in
-            let B : Action → Type 0 = λ b. u.machine.passive ≡ passive_after p (deed_of b k.found) t.machine.passive in
+            let A : Action → Type 0 = λ b. u.machine.active ≡ active_after p (effect_of b k.found) t.machine.active in
+            let B : Action → Type 0 = λ b. u.machine.passive ≡ passive_after p (effect_of b k.found) t.machine.passive in
             told k.found t.machine.content t.machine.active t.machine.passive u.machine.active u.machine.passive (subst (P i) here (subst Q same k.acts.finds)) (subst A here k.acts.active) (subst B here k.acts.passive)
             );
       }

@@ -1,5 +1,5 @@
 -- A call that is carried out alone ends within its number of steps.
-use Rattle.world_once_cell.proofs.Prelude.{◌≡◌, ℕ, ◌+◌, ◌<◌, ◌≤◌, if◌then◌else◌, Bool, true, false, List, Some, refl, arith, ap, sym, ◌∙◌, subst, Entry, is_marked_at, is_party, entries_of, Answer, Call, Inputs, Move, What, Begin, Go, Stage, Within, inputs_of, some_eq, stage_at, call_at, polls_again, Table, Found, Place, Claim, ClaimListed, JoinActive, AskActive, LeaveToMake, Make, Fill, NotifyActive, NotifyPassive, Fail, FailNotify, LeaveFull, RefuseActive, Look, JoinPassive, LookListed, AskPassive, LeavePassive, RefusePassive, Try, TryFill, TryNotifyActive, TryNotifyPassive, CancelMake, CancelNotify, CancelLeave, Abandon, Position, At, Content, action_of, next_of, in_active, in_passive_at, deed_of, active_after, passive_after, Finds, OnceCell, IsCell, knows, goes_with, position_at, answer_by, going_on, left_by, beginning, joined_unmarked, IsCellTable, TableSteps}
+use Rattle.world_once_cell.proofs.Prelude.{◌≡◌, ℕ, ◌+◌, ◌<◌, ◌≤◌, if◌then◌else◌, Bool, true, false, List, Some, refl, arith, ap, sym, ◌∙◌, subst, Entry, is_marked_at, is_party, entries_of, Answer, Call, Inputs, Move, What, Begin, Go, Stage, Within, inputs_of, some_eq, stage_at, call_at, polls_again, Table, Found, Place, Claim, ClaimListed, JoinActive, AskActive, LeaveToMake, Make, Fill, NotifyActive, NotifyPassive, Fail, FailNotify, LeaveFull, RefuseActive, Look, JoinPassive, LookListed, AskPassive, LeavePassive, RefusePassive, Try, TryFill, TryNotifyActive, TryNotifyPassive, CancelMake, CancelNotify, CancelLeave, Abandon, Position, At, Content, action_of, next_of, in_active, in_passive_at, effect_of, active_after, passive_after, Finds, OnceCell, IsCell, knows, goes_with, position_at, answer_by, going_on, left_by, beginning, joined_unmarked, IsCellTable, TableSteps}
 use Rattle.sync_program.specs.declared.once_cell.Found.TheVariants as found
 use Rattle.world_once_cell.proofs.of_machine.laws.Kept.{after}
 use Rattle.world_once_cell.proofs.of_machine.stages.Turns.{Turn, turn}
@@ -21,10 +21,10 @@ module _ (i : Inputs) (p : ℕ) (c : Content) (q r : List (Entry ℕ)) where
   own_passive = is_marked_at (is_party p) r
 
   abbrev active_then : Place → Found → Bool
-  active_then x f = is_marked_at (is_party p) (active_after p (deed_of (action_of x) f) q)
+  active_then x f = is_marked_at (is_party p) (active_after p (effect_of (action_of x) f) q)
 
   abbrev passive_then : Place → Found → Bool
-  passive_then x f = is_marked_at (is_party p) (passive_after p (deed_of (action_of x) f) r)
+  passive_then x f = is_marked_at (is_party p) (passive_after p (effect_of (action_of x) f) r)
 
   leaves_next : (b : Bool) → 5 < (if b then 10 else 6)
   leaves_next true = omega arith
@@ -158,11 +158,11 @@ module _ (t u : Table OnceCell) (m : Move) (a : Answer) where
   less : (w : Within) (k : Acting t u m a w) → left_by a (steps_left u.machine p) < left k.from (active_marked t.machine p) (passive_marked t.machine p)
   less w k =
       let here = fewer (inputs_of m.what) p t.machine.content t.machine.active t.machine.passive k.from k.found k.acts.finds (acting.own_active t u m a w k) (acting.own_passive t u m a w k) in
-      let marks : active_marked u.machine p ≡ is_marked_at (is_party p) (active_after p (deed_of (action_of k.from) k.found) t.machine.active) = ap (is_marked_at (is_party p)) k.acts.active in
-      let marks' : passive_marked u.machine p ≡ is_marked_at (is_party p) (passive_after p (deed_of (action_of k.from) k.found) t.machine.passive) = ap (is_marked_at (is_party p)) k.acts.passive in
-      let same : left_by a (steps_left u.machine p) ≡ Left k.from k.found (is_marked_at (is_party p) (active_after p (deed_of (action_of k.from) k.found) t.machine.active)) (is_marked_at (is_party p) (passive_after p (deed_of (action_of k.from) k.found) t.machine.passive)) =
+      let marks : active_marked u.machine p ≡ is_marked_at (is_party p) (active_after p (effect_of (action_of k.from) k.found) t.machine.active) = ap (is_marked_at (is_party p)) k.acts.active in
+      let marks' : passive_marked u.machine p ≡ is_marked_at (is_party p) (passive_after p (effect_of (action_of k.from) k.found) t.machine.passive) = ap (is_marked_at (is_party p)) k.acts.passive in
+      let same : left_by a (steps_left u.machine p) ≡ Left k.from k.found (is_marked_at (is_party p) (active_after p (effect_of (action_of k.from) k.found) t.machine.active)) (is_marked_at (is_party p) (passive_after p (effect_of (action_of k.from) k.found) t.machine.passive)) =
       ap (λ b. left_by b (steps_left u.machine p)) k.answer ∙ (ap (λ x. left_by (answer_by (next_of k.from k.found)) (left_at x (active_marked u.machine p) (passive_marked u.machine p))) (acting.lands_at t u m a w k)
-      ∙ (ap (λ b. Left k.from k.found b (passive_marked u.machine p)) marks ∙ ap (λ b. Left k.from k.found (is_marked_at (is_party p) (active_after p (deed_of (action_of k.from) k.found) t.machine.active)) b) marks')) in
+      ∙ (ap (λ b. Left k.from k.found b (passive_marked u.machine p)) marks ∙ ap (λ b. Left k.from k.found (is_marked_at (is_party p) (active_after p (effect_of (action_of k.from) k.found) t.machine.active)) b) marks')) in
       rw same here
 
   pub from_turn : (w : Within) (k : Acting t u m a w) → Within_most (stage_at t.stages p) m.what w (position_at t.machine.positions p) k.from

@@ -35,7 +35,7 @@ use Rattle.world_once_cell.specs.program.Program.{Position}
 use Rattle.sync_program.specs.declared.once_cell.Position.TheVariants.{Out, ToMake, WaitingToMake, Making, ToWait, Waiting, At}
 use Rattle.world_once_cell.specs.program.Program.{place_for, action_of, next_of, position_after}
 use Rattle.world_once_cell.specs.machine.Seats.{makes_at, in_active, in_passive_at, waits, owes, value_known, is_late, will_tell, is_resting}
-use Rattle.world_once_cell.specs.program.Deeds.{Finds, deed_of, content_after, active_after, passive_after, everyone}
+use Rattle.world_once_cell.specs.program.Effects.{Finds, effect_of, content_after, active_after, passive_after, everyone}
 use Rattle.world_once_cell.specs.program.Words.{refilled}
 use Rattle.world_once_cell.specs.machine.Tally.{IsSound, tally_of, counts_of}
 
@@ -212,9 +212,9 @@ answer_by (next.End e x) = answer_of (got_left x) e
 -- A party does the action of this place, which finds this, and goes where its program says.
 pub record Acts (inputs : Inputs) (p : ℕ) (from : Place) (found : Found) (s t : OnceCell) : Type 0 where
   pub finds : Finds inputs p (action_of from) found s.content s.active s.passive
-  pub content : t.content ≡ content_after p (deed_of (action_of from) found) s.content
-  pub active : t.active ≡ active_after p (deed_of (action_of from) found) s.active
-  pub passive : t.passive ≡ passive_after p (deed_of (action_of from) found) s.passive
+  pub content : t.content ≡ content_after p (effect_of (action_of from) found) s.content
+  pub active : t.active ≡ active_after p (effect_of (action_of from) found) s.active
+  pub passive : t.passive ≡ passive_after p (effect_of (action_of from) found) s.passive
   pub positions : t.positions ≡ slice_set s.positions p (position_after (next_of from found))
 
 -- A move of the party, answered so.

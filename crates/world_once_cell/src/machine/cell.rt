@@ -3,12 +3,12 @@
 ghost use Rattle.std.specs.Prelude.{◌≡◌, ◌<◌, length, slice_get, replicate, IfOk};
 ghost use Rattle.sync_program.specs.declared.once_cell.Position.TheVariants.{Out};
 ghost use Rattle.world_once_cell.specs.program.Program.{place_for as place_for_lem, position_after};
-ghost use Rattle.world_once_cell.specs.program.Deeds.{list_of};
+ghost use Rattle.world_once_cell.specs.program.Effects.{list_of};
 ghost use Rattle.world_once_cell.specs.machine.Machine.{new_cell, IsCell, answer_by};
 ghost use Rattle.world_once_cell.specs.program.Words.{content_of, kept_of};
 
 use crate::program::calls::{got_left, position_left, start};
-use crate::program::deeds::carry_out;
+use crate::program::effects::carry_out;
 use crate::program::words::{Content, Words};
 use lock_event::Entry;
 use lock_program::Next;

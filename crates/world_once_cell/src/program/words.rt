@@ -1,7 +1,7 @@
 //! What a once-cell has in it, and the words that say so.
 
 ghost use Rattle.std.specs.Prelude.{◌≡◌, None};
-ghost use Rattle.world_once_cell.specs.program.Deeds.{FindsContent, claimed_after};
+ghost use Rattle.world_once_cell.specs.program.Effects.{FindsContent, claimed_after};
 ghost use Rattle.world_once_cell.specs.program.Words.{content_of, kept_of, value_in};
 ghost use Rattle.world_once_cell.specs.declared.program.words.Content.TheVariants as contents;
 

@@ -3,7 +3,7 @@ use Rattle.world_pool.proofs.Prelude.{◌≡◌, ℕ, ◌+◌, Bool, true, Optio
 use Rattle.world_semaphore.specs.declared.machine.words.Words.{Words}
 use Rattle.world_semaphore.specs.machine.Conduct.{IsAllowed, IsLegal, Polls, Tries}
 use Rattle.world_semaphore.specs.machine.Course as permit
-use Rattle.world_semaphore.specs.machine.Deeds.{Deed, nothing, changes, does, takes, gives_back, forgets, raises, gives, share_then, words_after, gives_something_back}
+use Rattle.world_semaphore.specs.machine.Effects.{Effect, nothing, changes, does, takes, gives_back, forgets, raises, gives, share_then, words_after, gives_something_back}
 use Rattle.world_semaphore.specs.machine.Seats.{Share, nothing_had, guard_of}
 use Rattle.world_pool.proofs.of_machine.Links
 use Rattle.world_pool.proofs.of_machine.Items.{is_loss}
@@ -72,54 +72,54 @@ module _ (memory : Bool) (p k : ℕ) (d : Option End) (s : Step) (t u : Permits)
   is = permit_course u.courses p
 
   abbrev NoRaise : Type 0
-  NoRaise = (n : ℕ) → legal.deed ≡ changes (raises n) → ⊥
+  NoRaise = (n : ℕ) → legal.effect ≡ changes (raises n) → ⊥
 
   abbrev NoForget : Type 0
-  NoForget = (n : ℕ) → legal.deed ≡ changes (forgets n) → ⊥
+  NoForget = (n : ℕ) → legal.effect ≡ changes (forgets n) → ⊥
 
-  by_deed : (deed : Deed) → u.words ≡ words_after deed t.words → ((n : ℕ) → deed ≡ changes (raises n) → ⊥) → ((n : ℕ) → deed ≡ changes (forgets n) → ⊥) → u.words.limit ≡ t.words.limit
-  by_deed (changes (raises n)) words r f = absurd (r n refl)
-  by_deed (changes (forgets n)) words r f = absurd (f n refl)
-  by_deed (changes (takes n)) words r f = ap (λ (z : Words). z.limit) words
-  by_deed (changes (gives_back n)) words r f = ap (λ (z : Words). z.limit) words
-  by_deed (changes (gives n)) words r f = ap (λ (z : Words). z.limit) words
-  by_deed nothing words r f = ap (λ (z : Words). z.limit) words
-  by_deed (does f) words r g = ap (λ (z : Words). z.limit) words
+  by_effect : (effect : Effect) → u.words ≡ words_after effect t.words → ((n : ℕ) → effect ≡ changes (raises n) → ⊥) → ((n : ℕ) → effect ≡ changes (forgets n) → ⊥) → u.words.limit ≡ t.words.limit
+  by_effect (changes (raises n)) words r f = absurd (r n refl)
+  by_effect (changes (forgets n)) words r f = absurd (f n refl)
+  by_effect (changes (takes n)) words r f = ap (λ (z : Words). z.limit) words
+  by_effect (changes (gives_back n)) words r f = ap (λ (z : Words). z.limit) words
+  by_effect (changes (gives n)) words r f = ap (λ (z : Words). z.limit) words
+  by_effect nothing words r f = ap (λ (z : Words). z.limit) words
+  by_effect (does f) words r g = ap (λ (z : Words). z.limit) words
 
   limit_kept : NoRaise → NoForget → u.words.limit ≡ t.words.limit
-  limit_kept r f = by_deed legal.deed legal.words r f
+  limit_kept r f = by_effect legal.effect legal.words r f
 
-  most_by : (deed : Deed) → u.words ≡ words_after deed t.words → u.words.most ≡ t.words.most
+  most_by : (effect : Effect) → u.words ≡ words_after effect t.words → u.words.most ≡ t.words.most
   most_by (changes c) words = ap (λ (z : Words). z.most) words
   most_by nothing words = ap (λ (z : Words). z.most) words
   most_by (does f) words = ap (λ (z : Words). z.most) words
 
   pub most_kept : u.words.most ≡ t.words.most
-  most_kept = most_by legal.deed legal.words
+  most_kept = most_by legal.effect legal.words
 
   -- nothing is under way afterwards, and something would be
   undecided_raises_none : k ≡ 1 → under_way is ≡ 0 → NoRaise
   undecided_raises_none one none n e =
-      let P : Deed → Type 0 = λ z. IsAllowed p k d z t in
+      let P : Effect → Type 0 = λ z. IsAllowed p k d z t in
       let allowed = subst P e legal.allowed in
-      let Q : Deed → Type 0 = λ z. permit.share is ≡ share_then z (permit.share was) in
+      let Q : Effect → Type 0 = λ z. permit.share is ≡ share_then z (permit.share was) in
       let raised = ap (λ (z : Share). z.under_way) (subst Q e legal.share) in
       absurd (omega (arith, allowed.0))
 
   decided_raises_none : (e : End) → d ≡ Some e → NoRaise
   decided_raises_none e on n is_raise =
-      let P : Deed → Type 0 = λ z. gives_something_back z ≡ true in
+      let P : Effect → Type 0 = λ z. gives_something_back z ≡ true in
       false≢true (subst P is_raise (legal.kept e on).1)
 
   undecided_forgets_none : (d ≡ Some End.GivenBack → ⊥) → NoForget
-  undecided_forgets_none on n e = let P : Deed → Type 0 = λ z. IsAllowed p k d z t in on (subst P e legal.allowed).1
+  undecided_forgets_none on n e = let P : Effect → Type 0 = λ z. IsAllowed p k d z t in on (subst P e legal.allowed).1
 
   bare_forgets_none : permit.share was ≡ nothing_had → NoForget
-  bare_forgets_none bare n e = let P : Deed → Type 0 = λ z. IsAllowed p k d z t in bare_guard n (permit.share was) bare (subst P e legal.allowed).0
+  bare_forgets_none bare n e = let P : Effect → Type 0 = λ z. IsAllowed p k d z t in bare_guard n (permit.share was) bare (subst P e legal.allowed).0
 
   returned_forgets_none : k ≡ 1 → u.words.available ≡ t.words.available + k → NoForget
   returned_forgets_none one more n e =
-      let P : Deed → Type 0 = λ z. u.words ≡ words_after z t.words in
+      let P : Effect → Type 0 = λ z. u.words ≡ words_after z t.words in
       let same = ap (λ (z : Words). z.available) (subst P e legal.words) in
       absurd (omega arith)
 

@@ -1,5 +1,5 @@
 -- An action of a party is a legal step, as callers see it.
-use Rattle.world_pool.proofs.Prelude.{◌≡◌, ◌≢◌, ℕ, ◌<◌, true, false, length, Option, Some, None, is_some, refl, ap, sym, ◌∙◌, subst, get_or-set_same, get_or-set_other, length-set, length-standings, set, some_eq, none_some, false≢true, Answer, Got, got_with, Inputs, Move, Rest, Stage, Outside, Within, Next, Leased, Taker, Return, after_permit, after_lock, after_release, released, after_return, returned, after_cancel, cancelled, Standing, inputs_of, call_in, is_possible, is_stepped, call_seen, again_seen, is_poll_after_ready, stage_at, stands_as, stage_after, call_at, polls_again, Table, End, Step, Mutex, lock_course, permit_course, Action, Found, Place, Acquire, WaitPermit, TakePermit, TryPermit, TryLock, EnterLock, WaitLock, TakeLock, Pop, Push, ReleaseLock, ReleasingLock, ReturnPermit, ReturningPermit, CancelPermit, CancellingPermit, CancelLock, CancellingLock, Lose, Abandon, Position, Out, At, Aim, Ending, action_of, next_of, position_after, place_for, OnPermits, OnLock, OnItems, has, Seat, fits_permits, fits_lock, in_permits, in_lock, is_leased, knows, Pool, IsPool, Acts, position_at, lease_at, answer_by, goes_with, World, standing_of, lease_of, gives, view_of, verdict_in, Legal, StandsAfter, Deed, Does, Loses, call_of, ends as may_end_so, IsPoolTable}
+use Rattle.world_pool.proofs.Prelude.{◌≡◌, ◌≢◌, ℕ, ◌<◌, true, false, length, Option, Some, None, is_some, refl, ap, sym, ◌∙◌, subst, get_or-set_same, get_or-set_other, length-set, length-standings, set, some_eq, none_some, false≢true, Answer, Got, got_with, Inputs, Move, Rest, Stage, Outside, Within, Next, Leased, Taker, Return, after_permit, after_lock, after_release, released, after_return, returned, after_cancel, cancelled, Standing, inputs_of, call_in, is_possible, is_stepped, call_seen, again_seen, is_poll_after_ready, stage_at, stands_as, stage_after, call_at, polls_again, Table, End, Step, Mutex, lock_course, permit_course, Action, Found, Place, Acquire, WaitPermit, TakePermit, TryPermit, TryLock, EnterLock, WaitLock, TakeLock, Pop, Push, ReleaseLock, ReleasingLock, ReturnPermit, ReturningPermit, CancelPermit, CancellingPermit, CancelLock, CancellingLock, Lose, Abandon, Position, Out, At, Aim, Ending, action_of, next_of, position_after, place_for, OnPermits, OnLock, OnItems, has, Seat, fits_permits, fits_lock, in_permits, in_lock, is_leased, knows, Pool, IsPool, Acts, position_at, lease_at, answer_by, goes_with, World, standing_of, lease_of, gives, view_of, verdict_in, Legal, StandsAfter, Effect, Does, Loses, call_of, ends as may_end_so, IsPoolTable}
 use Rattle.lock_program.specs.declared.end.Next.TheVariants as next
 use Rattle.world_base.specs.Standings.{rest_after}
 use Rattle.world_base.proofs.of_table.Mapped.{set_same}
@@ -7,7 +7,7 @@ use Rattle.world_base.proofs.of_table.Views.{outside_stage}
 use Rattle.world_pool.specs.Legal.{Carried, is_carrying}
 use Rattle.world_pool.specs.machine.Machine.{has_lease}
 use Rattle.world_semaphore.specs.machine.Conduct as semaphore
-use Rattle.world_pool.specs.Legal.{nothing, in_semaphore, in_lock as in_lock_deed, pops, pushes, loses}
+use Rattle.world_pool.specs.Legal.{nothing, in_semaphore, in_lock as in_lock_effect, pops, pushes, loses}
 use Rattle.world_pool.proofs.of_machine.Starts.{Fits}
 use Rattle.world_pool.proofs.of_machine.Links as links
 use Rattle.world_pool.proofs.of_machine.Limits.{limit_stays, most_stays, size_one}
@@ -211,7 +211,7 @@ module _ (t u : Table Pool) (m : Move) (a : Answer) (w : Within) (k : Acting t u
   leases_stay e = k.acts.leases ∙ set_same s.leases p None (lease_at v.leases p) (sym e) inside_leases
 
   abbrev DoesOne : Type 0
-  DoesOne = (d : Deed) × Does d (view_of t) m (view_of u)
+  DoesOne = (d : Effect) × Does d (view_of t) m (view_of u)
 
   in_the_semaphore : (size : ℕ) (d : Option End) (st : Step) → semaphore.IsLegal i.memory p size d st s.permits v.permits → v.lock ≡ s.lock → (v.items ≡ s.items) × (lease_at v.leases p ≡ lease_at s.leases p) → DoesOne
   in_the_semaphore size d st legal same items = (in_semaphore, ((size, d, st, legal), same, (items.0, leases_stay items.1)))
@@ -247,21 +247,21 @@ module _ (t u : Table Pool) (m : Move) (a : Answer) (w : Within) (k : Acting t u
   does CancelPermit _ h e l pl ll il = absurd h
   does CancellingPermit (Found.Permit st) h e l pl ll il = in_the_semaphore _ _ st h.legal e l
   does CancellingPermit _ h e l pl ll il = absurd h
-  does TryLock (Found.Lock st) h e l pl ll il = (in_lock_deed, (h, (_, st, e.legal), (l.0, leases_stay l.1)))
+  does TryLock (Found.Lock st) h e l pl ll il = (in_lock_effect, (h, (_, st, e.legal), (l.0, leases_stay l.1)))
   does TryLock _ h e l pl ll il = absurd e
-  does (EnterLock b) (Found.Lock st) h e l pl ll il = (in_lock_deed, (h, (_, st, e.legal), (l.0, leases_stay l.1)))
+  does (EnterLock b) (Found.Lock st) h e l pl ll il = (in_lock_effect, (h, (_, st, e.legal), (l.0, leases_stay l.1)))
   does (EnterLock b) _ h e l pl ll il = absurd e
-  does (WaitLock b) (Found.Lock st) h e l pl ll il = (in_lock_deed, (h, (_, st, e.legal), (l.0, leases_stay l.1)))
+  does (WaitLock b) (Found.Lock st) h e l pl ll il = (in_lock_effect, (h, (_, st, e.legal), (l.0, leases_stay l.1)))
   does (WaitLock b) _ h e l pl ll il = absurd e
-  does (TakeLock b) (Found.Lock st) h e l pl ll il = (in_lock_deed, (h, (_, st, e.legal), (l.0, leases_stay l.1)))
+  does (TakeLock b) (Found.Lock st) h e l pl ll il = (in_lock_effect, (h, (_, st, e.legal), (l.0, leases_stay l.1)))
   does (TakeLock b) _ h e l pl ll il = absurd e
-  does (ReleaseLock b) (Found.Lock st) h e l pl ll il = (in_lock_deed, (h, (_, st, e.legal), (l.0, leases_stay l.1)))
+  does (ReleaseLock b) (Found.Lock st) h e l pl ll il = (in_lock_effect, (h, (_, st, e.legal), (l.0, leases_stay l.1)))
   does (ReleaseLock b) _ h e l pl ll il = absurd e
-  does (ReleasingLock b) (Found.Lock st) h e l pl ll il = (in_lock_deed, (h, (_, st, e.legal), (l.0, leases_stay l.1)))
+  does (ReleasingLock b) (Found.Lock st) h e l pl ll il = (in_lock_effect, (h, (_, st, e.legal), (l.0, leases_stay l.1)))
   does (ReleasingLock b) _ h e l pl ll il = absurd e
-  does (CancelLock b) (Found.Lock st) h e l pl ll il = (in_lock_deed, (h, (_, st, e.legal), (l.0, leases_stay l.1)))
+  does (CancelLock b) (Found.Lock st) h e l pl ll il = (in_lock_effect, (h, (_, st, e.legal), (l.0, leases_stay l.1)))
   does (CancelLock b) _ h e l pl ll il = absurd e
-  does (CancellingLock b) (Found.Lock st) h e l pl ll il = (in_lock_deed, (h, (_, st, e.legal), (l.0, leases_stay l.1)))
+  does (CancellingLock b) (Found.Lock st) h e l pl ll il = (in_lock_effect, (h, (_, st, e.legal), (l.0, leases_stay l.1)))
   does (CancellingLock b) _ h e l pl ll il = absurd e
   does (Pop b) f h e l pl ll il = (
     pops,
@@ -391,7 +391,7 @@ module _ (t u : Table Pool) (m : Move) (a : Answer) (w : Within) (k : Acting t u
       unchanged = λ e. absurd (impossible_not e);
     };
     one_change = record {
-      deed = did_one.0;
+      effect = did_one.0;
       does = did_one.1;
       others = other_standing;
       other_leases = other_lease;

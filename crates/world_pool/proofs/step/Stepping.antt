@@ -42,7 +42,7 @@ module _ (w : World) (m : Move) (well : (p : ℕ) → HasItsOwn w p (standing_of
   s = standing_of w m.party
 
   still : ChangesOneThing w m w
-  still = record { deed = nothing; does = (refl, refl, (refl, refl)); others = λ q apart. refl; other_leases = λ q apart. refl; parties = refl; made = refl; starved_limit = refl }
+  still = record { effect = nothing; does = (refl, refl, (refl, refl)); others = λ q apart. refl; other_leases = λ q apart. refl; parties = refl; made = refl; starved_limit = refl }
 
   abbrev Still : Answer → Type 0
   Still = Idle standing_of (λ x p. knows) Rest.Holding (λ x n y r. y ≡ x) w m refl

@@ -30,7 +30,7 @@ use Rattle.world_pool.specs.declared.program.places.Position.TheVariants.{Out, M
 use Rattle.world_pool.specs.declared.program.places.Return.TheVariants as why
 use Rattle.world_pool.specs.declared.program.places.Taker.TheVariants as taker
 use Rattle.world_pool.specs.program.Program.{Next, place_for, action_of, next_of, position_after, got_with}
-use Rattle.world_pool.specs.program.Deeds.{OnPermits, OnLock, OnItems}
+use Rattle.world_pool.specs.program.Effects.{OnPermits, OnLock, OnItems}
 use Rattle.world_pool.specs.machine.Ranks.{left, left_at, left_then}
 use Rattle.world_pool.specs.machine.Roles.{fits_permits, fits_lock, in_permits, in_lock, is_leased, is_resting, is_taking_out}
 

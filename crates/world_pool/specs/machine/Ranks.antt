@@ -3,7 +3,7 @@ use Rattle.std.specs.Prelude.{ℕ, ◌+◌}
 use Rattle.lock_program.specs.declared.end.Next.TheVariants as next
 use Rattle.lock_program.specs.declared.mutex.LockCall.TheVariants as lock_call
 use Rattle.sync_program.specs.declared.permits.SemaphoreCall.TheVariants as permit_call
-use Rattle.world_mutex.specs.machine.Deeds.{most_steps as most_lock_steps}
+use Rattle.world_mutex.specs.machine.Effects.{most_steps as most_lock_steps}
 use Rattle.world_semaphore.specs.machine.Calls.{most_steps as most_permit_steps}
 use Rattle.world_pool.specs.declared.program.places.Aim.{Aim}
 use Rattle.world_pool.specs.declared.program.places.Aim.TheVariants as aim

@@ -86,7 +86,7 @@ fn none_leased(alloc: Global, parties: u32) -> Result<Vec<Option<u64>>, AllocErr
     Ok(leases)
 }
 
-ghost use Rattle.world_pool.specs.program.Deeds.{CanItems, CanLocks, OnPermits, OnLock, OnItems};
+ghost use Rattle.world_pool.specs.program.Effects.{CanItems, CanLocks, OnPermits, OnLock, OnItems};
 
 /// Takes the last item out of the list; with a lease, its party puts it back instead; or it loses it.
 fn on_items(items: &mut Vec<u64>, lease: &mut Option<u64>, action: Action)

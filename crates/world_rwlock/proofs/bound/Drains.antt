@@ -1,5 +1,5 @@
 -- Where nobody writes or waits to write, each poll of a notified reader lets it in, below the readers' limit, and leaves everybody else as he was.
-use Rattle.world_rwlock.proofs.Prelude.{◌≡◌, ◌≢◌, ℕ, zero, suc, ◌+◌, ◌<◌, ◌≤◌, ◌⊎◌, inl, inr, Bool, true, false, List, length, Some, refl, arith, ap, sym, ◌∙◌, subst, get_or-set_other, length-set, set, ℕ_discrete, some_eq, Right, read, answers_of, first_of, Entry, is_marked_at, is_party, entries_of, Account, accounts_after, Answer, Call, Inputs, Move, What, Begin, Go, Rest, Standing, outside, forgotten, is_outside, is_possible, going_on, beginning, how_many, is_on, Deed, nothing, changes, does, Change, takes_turn, leaves_turn, starves, recovers, begins_to_read, stops_reading, becomes_upgradable, stops_upgradable, begins_to_wait, begins_to_write, upgrades_at_once, unmarks, downgrades_to_upgradable, puts, turn_after, readers_after, IsAllowed, ListFunction, list_after, ListName, for_the_turn, for_no_readers, for_no_writer, World, State, nobody, standing_of, how_many_read, is_marked, HasTurn, entries_in, knows_of, HasItsOwn, IsSound, IsAwake, is_at_rest, Stands, Moved as Steps, Runs, HoldsWell, accounts_of, TakesToRead}
+use Rattle.world_rwlock.proofs.Prelude.{◌≡◌, ◌≢◌, ℕ, zero, suc, ◌+◌, ◌<◌, ◌≤◌, ◌⊎◌, inl, inr, Bool, true, false, List, length, Some, refl, arith, ap, sym, ◌∙◌, subst, get_or-set_other, length-set, set, ℕ_discrete, some_eq, Right, read, answers_of, first_of, Entry, is_marked_at, is_party, entries_of, Account, accounts_after, Answer, Call, Inputs, Move, What, Begin, Go, Rest, Standing, outside, forgotten, is_outside, is_possible, going_on, beginning, how_many, is_on, Effect, nothing, changes, does, Change, takes_turn, leaves_turn, starves, recovers, begins_to_read, stops_reading, becomes_upgradable, stops_upgradable, begins_to_wait, begins_to_write, upgrades_at_once, unmarks, downgrades_to_upgradable, puts, turn_after, readers_after, IsAllowed, ListFunction, list_after, ListName, for_the_turn, for_no_readers, for_no_writer, World, State, nobody, standing_of, how_many_read, is_marked, HasTurn, entries_in, knows_of, HasItsOwn, IsSound, IsAwake, is_at_rest, Stands, Moved as Steps, Runs, HoldsWell, accounts_of, TakesToRead}
 use Rattle.world_base.specs.Bounds.{SomeMarked, PolledInTurn}
 use Rattle.world_base.specs.Rosters.{bit}
 use Rattle.world_base.proofs.Bounds.{marked_listed}
@@ -58,10 +58,10 @@ turn_on p begins_to_read x old may without g = g
 turn_on p stops_reading x old may without g = g
 turn_on p (puts v) x old may without g = g
 
-turn_by_deed : (p : ℕ) (d : Deed Change ListName) (x : World) (old : Turn) → IsAllowed p d x → (HasTurn old p → ⊥) → SameTurn p old x.state.turn → SameTurn p old (turn_after p d x.state.turn)
-turn_by_deed p nothing x old may without g = g
-turn_by_deed p (changes c) x old may without g = turn_on p c x old may without g
-turn_by_deed p (does list f) x old may without g = g
+turn_by_effect : (p : ℕ) (d : Effect Change ListName) (x : World) (old : Turn) → IsAllowed p d x → (HasTurn old p → ⊥) → SameTurn p old x.state.turn → SameTurn p old (turn_after p d x.state.turn)
+turn_by_effect p nothing x old may without g = g
+turn_by_effect p (changes c) x old may without g = turn_on p c x old may without g
+turn_by_effect p (does list f) x old may without g = g
 
 -- of the readers a step changes its own party alone
 abbrev SameReaders : ℕ → List Bool → List Bool → Type 0
@@ -70,7 +70,7 @@ SameReaders p old new = (length new ≡ length old) × ((q : ℕ) → q ≢ p �
 set_readers : (p : ℕ) (rs : List Bool) (b : Bool) → SameReaders p rs (set rs p b)
 set_readers p rs b = (length-set rs p b, λ q apart. get_or-set_other rs p q b false apart)
 
-readers_by : (p : ℕ) (d : Deed Change ListName) (rs : List Bool) → SameReaders p rs (readers_after p d rs)
+readers_by : (p : ℕ) (d : Effect Change ListName) (rs : List Bool) → SameReaders p rs (readers_after p d rs)
 readers_by p (changes begins_to_read) rs = set_readers p rs true
 readers_by p (changes becomes_upgradable) rs = set_readers p rs true
 readers_by p (changes downgrades) rs = set_readers p rs true
@@ -82,14 +82,14 @@ readers_by p (changes upgrades_at_once) rs = set_readers p rs false
 readers_by p _ rs = (refl, λ q apart. refl)
 
 -- the list grows and shrinks by the party's own entry, and the others keep theirs
-entries_long : (p : ℕ) (d : Deed Change ListName) (l : List (Entry ℕ)) → entries_of p (entries_after p d for_no_writer l) + length l ≡ entries_of p l + length (entries_after p d for_no_writer l)
+entries_long : (p : ℕ) (d : Effect Change ListName) (l : List (Entry ℕ)) → entries_of p (entries_after p d for_no_writer l) + length l ≡ entries_of p l + length (entries_after p d for_no_writer l)
 entries_long p (does for_no_writer f) l = list_long p f l
 entries_long p (does for_the_turn f) l = refl
 entries_long p (does for_no_readers f) l = refl
 entries_long p nothing l = refl
 entries_long p (changes c) l = refl
 
-entries_others : (p : ℕ) (d : Deed Change ListName) (l : List (Entry ℕ)) (q : ℕ) → q ≢ p → entries_of q (entries_after p d for_no_writer l) ≡ entries_of q l
+entries_others : (p : ℕ) (d : Effect Change ListName) (l : List (Entry ℕ)) (q : ℕ) → q ≢ p → entries_of q (entries_after p d for_no_writer l) ≡ entries_of q l
 entries_others p (does for_no_writer f) l q apart = others p l f q apart
 entries_others p (does for_the_turn f) l q apart = refl
 entries_others p (does for_no_readers f) l q apart = refl
@@ -109,7 +109,7 @@ module _ (p : ℕ) (w : World) (without : HasTurn w.state.turn p → ⊥) where
   on_step : (what : What) (x : World) (b : Answer) (y : World) → IsSame p w x → Steps x (record { party = p; what = what }) b y → Onward (IsSame p w) (λ c z. IsSame p w z) b y
   on_step what x b y g s =
       let one = s.legal.one_change in
-      let d = one.deed in
+      let d = one.effect in
       let readers_now : y.state.readers ≡ readers_after p d x.state.readers = ap (λ (z : State). z.readers) one.state in
       let turn_now : y.state.turn ≡ turn_after p d x.state.turn = ap (λ (z : State). z.turn) one.state in
       let es : y.no_writer ≡ entries_after p d for_no_writer x.no_writer = one.lists for_no_writer in
@@ -118,7 +118,7 @@ module _ (p : ℕ) (w : World) (without : HasTurn w.state.turn p → ⊥) where
       let so : IsSame p w y = record {
         standing = λ q apart. one.others q apart ∙ g.standing q apart;
         readers = (ap length readers_now ∙ (step_readers.0 ∙ g.readers.0), λ q apart. ap (λ r. is_on r q) readers_now ∙ (step_readers.1 q apart ∙ g.readers.1 q apart));
-        turn = subst (SameTurn p w.state.turn) (sym turn_now) (turn_by_deed p d x w.state.turn one.allowed without g.turn);
+        turn = subst (SameTurn p w.state.turn) (sym turn_now) (turn_by_effect p d x w.state.turn one.allowed without g.turn);
         limit = one.readers_limit ∙ g.limit;
         entries = λ q apart. ap (entries_of q) es ∙ (entries_others p d x.no_writer q apart ∙ g.entries q apart);
         long = omega (arith, long, g.long, ap length es, ap (entries_of p) es);

@@ -1,5 +1,5 @@
 -- A party that is starved for the turn is overtaken at most as often as entries stand before its own.
-use Rattle.world_rwlock.proofs.Prelude.{◌≡◌, ◌≢◌, ℕ, ◌+◌, ◌-◌, ◌<◌, ◌≤◌, inl, inr, if◌then◌else◌, Bool, true, false, List, refl, sym, ap, ◌∙◌, subst, arith, Entry, marked_count, is_marked_at, IsMarkedFirst, is_party, entries_of, Answer, Call, Inputs, What, Begin, Rest, outside, Account, accounts_after, moves_of, answers_of, Deed, nothing, changes, does, beginning, along, first_of, last_of, Onward, Runs, HoldsWell, World, standing_of, HasTurn, Stands, Moved as Steps, IsSound, Change, ListName, for_the_turn, for_no_readers, for_no_writer, entries_after, accounts_of, IsWholeCall, Promises}
+use Rattle.world_rwlock.proofs.Prelude.{◌≡◌, ◌≢◌, ℕ, ◌+◌, ◌-◌, ◌<◌, ◌≤◌, inl, inr, if◌then◌else◌, Bool, true, false, List, refl, sym, ap, ◌∙◌, subst, arith, Entry, marked_count, is_marked_at, IsMarkedFirst, is_party, entries_of, Answer, Call, Inputs, What, Begin, Rest, outside, Account, accounts_after, moves_of, answers_of, Effect, nothing, changes, does, beginning, along, first_of, last_of, Onward, Runs, HoldsWell, World, standing_of, HasTurn, Stands, Moved as Steps, IsSound, Change, ListName, for_the_turn, for_no_readers, for_no_writer, entries_after, accounts_of, IsWholeCall, Promises}
 use Rattle.std.proofs.lemmas.Bool.{cases_lt}
 use Rattle.lock_event.specs.Lists.{without}
 use Rattle.world_base.proofs.Lists.{others}
@@ -16,18 +16,18 @@ module _ (q p : ℕ) (apart : p ≢ q) (i : Inputs) (bound : ℕ) where
     pub low : before q y.turn_list ≤ bound
     pub there : 0 < entries_of q y.turn_list
 
-  deed_keeps : (x v : World) (d : Deed Change ListName) → v.turn_list ≡ entries_after p d for_the_turn x.turn_list → Before x → Before v
-  deed_keeps x v nothing e b = record { low = rw e b.low; there = rw e b.there }
-  deed_keeps x v (changes c) e b = record { low = rw e b.low; there = rw e b.there }
-  deed_keeps x v (does for_no_readers f) e b = record { low = rw e b.low; there = rw e b.there }
-  deed_keeps x v (does for_no_writer f) e b = record { low = rw e b.low; there = rw e b.there }
-  deed_keeps x v (does for_the_turn f) e b = record {
+  effect_keeps : (x v : World) (d : Effect Change ListName) → v.turn_list ≡ entries_after p d for_the_turn x.turn_list → Before x → Before v
+  effect_keeps x v nothing e b = record { low = rw e b.low; there = rw e b.there }
+  effect_keeps x v (changes c) e b = record { low = rw e b.low; there = rw e b.there }
+  effect_keeps x v (does for_no_readers f) e b = record { low = rw e b.low; there = rw e b.there }
+  effect_keeps x v (does for_no_writer f) e b = record { low = rw e b.low; there = rw e b.there }
+  effect_keeps x v (does for_the_turn f) e b = record {
     low = omega (arith, ap (before q) e, list_before q p f x.turn_list apart b.there, b.low);
     there = omega (arith, ap (entries_of q) e, others p x.turn_list f q (λ h. apart (sym h)), b.there);
   }
 
   keeps : (x : World) (what : What) (a : Answer) (v : World) → Before x → Steps x (record { party = p; what = what }) a v → Onward Before (λ b y. Before y) a v
-  keeps x what a v b s = let on = deed_keeps x v s.legal.one_change.deed (s.legal.one_change.lists for_the_turn) b in record { going = λ e. on; ended = λ e. on }
+  keeps x what a v b s = let on = effect_keeps x v s.legal.one_change.effect (s.legal.one_change.lists for_the_turn) b in record { going = λ e. on; ended = λ e. on }
 
 -- ---- a whole call
 
@@ -50,7 +50,7 @@ module _ (known : ℕ → Account) (w : World) (q p : ℕ) (apart : p ≢ q) (c 
       let low : before q v.turn_list ≤ b = (along Steps accounts_after HoldsWell p i (Before q p apart i b) (λ z y. Before q p apart i b y) (λ x z y g s. keeps q p apart i b x (What.Go i) z y g s) known n w (beginning p c i) a v
       (λ z x s. (
       let gone : x.turn_list ≡ without (is_party p) w.turn_list = (s.at_once.listed_for_turn i polls told.0 (marked_there p w.turn_list told.1)).1 ∙ chosen (is_marked_at (is_party p) w.turn_list) (without (is_party p) w.turn_list) w.turn_list told.1 in
-      let kept = deed_keeps q p apart i (before q w.turn_list) w x s.legal.one_change.deed (s.legal.one_change.lists for_the_turn) (record { low = omega arith; there = there }) in
+      let kept = effect_keeps q p apart i (before q w.turn_list) w x s.legal.one_change.effect (s.legal.one_change.lists for_the_turn) (record { low = omega arith; there = there }) in
       let on : Before q p apart i b x = record { low = omega (arith, ap (before q) gone, first); there = kept.there } in
       record { going = λ e. on; ended = λ e. on }
       )) ended runs).low in

@@ -1,5 +1,5 @@
 -- A move leaves the rights of other parties as they are.
-use Rattle.world_rwlock.proofs.Prelude.{◌≡◌, ◌≢◌, ℕ, ◌⊎◌, if◌then◌else◌, inl, inr, Bool, true, false, List, Some, None, refl, ap, sym, ◌∙◌, subst, get_or, Answer, Move, sought_after, read, is_on, Deed, changes, nobody, passes, is_upgradable, waits_to_write, World, standing_of, sought_by, HasTurn, turn_after, readers_after, IsAllowed, ListName, Legal, other_test, account_by, right_by, right_in, accounts_of}
+use Rattle.world_rwlock.proofs.Prelude.{◌≡◌, ◌≢◌, ℕ, ◌⊎◌, if◌then◌else◌, inl, inr, Bool, true, false, List, Some, None, refl, ap, sym, ◌∙◌, subst, get_or, Answer, Move, sought_after, read, is_on, Effect, changes, nobody, passes, is_upgradable, waits_to_write, World, standing_of, sought_by, HasTurn, turn_after, readers_after, IsAllowed, ListName, Legal, other_test, account_by, right_by, right_in, accounts_of}
 use Rattle.std.proofs.lemmas.List.{get_or-set_other}
 use Rattle.world_rwlock.specs.State.{Turn, writes, reads}
 use Rattle.world_rwlock.specs.Changes
@@ -25,7 +25,7 @@ module _ (w : World) (p q : ℕ) (apart : q ≢ p) where
   either : (t u : Turn) (b : Bool) → IsAt p t → IsAt p u → right_by u b q ≡ right_by t b q
   either t u b was is = not_by p q u b apart is ∙ sym (not_by p q t b apart was)
 
-  turn_kept : (d : Deed Changes.Change ListName) (b : Bool) → IsAllowed p d w → right_by (turn_after p d w.state.turn) b q ≡ right_by w.state.turn b q
+  turn_kept : (d : Effect Changes.Change ListName) (b : Bool) → IsAllowed p d w → right_by (turn_after p d w.state.turn) b q ≡ right_by w.state.turn b q
   turn_kept (changes Changes.takes_turn) b may = either w.state.turn (passes p) b (inl may.0) (inr refl)
   turn_kept (changes Changes.leaves_turn) b (inl e) = either w.state.turn nobody b (at_turn w.state.turn (passes p) p e refl) (inl refl)
   turn_kept (changes Changes.leaves_turn) b (inr e) = either w.state.turn nobody b (at_turn w.state.turn (is_upgradable p) p e refl) (inl refl)
@@ -44,7 +44,7 @@ module _ (w : World) (p q : ℕ) (apart : q ≢ p) where
   turn_kept (changes Changes.downgrades_to_upgradable) b may = either w.state.turn (is_upgradable p) b (at_turn w.state.turn (writes p) p may refl) (inr refl)
   turn_kept _ b may = refl
 
-  reads_kept : (d : Deed Changes.Change ListName) (rs : List Bool) → is_on (readers_after p d rs) q ≡ is_on rs q
+  reads_kept : (d : Effect Changes.Change ListName) (rs : List Bool) → is_on (readers_after p d rs) q ≡ is_on rs q
   reads_kept (changes Changes.begins_to_read) rs = get_or-set_other rs p q true false apart
   reads_kept (changes Changes.becomes_upgradable) rs = get_or-set_other rs p q true false apart
   reads_kept (changes Changes.downgrades) rs = get_or-set_other rs p q true false apart
@@ -58,7 +58,7 @@ module _ (w : World) (p q : ℕ) (apart : q ≢ p) where
 -- what is known of another party stays
 pub others : (w : World) (m : Move) (a : Answer) (v : World) → Legal w m a v → (q : ℕ) → q ≢ m.party → accounts_of v q ≡ accounts_of w q
 others w m a v legal q apart =
-    let d = legal.one_change.deed in
+    let d = legal.one_change.effect in
     let turn : v.state.turn ≡ turn_after m.party d w.state.turn = ap (λ s. s.turn) legal.one_change.state in
     let reading : reads v q ≡ reads w q = ap (λ s. is_on s.readers q) legal.one_change.state ∙ reads_kept w m.party q apart d w.state.readers in
     let right : right_in v q ≡ right_in w q = ap (λ t. right_by t (reads v q) q) turn ∙ (ap (λ b. right_by (turn_after m.party d w.state.turn) b q) reading ∙ turn_kept w m.party q apart d (reads w q) legal.one_change.allowed) in

@@ -1,12 +1,12 @@
--- What one action does, as callers see it: its deed, that the deed is allowed, and why the call is decided. Here for the actions on the word and on the two lists.
-use Rattle.world_rwlock.proofs.Prelude.{◌≡◌, ◌≢◌, ℕ, ◌+◌, ◌<◌, ◌≤◌, ◌==◌, ◌⊎◌, inl, inr, Bool, true, false, List, map, length, Option, Some, None, refl, arith, ap, sym, ◌∙◌, subst, get_or-set_same, get_or-set_other, set, ℕ_discrete, map-set, entries_of, Answer, Value, Move, Refusal, Stage, number_of, Right, read, upgradable, how_many, inputs_of, Deed, nothing, changes, does, listed, turn_at, holder_of, starved_of, out_unlisted, holding_unlisted, out_free, Found, No, Next, Place, action_of, next_of, place_after, has_turn, in_no_writer, in_no_readers, fits_turn, OnNoWriter, OnNoReaders, RwLock, SameRoles, place_at, IsRwLock, Finds, Change, takes_turn, leaves_turn, starves, recovers, begins_to_read, stops_reading, becomes_upgradable, stops_upgradable, begins_to_wait, begins_to_write, upgrades_at_once, unmarks, downgrades_to_upgradable, puts, turn_after, readers_after, starved_after, value_after, IsAllowed, gives_back, entries_after, ListName, for_the_turn, for_no_readers, for_no_writer, World, list_of, told_in, entries_in, how_many_read, MayMeet, IsCause, answer_by, strays, course_of, sought_at, Share, passing, upgrading, waiting, writing, turn_as, share_of, turn_by, is_reading, verdict, seen, notifies, notifies_additionally, is_starved, is_counting, owes_in, owing_at, has_to_tell, mapped_at}
+-- What one action does, as callers see it: its effect, that the effect is allowed, and why the call is decided. Here for the actions on the word and on the two lists.
+use Rattle.world_rwlock.proofs.Prelude.{◌≡◌, ◌≢◌, ℕ, ◌+◌, ◌<◌, ◌≤◌, ◌==◌, ◌⊎◌, inl, inr, Bool, true, false, List, map, length, Option, Some, None, refl, arith, ap, sym, ◌∙◌, subst, get_or-set_same, get_or-set_other, set, ℕ_discrete, map-set, entries_of, Answer, Value, Move, Refusal, Stage, number_of, Right, read, upgradable, how_many, inputs_of, Effect, nothing, changes, does, listed, turn_at, holder_of, starved_of, out_unlisted, holding_unlisted, out_free, Found, No, Next, Place, action_of, next_of, place_after, has_turn, in_no_writer, in_no_readers, fits_turn, OnNoWriter, OnNoReaders, RwLock, SameRoles, place_at, IsRwLock, Finds, Change, takes_turn, leaves_turn, starves, recovers, begins_to_read, stops_reading, becomes_upgradable, stops_upgradable, begins_to_wait, begins_to_write, upgrades_at_once, unmarks, downgrades_to_upgradable, puts, turn_after, readers_after, starved_after, value_after, IsAllowed, gives_back, entries_after, ListName, for_the_turn, for_no_readers, for_no_writer, World, list_of, told_in, entries_in, how_many_read, MayMeet, IsCause, answer_by, strays, course_of, sought_at, Share, passing, upgrading, waiting, writing, turn_as, share_of, turn_by, is_reading, verdict, seen, notifies, notifies_additionally, is_starved, is_counting, owes_in, owing_at, has_to_tell, mapped_at}
 use Rattle.std.proofs.Math.Seq.{map-set_same}
 use Rattle.lock_event.specs.declared.event.Mark.{Mark}
 use Rattle.world_base.proofs.of_queue.Told.{waits_at}
 use Rattle.world_rwlock.proofs.of_machine.stages.Leads.{steps_in_turn}
 use Rattle.world_rwlock.specs.Changes.{upgrades, downgrades}
 use Rattle.world_rwlock.specs.State as state
-use Rattle.world_rwlock.proofs.step.Rows.{is_midway, deed_at, verdict_then, is_after_ready, Reads, Shares, Finding, is_got, WaitsAt, JoinsAt, MeetsReaders, Refuses, Reason, Judged, Room, keeps_what_it_has, lacks_memory, KeepsUpgrade, RefusedAt, Row, row}
+use Rattle.world_rwlock.proofs.step.Rows.{is_midway, effect_at, verdict_then, is_after_ready, Reads, Shares, Finding, is_got, WaitsAt, JoinsAt, MeetsReaders, Refuses, Reason, Judged, Room, keeps_what_it_has, lacks_memory, KeepsUpgrade, RefusedAt, Row, row}
 use Rattle.world_rwlock.proofs.step.Owns as owns
 use Rattle.world_rwlock.proofs.laws.Sound.{none_marked}
 use Rattle.world_rwlock.proofs.table.Views as view
@@ -27,45 +27,45 @@ CauseAs m old new Refusal.Readers = old.readers_limit ≤ how_many_read old
 CauseAs m old new _ = ⊥
 
 -- a refusal for memory, or since too many are starved, does nothing else, and comes from a join, or from within a call on the turn; and whoever meets a limit takes what it is for
-abbrev pub Fitting : World → ℕ → Place → Place → Deed Change ListName → Refusal → Type 0
+abbrev pub Fitting : World → ℕ → Place → Place → Effect Change ListName → Refusal → Type 0
 Fitting old p x to d Refusal.Memory = (d ≡ nothing) × (lacks_memory x ≡ true)
 Fitting old p x to d Refusal.Readers = MayMeet (sought_at to) old p Refusal.Readers
 Fitting old p x to d Refusal.Starved = (d ≡ nothing) × (lacks_memory x ≡ true) × MayMeet (sought_at to) old p Refusal.Starved
 Fitting old p x to d _ = Unit {0}
 
 -- why a call is decided on an answer
-abbrev pub ReasonAs : Move → World → RwLock → World → ℕ → Place → Place → Deed Change ListName → Answer → Type 0
+abbrev pub ReasonAs : Move → World → RwLock → World → ℕ → Place → Place → Effect Change ListName → Answer → Type 0
 ReasonAs m old k new v x to d Answer.Pending = WaitsIn k m.party to
 ReasonAs m old k new v x to d (Answer.Ready got) = (got ≡ Value v) × (is_got to ≡ true)
 ReasonAs m old k new v x to d (Answer.Granted got) = (got ≡ Value v) × (is_got to ≡ true)
 ReasonAs m old k new v x to d (Answer.Refused n) = (r : Refusal) × (n ≡ number_of r) × CauseAs m old new r × Fitting old m.party x to d r
 ReasonAs m old k new v x to d _ = Unit {0}
 
-abbrev pub JudgedAs : Move → World → RwLock → World → ℕ → Place → Place → Deed Change ListName → Option Answer → Option Answer → Type 0
+abbrev pub JudgedAs : Move → World → RwLock → World → ℕ → Place → Place → Effect Change ListName → Option Answer → Option Answer → Type 0
 JudgedAs m old k new v x to d (Some b) o = (o ≡ Some b) × (gives_back d ≡ true)
 JudgedAs m old k new v x to d None None = Unit {0}
 JudgedAs m old k new v x to d None (Some b) = ReasonAs m old k new v x to d b
 
 pub record Facts (m : Move) (l k : RwLock) (ss : List Stage) (opening : ℕ) (ts : List Stage) (v : ℕ) (x : Place) (n : Next) : Type 0 where
-  pub deed : Deed Change ListName
-  pub readers : map is_reading k.places ≡ readers_after m.party deed (map is_reading l.places)
-  pub turn : turn_by (holder_of k.turn) k.places ≡ turn_after m.party deed (turn_by (holder_of l.turn) l.places)
-  pub starved : starved_of k.turn ≡ starved_after m.party deed (starved_of l.turn)
-  pub valued : value_after deed v ≡ v
-  pub allowed : IsAllowed m.party deed (seen l ss opening v)
-  pub lists : (list : ListName) → list_of (seen k ts opening v) list ≡ entries_after m.party deed list (list_of (seen l ss opening v) list)
+  pub effect : Effect Change ListName
+  pub readers : map is_reading k.places ≡ readers_after m.party effect (map is_reading l.places)
+  pub turn : turn_by (holder_of k.turn) k.places ≡ turn_after m.party effect (turn_by (holder_of l.turn) l.places)
+  pub starved : starved_of k.turn ≡ starved_after m.party effect (starved_of l.turn)
+  pub valued : value_after effect v ≡ v
+  pub allowed : IsAllowed m.party effect (seen l ss opening v)
+  pub lists : (list : ListName) → list_of (seen k ts opening v) list ≡ entries_after m.party effect list (list_of (seen l ss opening v) list)
   pub starved_limit : k.turn.limit ≡ l.turn.limit
   pub others : (q : ℕ) → q ≢ m.party → turn_at k.turn.courses q ≡ turn_at l.turn.courses q
-  pub judged : JudgedAs m (seen l ss opening v) k (seen k ts opening v) v x (place_after n) deed (verdict v x (turn_at l.turn.courses m.party)) (verdict_then v (turn_at k.turn.courses m.party) n)
-  pub room : Room (inputs_of m.what).memory deed
-  pub holds_on : keeps_what_it_has (verdict v x (turn_at l.turn.courses m.party)) deed ≡ true
+  pub judged : JudgedAs m (seen l ss opening v) k (seen k ts opening v) v x (place_after n) effect (verdict v x (turn_at l.turn.courses m.party)) (verdict_then v (turn_at k.turn.courses m.party) n)
+  pub room : Room (inputs_of m.what).memory effect
+  pub holds_on : keeps_what_it_has (verdict v x (turn_at l.turn.courses m.party)) effect ≡ true
   pub over : is_after_ready (answer_by v n) ≡ false
   pub upgrade : KeepsUpgrade v x n
   pub refused : RefusedAt x n
 
 -- ---- an action on the word or on a list
 
-readers_by : (d : Deed Change ListName) (p : ℕ) (xs : List Place) (to : Place) → Reads d (is_reading (place_at xs p)) (is_reading to) → map is_reading (set xs p to) ≡ readers_after p d (map is_reading xs)
+readers_by : (d : Effect Change ListName) (p : ℕ) (xs : List Place) (to : Place) → Reads d (is_reading (place_at xs p)) (is_reading to) → map is_reading (set xs p to) ≡ readers_after p d (map is_reading xs)
 readers_by (changes begins_to_read) p xs to h = map-set is_reading xs p to ∙ ap (set (map is_reading xs) p) h
 readers_by (changes becomes_upgradable) p xs to h = map-set is_reading xs p to ∙ ap (set (map is_reading xs) p) h
 readers_by (changes downgrades) p xs to h = map-set is_reading xs p to ∙ ap (set (map is_reading xs) p) h
@@ -133,7 +133,7 @@ module _ (m : Move) (l k : RwLock) (ss : List Stage) (opening : ℕ) (ts : List 
   tells : (list : ListName) → is_midway x ≡ true → owes_in list (owing_at x) ≡ true → has_to_tell list w p ≡ true
   tells list h o = ap (owes_in list) (mapped_at owing_at l.places p Place.Out ∙ ap owing_at (c.midway h)) ∙ o
 
-  allows : (d : Deed Change ListName) → Finding d l x → IsAllowed p d (seen l ss opening v)
+  allows : (d : Effect Change ListName) → Finding d l x → IsAllowed p d (seen l ss opening v)
   allows (changes begins_to_read) h = (none_marked l h.0, omega (arith, view.how_many-read l.places, h.1))
   allows (changes stops_reading) h = view.reads_at l.places p ∙ (sym reads_same ∙ h)
   allows (changes becomes_upgradable) h = (turn_here passing h.0 h.1, omega (arith, view.how_many-read l.places, h.2))
@@ -166,11 +166,11 @@ module _ (m : Move) (l k : RwLock) (ss : List Stage) (opening : ℕ) (ts : List 
     r : Row memory l v x f
     r = row memory l v x f c.finds c.straight word
 
-    turned : Shares (deed_at x f) x to → turn_by (holder_of l.turn) (set l.places p to) ≡ turn_after p (deed_at x f) (turn_by (holder_of l.turn) l.places)
+    turned : Shares (effect_at x f) x to → turn_by (holder_of l.turn) (set l.places p to) ≡ turn_after p (effect_at x f) (turn_by (holder_of l.turn) l.places)
     turned (inl h) =
         let holder = owns.holder_is l ss opening v c.laws c.fits p (has_here h.0) in
-        let P : Option ℕ → Type 0 = λ o. turn_by o (set l.places p to) ≡ turn_after p (deed_at x f) (turn_by o l.places) in
-        subst P (sym holder) (ap (λ y. turn_as p (share_of y)) (get_or-set_same l.places p to Place.Out there) ∙ (sym (h.1 p) ∙ ap (λ s. turn_after p (deed_at x f) (turn_as p s)) c.share))
+        let P : Option ℕ → Type 0 = λ o. turn_by o (set l.places p to) ≡ turn_after p (effect_at x f) (turn_by o l.places) in
+        subst P (sym holder) (ap (λ y. turn_as p (share_of y)) (get_or-set_same l.places p to Place.Out there) ∙ (sym (h.1 p) ∙ ap (λ s. turn_after p (effect_at x f) (turn_as p s)) c.share))
     turned (inr h) = turn_kept (holder_of l.turn) l.places p to there (h.1 ∙ c.share) ∙ sym (h.0 p (turn_by (holder_of l.turn) l.places))
 
     unlisted : in_no_writer x + in_no_readers x ≡ 0 → JoinsAt x (turn_at l.turn.courses p) → entries_in (seen l ss opening v) p ≡ 0
@@ -189,8 +189,8 @@ module _ (m : Move) (l k : RwLock) (ss : List Stage) (opening : ℕ) (ts : List 
     cause Refusal.Memory h = (h.0, unlisted h.1 (h.3 (turn_at l.turn.courses p) fit), by_list, joins_apart (h.3 (turn_at l.turn.courses p) fit)) where
       by_list : (list : ListName) → list_of (seen k ts opening v) list ≡ list_of (seen l ss opening v) list
       by_list for_the_turn = ap (λ t. t.entries) still
-      by_list for_no_readers = r.no_readers p l.no_readers k.no_readers c.no_readers ∙ ap (λ (d : Deed Change ListName). entries_after p d for_no_readers l.no_readers) h.2
-      by_list for_no_writer = r.no_writer p l.no_writer k.no_writer c.no_writer ∙ ap (λ (d : Deed Change ListName). entries_after p d for_no_writer l.no_writer) h.2
+      by_list for_no_readers = r.no_readers p l.no_readers k.no_readers c.no_readers ∙ ap (λ (d : Effect Change ListName). entries_after p d for_no_readers l.no_readers) h.2
+      by_list for_no_writer = r.no_writer p l.no_writer k.no_writer c.no_writer ∙ ap (λ (d : Effect Change ListName). entries_after p d for_no_writer l.no_writer) h.2
     cause Refusal.Readers h = omega (arith, view.how_many-read l.places, h.0)
     cause Refusal.Starved h = absurd h
     cause Refusal.Permits h = absurd h
@@ -213,7 +213,7 @@ module _ (m : Move) (l k : RwLock) (ss : List Stage) (opening : ℕ) (ts : List 
     meets_readers (Some upgradable) h = owns.has_as (turn_by (holder_of l.turn) l.places) p (share_of x) (turn_here (share_of x) h refl)
     meets_readers _ h = absurd h
 
-    fitting : (q : Refusal) → Refuses memory l x f q → Fitting (seen l ss opening v) p x to (deed_at x f) q
+    fitting : (q : Refusal) → Refuses memory l x f q → Fitting (seen l ss opening v) p x to (effect_at x f) q
     fitting Refusal.Memory h = (h.2, h.4)
     fitting Refusal.Readers h = meets_readers (sought_at to) h.1
     fitting Refusal.Starved h = absurd h
@@ -221,7 +221,7 @@ module _ (m : Move) (l k : RwLock) (ss : List Stage) (opening : ℕ) (ts : List 
     fitting Refusal.Generations h = tt
     fitting Refusal.Finished h = tt
 
-    reasons : (b : Answer) → Reason memory l v x f b → ReasonAs m (seen l ss opening v) k (seen k ts opening v) v x to (deed_at x f) b
+    reasons : (b : Answer) → Reason memory l v x f b → ReasonAs m (seen l ss opening v) k (seen k ts opening v) v x to (effect_at x f) b
     reasons Answer.Pending h = waits_here x f c.no_writer c.no_readers (c.same.standing_w ∙ sym (c.laws.owners_no_writer p)) (c.same.standing_r ∙ sym (c.laws.owners_no_readers p)) h
     reasons (Answer.Ready got) h = h
     reasons (Answer.Granted got) h = h
@@ -232,19 +232,19 @@ module _ (m : Move) (l k : RwLock) (ss : List Stage) (opening : ℕ) (ts : List 
     reasons Answer.Waiting h = tt
     reasons Answer.NotPossible h = tt
 
-    judges : (was now : Option Answer) → Judged memory l v x f was now → JudgedAs m (seen l ss opening v) k (seen k ts opening v) v x to (deed_at x f) was now
+    judges : (was now : Option Answer) → Judged memory l v x f was now → JudgedAs m (seen l ss opening v) k (seen k ts opening v) v x to (effect_at x f) was now
     judges (Some b) o h = h
     judges None None h = tt
     judges None (Some b) h = reasons b h
 
     pub on_word : Facts m l k ss opening ts v x (next_of x f)
     on_word = record {
-      deed = deed_at x f;
-      readers = ap (map is_reading) c.places ∙ readers_by (deed_at x f) p l.places to (reads_on (deed_at x f) r.reading);
+      effect = effect_at x f;
+      readers = ap (map is_reading) c.places ∙ readers_by (effect_at x f) p l.places to (reads_on (effect_at x f) r.reading);
       turn = ap (λ t. turn_by (holder_of t) k.places) still ∙ (ap (turn_by (holder_of l.turn)) c.places ∙ turned r.sharing);
       starved = ap starved_of still ∙ sym (r.starving p (starved_of l.turn));
       valued = r.valued v;
-      allowed = allows (deed_at x f) r.finding;
+      allowed = allows (effect_at x f) r.finding;
       lists = by_list;
       starved_limit = ap (λ t. t.limit) still;
       others = λ q apart. ap (λ t. turn_at t.courses q) still;
@@ -255,10 +255,10 @@ module _ (m : Move) (l k : RwLock) (ss : List Stage) (opening : ℕ) (ts : List 
       upgrade = r.upgrade;
       refused = r.refused;
     } where
-      by_list : (list : ListName) → list_of (seen k ts opening v) list ≡ entries_after p (deed_at x f) list (list_of (seen l ss opening v) list)
+      by_list : (list : ListName) → list_of (seen k ts opening v) list ≡ entries_after p (effect_at x f) list (list_of (seen l ss opening v) list)
       by_list for_the_turn = ap (λ t. t.entries) still ∙ sym (r.unturned p l.turn.entries)
       by_list for_no_readers = r.no_readers p l.no_readers k.no_readers c.no_readers
       by_list for_no_writer = r.no_writer p l.no_writer k.no_writer c.no_writer
 
-      reads_on : (d : Deed Change ListName) → Reads d (is_reading x) (is_reading to) → Reads d (is_reading (place_at l.places p)) (is_reading to)
+      reads_on : (d : Effect Change ListName) → Reads d (is_reading x) (is_reading to) → Reads d (is_reading (place_at l.places p)) (is_reading to)
       reads_on d h = subst (λ (b : Bool). Reads d b (is_reading to)) reads_same h

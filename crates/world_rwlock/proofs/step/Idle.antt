@@ -53,7 +53,7 @@ idle_legal t m a k q i =
     let s : Standing = standing_of w m.party in
     record {
       possible = i.possible;
-      one_change = record { deed = nothing; state = refl; allowed = tt; lists = λ list. refl; starved_limit = refl; readers_limit = refl; opening_value = refl; sought = set_back w.sought m.party ∙ ap (set w.sought m.party) (sym (q.sought (sought_by w m.party))); others = λ p apart. refl; parties = refl; found_memory = λ list e. absurd (cc); refused_idly = λ y. refl; starved_idly = λ y. refl; parting = λ h. refl; giving_up = λ g. absurd (cc) };
+      one_change = record { effect = nothing; state = refl; allowed = tt; lists = λ list. refl; starved_limit = refl; readers_limit = refl; opening_value = refl; sought = set_back w.sought m.party ∙ ap (set w.sought m.party) (sym (q.sought (sought_by w m.party))); others = λ p apart. refl; parties = refl; found_memory = λ list e. absurd (cc); refused_idly = λ y. refl; starved_idly = λ y. refl; parting = λ h. refl; giving_up = λ g. absurd (cc) };
       carries = record { ready = λ got d. absurd (q.ready got (same_decides s a (Answer.Ready got) d)); granted = λ got d. absurd (q.granted got (same_decides s a (Answer.Granted got) d)) };
       waits = record { waiting = λ e. absurd (q.pending (sym e)); not_before = not_pending t m.party k };
       refused_for_cause = i.refused_for_cause;
@@ -130,7 +130,7 @@ module _ (t : Table Guarded) (n : ℕ) (p : ℕ) (i : Inputs) where
       record {
         possible = record { exactly = ((λ e. absurd (true≢false (ap is_possible e))), (λ e. absurd (some_none (sym called ∙ e)))); unchanged = λ e. absurd (true≢false (ap is_possible e)) };
         one_change = record {
-          deed = changes (puts n);
+          effect = changes (puts n);
           state = refl;
           allowed = just.1;
           lists = λ list. refl;

@@ -1,5 +1,5 @@
 -- One step of a call is legal.
-use Rattle.world_rwlock.proofs.Prelude.{◌≡◌, ◌≢◌, ℕ, ◌<◌, ◌⊎◌, ◌||◌, ◌==◌, if◌then◌else◌, inl, inr, Bool, true, false, List, map, length, Option, Some, None, refl, arith, ap, sym, ◌∙◌, subst, get_or-set_same, get_or-set_other, set, nat_tests, map-set, false≢true, cases_Bool, Answer, Value, Move, Refusal, Rest, Stage, Within, sought_after, is_poll_after_ready, put_in, is_drop, is_giving_back, is_refusal, number_of, Right, read, upgradable, write, Standing, inside, IsUndecided, is_decided, is_possible, refused, Deed, nothing, does, joins, some_eq, decided_inside, chosen, same_test, TurnCourse, turn_at, out_free, waiting_free, Next, Place, Purpose, place_after, fits_turn, RwLock, place_at, IsRwLock, Change, gives_back, gives_up, ListName, State, World, standing_of, sought_by, is_upgrader, told_in, HasTurn, IsClear, knows_of, call_of, DecidesOn, IsPossible, ChangesOneThing, HasSought, LeavesClear, Carries, Waits, list_for, MayMeet, IsCause, IsRefusedForCause, IsValueKept, EndsProperly, KeepsUpgrades, Legal, stage_at, sought_at, Guarded, answer_by, is_upgrade, verdict, verdict_of, standing_at, seen, Table, decided_after, stands_seen, entries_after, list_of, is_counting}
+use Rattle.world_rwlock.proofs.Prelude.{◌≡◌, ◌≢◌, ℕ, ◌<◌, ◌⊎◌, ◌||◌, ◌==◌, if◌then◌else◌, inl, inr, Bool, true, false, List, map, length, Option, Some, None, refl, arith, ap, sym, ◌∙◌, subst, get_or-set_same, get_or-set_other, set, nat_tests, map-set, false≢true, cases_Bool, Answer, Value, Move, Refusal, Rest, Stage, Within, sought_after, is_poll_after_ready, put_in, is_drop, is_giving_back, is_refusal, number_of, Right, read, upgradable, write, Standing, inside, IsUndecided, is_decided, is_possible, refused, Effect, nothing, does, joins, some_eq, decided_inside, chosen, same_test, TurnCourse, turn_at, out_free, waiting_free, Next, Place, Purpose, place_after, fits_turn, RwLock, place_at, IsRwLock, Change, gives_back, gives_up, ListName, State, World, standing_of, sought_by, is_upgrader, told_in, HasTurn, IsClear, knows_of, call_of, DecidesOn, IsPossible, ChangesOneThing, HasSought, LeavesClear, Carries, Waits, list_for, MayMeet, IsCause, IsRefusedForCause, IsValueKept, EndsProperly, KeepsUpgrades, Legal, stage_at, sought_at, Guarded, answer_by, is_upgrade, verdict, verdict_of, standing_at, seen, Table, decided_after, stands_seen, entries_after, list_of, is_counting}
 use Rattle.lock_event.specs.declared.event.Mark.{Mark}
 use Rattle.world_base.specs.Standings.{decision}
 use Rattle.world_rwlock.specs.State as state
@@ -16,22 +16,22 @@ use Rattle.world_rwlock.proofs.table.Views.{Fits}
 use Rattle.world_rwlock.proofs.step.Decided.{decided}
 
 -- a step keeps what was decided
-keep : (m : Move) (old : World) (k : RwLock) (new : World) (v : ℕ) (x to : Place) (d : Deed Change ListName) (was now : Option Answer) (b : Answer) → JudgedAs m old k new v x to d was now → was ≡ Some b → (now ≡ Some b) × (gives_back d ≡ true)
+keep : (m : Move) (old : World) (k : RwLock) (new : World) (v : ℕ) (x to : Place) (d : Effect Change ListName) (was now : Option Answer) (b : Answer) → JudgedAs m old k new v x to d was now → was ≡ Some b → (now ≡ Some b) × (gives_back d ≡ true)
 keep m old k new v x to d (Some c) now b j e = (j.0 ∙ e, j.1)
 keep m old k new v x to d None now b j e = absurd (cc)
 
 -- what a step decides was decided, or has a reason
-judge : (m : Move) (old : World) (k : RwLock) (new : World) (v : ℕ) (x to : Place) (d : Deed Change ListName) (was now : Option Answer) (b : Answer) → JudgedAs m old k new v x to d was now → now ≡ Some b → (was ≡ Some b) ⊎ ReasonAs m old k new v x to d b
+judge : (m : Move) (old : World) (k : RwLock) (new : World) (v : ℕ) (x to : Place) (d : Effect Change ListName) (was now : Option Answer) (b : Answer) → JudgedAs m old k new v x to d was now → now ≡ Some b → (was ≡ Some b) ⊎ ReasonAs m old k new v x to d b
 judge m old k new v x to d (Some c) now b j e = inl (sym j.0 ∙ e)
 judge m old k new v x to d None None b j e = absurd (cc)
 judge m old k new v x to d None (Some c) b j e = let P : Answer → Type 0 = λ a. ReasonAs m old k new v x to d a in inr (subst P (some_eq e) j)
 
 -- a refusal for memory is that one
-idle_memory : (w : World) (p : ℕ) (x to : Place) (d : Deed Change ListName) (r : Refusal) → number_of Refusal.Memory ≡ number_of r → Fitting w p x to d r → (d ≡ nothing) × (lacks_memory x ≡ true)
+idle_memory : (w : World) (p : ℕ) (x to : Place) (d : Effect Change ListName) (r : Refusal) → number_of Refusal.Memory ≡ number_of r → Fitting w p x to d r → (d ≡ nothing) × (lacks_memory x ≡ true)
 idle_memory w p x to d Refusal.Memory e h = h
 idle_memory w p x to d _ e h = absurd (cc)
 
-idle_starved : (w : World) (p : ℕ) (x to : Place) (d : Deed Change ListName) (r : Refusal) → number_of Refusal.Starved ≡ number_of r → Fitting w p x to d r → d ≡ nothing
+idle_starved : (w : World) (p : ℕ) (x to : Place) (d : Effect Change ListName) (r : Refusal) → number_of Refusal.Starved ≡ number_of r → Fitting w p x to d r → d ≡ nothing
 idle_starved w p x to d Refusal.Starved e h = h.0
 idle_starved w p x to d _ e h = absurd (cc e)
 
@@ -39,11 +39,11 @@ counts_by : (m : Move) (old new : World) (r : Refusal) → number_of Refusal.Sta
 counts_by m old new Refusal.Starved e h = h.2
 counts_by m old new _ e h = absurd (cc e)
 
-found_room : {memory : Bool} (d : Deed Change ListName) (list : ListName) → Room memory d → d ≡ does list joins → memory ≡ true
-found_room {memory} d list r e = let P : Deed Change ListName → Type 0 = Room memory in subst P e r
+found_room : {memory : Bool} (d : Effect Change ListName) (list : ListName) → Room memory d → d ≡ does list joins → memory ≡ true
+found_room {memory} d list r e = let P : Effect Change ListName → Type 0 = Room memory in subst P e r
 
 -- whoever gives something up was decided
-given_up : (o : Option Answer) (d : Deed Change ListName) → keeps_what_it_has o d ≡ true → gives_up d ≡ true → (b : Answer) × (o ≡ Some b)
+given_up : (o : Option Answer) (d : Effect Change ListName) → keeps_what_it_has o d ≡ true → gives_up d ≡ true → (b : Answer) × (o ≡ Some b)
 given_up (Some b) d h g = (b, refl)
 given_up None d h g = absurd (cc)
 
@@ -128,8 +128,8 @@ module _ (m : Move) (l k : RwLock) (ss : List Stage) (opening : ℕ) (v : ℕ) (
     pub walks : Walks x n
 
   module _ (c : Known) where
-    abbrev d : Deed Change ListName
-    d = c.facts.deed
+    abbrev d : Effect Change ListName
+    d = c.facts.effect
 
     there : p < length l.places
     there = omega (arith, c.fits.as_many, c.known)
@@ -188,7 +188,7 @@ module _ (m : Move) (l k : RwLock) (ss : List Stage) (opening : ℕ) (v : ℕ) (
 
     one_change : ChangesOneThing old m said new
     one_change = record {
-      deed = d;
+      effect = d;
       state = made _ _ _ _ _ _ _ _ c.facts.readers c.facts.turn c.facts.starved (sym c.facts.valued);
       allowed = c.facts.allowed;
       lists = c.facts.lists;

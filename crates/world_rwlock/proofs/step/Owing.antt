@@ -1,6 +1,6 @@
 -- Whoever gives something back goes on until it has told of that.
-use Rattle.world_rwlock.proofs.Prelude.{◌≡◌, ℕ, ◌<◌, ◌≤◌, ◌==◌, ◌⊎◌, inl, inr, Bool, true, false, Option, Some, None, List, length, refl, arith, ap, sym, ◌∙◌, subst, get_or, get_or-set_same, get_or-set_other, set, sum_by, sum_by-set, get_or-le-sum_by, false≢true, true≢false, eqb-true, has_turn, notified, Answer, Call, Move, What, Begin, Go, Within, is_drop, inputs_of, is_possible, Deed, nothing, changes, does, some_eq, none_some, stage_at, Table, End, TurnStep, Ending, Found, Place, IsLegal, TurnCourse, waiting_there, taking, has_lock, holds, decision, is_taking, is_holding, is_cancelling, cancelling, Mutex, turn_at, holder_of, out_free, waiting_free, releasing_free, holding_holds, OnNoWriter, OnNoReaders, action_of, next_of, place_after, drop_from, OnTurn, Finds, readers, RwLock, place_at, fits_turn, reads as reads_there, Guarded, answer_by, place_for, TellsOnRelease, ListName, for_the_turn, for_no_readers, for_no_writer, list_of, is_marked, World, how_many_read, HasTurn, nothing_owed, owes_in, has_to_tell, Share, passing, upgrading, waiting, writing, turn_as, turn_by, share_of, owing_at, view_of, knows_at}
-use Rattle.world_mutex.specs.machine.Deeds as mutex
+use Rattle.world_rwlock.proofs.Prelude.{◌≡◌, ℕ, ◌<◌, ◌≤◌, ◌==◌, ◌⊎◌, inl, inr, Bool, true, false, Option, Some, None, List, length, refl, arith, ap, sym, ◌∙◌, subst, get_or, get_or-set_same, get_or-set_other, set, sum_by, sum_by-set, get_or-le-sum_by, false≢true, true≢false, eqb-true, has_turn, notified, Answer, Call, Move, What, Begin, Go, Within, is_drop, inputs_of, is_possible, Effect, nothing, changes, does, some_eq, none_some, stage_at, Table, End, TurnStep, Ending, Found, Place, IsLegal, TurnCourse, waiting_there, taking, has_lock, holds, decision, is_taking, is_holding, is_cancelling, cancelling, Mutex, turn_at, holder_of, out_free, waiting_free, releasing_free, holding_holds, OnNoWriter, OnNoReaders, action_of, next_of, place_after, drop_from, OnTurn, Finds, readers, RwLock, place_at, fits_turn, reads as reads_there, Guarded, answer_by, place_for, TellsOnRelease, ListName, for_the_turn, for_no_readers, for_no_writer, list_of, is_marked, World, how_many_read, HasTurn, nothing_owed, owes_in, has_to_tell, Share, passing, upgrading, waiting, writing, turn_as, turn_by, share_of, owing_at, view_of, knows_at}
+use Rattle.world_mutex.specs.machine.Effects as mutex
 use Rattle.world_mutex.proofs.of_machine.callers.Holders as sees
 use Rattle.world_rwlock.specs.State.{Turn, reads}
 use Rattle.world_rwlock.proofs.of_machine.stages.Leads.{led, steps_in_turn}
@@ -42,7 +42,7 @@ cancelling_free (cancelling b) h = refl
 cancelling_free _ h = absurd (cc)
 
 -- who got the turn in a poll keeps it
-kept_by : (p : ℕ) (x : Deed mutex.Change mutex.ListName) → mutex.is_release x ≡ false → mutex.holder_after p x (Some p) ≡ Some p
+kept_by : (p : ℕ) (x : Effect mutex.Change mutex.ListName) → mutex.is_release x ≡ false → mutex.holder_after p x (Some p) ≡ Some p
 kept_by p nothing h = refl
 kept_by p (changes mutex.takes) h = refl
 kept_by p (changes mutex.releases) h = absurd (cc h)
@@ -242,7 +242,7 @@ module _ (t u : Table Guarded) (m : Move) (a : Answer) (w : Within) (k : Acting 
   holds_not none has = let some = sees.is_held_by l.courses p has in absurd (omega (arith, none, some))
 
   keeps : (s : TurnStep) → IsLegal memory p (decision c) s l n → is_taking c ≡ true → Held l → Held n
-  keeps s g polls has = g.holder ∙ (ap (mutex.holder_after p g.deed) has ∙ kept_by p g.deed (g.keeps_lock (has_lock_decided c polls (sees.is_held_by l.courses p has))))
+  keeps s g polls has = g.holder ∙ (ap (mutex.holder_after p g.effect) has ∙ kept_by p g.effect (g.keeps_lock (has_lock_decided c polls (sees.is_held_by l.courses p has))))
 
   -- whoever gives the turn up goes on
   gives_up : (y : Place) (f : Found) → fits_turn y c ≡ true → On y f → Held l → (Held n → ⊥) → Tells v for_the_turn y f

@@ -1,7 +1,7 @@
 -- Whoever is to be refused, has nothing any more and stands in no list notifies one in its list as its call ends.
 use Rattle.world_rwlock.proofs.Prelude.{◌≡◌, ℕ, true, false, Option, Some, None, List, refl, arith, ap, sym, ◌∙◌, subst, notified, entries_of, Answer, Move, What, Begin, Go, Stage, Inside, Within, read, inside, inputs_of, refused, some_eq, none_some, stage_at, inside_as, call_at, Table, Refusal, End as TurnEnd, TurnStep as Step, Ending, Found, Place, Purpose, TurnCourse, decision, counted, listed, is_holding, Mutex, turn_at, holder_of, holding_holds, OnNoWriter, action_of, next_of, after_lock, released, OnTurn, place_at, fits_turn, in_no_writer, knows_at, Guarded, answer_by, place_for, sought_at, is_for_turn, World, standing_of, sought_by, is_starved, HasTurn, Share, passing, upgrading, waiting, writing, turn_as, turn_by, share_of, refused_by, verdict_until, verdict, view_of}
 use Rattle.world_mutex.specs.machine.Course.{bit}
-use Rattle.world_mutex.specs.machine.Deeds.{entries_after}
+use Rattle.world_mutex.specs.machine.Effects.{entries_after}
 use Rattle.world_mutex.proofs.of_machine.callers.Holders as sees
 use Rattle.world_rwlock.proofs.step.Acting.{Acting, fit, says}
 use Rattle.world_rwlock.proofs.step.Idle.{stood, sought_is}

@@ -1,37 +1,37 @@
 -- What each action on the word or on a list changes and decides, place by place. Written by generators/rwlock_world_rows.py.
-use Rattle.world_rwlock.proofs.Prelude.{◌≡◌, ℕ, ◌+◌, ◌<◌, ◌≤◌, ◌==◌, ◌⊎◌, ◌||◌, not, inl, inr, if◌then◌else◌, Bool, true, false, List, Option, Some, None, refl, sym, ◌∙◌, Entry, is_marked_at, without, is_party, Answer, Value, Refusal, number_of, Right, read, upgradable, Deed, nothing, changes, does, joins, asks, leaves, notifies, chosen, TurnCourse, is_out as is_out_there, is_holding, Action, Pending, Refused, Next, Found, Done, Writer, Full, NoneLeft, SomeLeft, NoMemory, Yes, No, Turn, TurnStep as Step, End, Purpose, Ending, Place, Out, Made, Reading, Upgradable, Writing, EnterRead, JoinNoWriter, LookNoWriter, AskNoWriter, PassOn, LeaveNoWriter, RefuseLeave, RefuseNotify, CancelRead, TryRead, EnterTurn, WaitTurn, TakeTurn, TryTurn, CancelTurn, CancellingTurn, ReleaseTurn, ReleasingTurn, Add, TryUpgrade, Upgrade, Mark, TryWrite, JoinNoReaders, LookNoReaders, AskNoReaders, AwaitNoReaders, LookUnlisted, LeaveNoReaders, DropRead, DropReadNotify, DropUpgradable, DropUpgradableNotify, DropWrite, CancelAwait, Unmark, UnmarkNotify, Down, DownNotify, DowngradeNotify, action_of, next_of, place_after, has_turn, in_no_writer, in_no_readers, fits_turn, OnNoWriter, OnNoReaders, RwLock, Finds, readers, marked, Change, begins_to_read, stops_reading, becomes_upgradable, stops_upgradable, begins_to_wait, begins_to_write, upgrades_at_once, unmarks, downgrades_to_upgradable, turn_after, starved_after, value_after, entries_after, gives_back, gives_up, ListName, for_the_turn, for_no_readers, for_no_writer, decided_after, answer_by, strays, course_of, sought_at, passing, upgrading, waiting, writing, turn_as, share_of, is_reading, is_upgrade, verdict, notifies_additionally, owes_in, owing_at, reads}
+use Rattle.world_rwlock.proofs.Prelude.{◌≡◌, ℕ, ◌+◌, ◌<◌, ◌≤◌, ◌==◌, ◌⊎◌, ◌||◌, not, inl, inr, if◌then◌else◌, Bool, true, false, List, Option, Some, None, refl, sym, ◌∙◌, Entry, is_marked_at, without, is_party, Answer, Value, Refusal, number_of, Right, read, upgradable, Effect, nothing, changes, does, joins, asks, leaves, notifies, chosen, TurnCourse, is_out as is_out_there, is_holding, Action, Pending, Refused, Next, Found, Done, Writer, Full, NoneLeft, SomeLeft, NoMemory, Yes, No, Turn, TurnStep as Step, End, Purpose, Ending, Place, Out, Made, Reading, Upgradable, Writing, EnterRead, JoinNoWriter, LookNoWriter, AskNoWriter, PassOn, LeaveNoWriter, RefuseLeave, RefuseNotify, CancelRead, TryRead, EnterTurn, WaitTurn, TakeTurn, TryTurn, CancelTurn, CancellingTurn, ReleaseTurn, ReleasingTurn, Add, TryUpgrade, Upgrade, Mark, TryWrite, JoinNoReaders, LookNoReaders, AskNoReaders, AwaitNoReaders, LookUnlisted, LeaveNoReaders, DropRead, DropReadNotify, DropUpgradable, DropUpgradableNotify, DropWrite, CancelAwait, Unmark, UnmarkNotify, Down, DownNotify, DowngradeNotify, action_of, next_of, place_after, has_turn, in_no_writer, in_no_readers, fits_turn, OnNoWriter, OnNoReaders, RwLock, Finds, readers, marked, Change, begins_to_read, stops_reading, becomes_upgradable, stops_upgradable, begins_to_wait, begins_to_write, upgrades_at_once, unmarks, downgrades_to_upgradable, turn_after, starved_after, value_after, entries_after, gives_back, gives_up, ListName, for_the_turn, for_no_readers, for_no_writer, decided_after, answer_by, strays, course_of, sought_at, passing, upgrading, waiting, writing, turn_as, share_of, is_reading, is_upgrade, verdict, notifies_additionally, owes_in, owing_at, reads}
 use Rattle.world_rwlock.proofs.of_machine.stages.Leads.{Led, steps_in_turn}
 use Rattle.world_rwlock.specs.Changes.{upgrades, downgrades}
 use Rattle.world_rwlock.specs.State as state
 
 -- what an action changes that found this
-abbrev pub deed_of : Action → Found → Deed Change ListName
-deed_of Action.Read Done = changes begins_to_read
-deed_of Action.Add Done = changes becomes_upgradable
-deed_of Action.Off _ = changes stops_reading
-deed_of Action.Load NoneLeft = changes begins_to_write
-deed_of Action.Mark NoneLeft = changes begins_to_write
-deed_of Action.Mark _ = changes begins_to_wait
-deed_of Action.TryWrite Done = changes begins_to_write
-deed_of Action.TryUpgrade Done = changes upgrades_at_once
-deed_of Action.Upgrade _ = changes upgrades
-deed_of Action.Down _ = changes downgrades
-deed_of Action.Unmark _ = changes unmarks
-deed_of Action.JoinNoWriter Done = does for_no_writer joins
-deed_of Action.AskNoWriter Yes = does for_no_writer asks
-deed_of Action.LeaveNoWriter _ = does for_no_writer leaves
-deed_of Action.NotifyNoWriter _ = does for_no_writer (notifies 1)
-deed_of Action.JoinNoReaders Done = does for_no_readers joins
-deed_of Action.AskNoReaders Yes = does for_no_readers asks
-deed_of Action.LeaveNoReaders _ = does for_no_readers leaves
-deed_of Action.NotifyNoReaders _ = does for_no_readers (notifies 1)
-deed_of _ _ = nothing
+abbrev pub effect_of : Action → Found → Effect Change ListName
+effect_of Action.Read Done = changes begins_to_read
+effect_of Action.Add Done = changes becomes_upgradable
+effect_of Action.Off _ = changes stops_reading
+effect_of Action.Load NoneLeft = changes begins_to_write
+effect_of Action.Mark NoneLeft = changes begins_to_write
+effect_of Action.Mark _ = changes begins_to_wait
+effect_of Action.TryWrite Done = changes begins_to_write
+effect_of Action.TryUpgrade Done = changes upgrades_at_once
+effect_of Action.Upgrade _ = changes upgrades
+effect_of Action.Down _ = changes downgrades
+effect_of Action.Unmark _ = changes unmarks
+effect_of Action.JoinNoWriter Done = does for_no_writer joins
+effect_of Action.AskNoWriter Yes = does for_no_writer asks
+effect_of Action.LeaveNoWriter _ = does for_no_writer leaves
+effect_of Action.NotifyNoWriter _ = does for_no_writer (notifies 1)
+effect_of Action.JoinNoReaders Done = does for_no_readers joins
+effect_of Action.AskNoReaders Yes = does for_no_readers asks
+effect_of Action.LeaveNoReaders _ = does for_no_readers leaves
+effect_of Action.NotifyNoReaders _ = does for_no_readers (notifies 1)
+effect_of _ _ = nothing
 
 -- and which right the place is for
-abbrev pub deed_at : Place → Found → Deed Change ListName
-deed_at DropUpgradable f = changes stops_upgradable
-deed_at (Down true) f = changes downgrades_to_upgradable
-deed_at x f = deed_of (action_of x) f
+abbrev pub effect_at : Place → Found → Effect Change ListName
+effect_at DropUpgradable f = changes stops_upgradable
+effect_at (Down true) f = changes downgrades_to_upgradable
+effect_at x f = effect_of (action_of x) f
 
 -- what the call is decided on then
 abbrev pub verdict_then : ℕ → TurnCourse → Next → Option Answer
@@ -41,8 +41,8 @@ abbrev pub is_after_ready : Answer → Bool
 is_after_ready (Answer.Refused n) = n == number_of Refusal.Finished
 is_after_ready _ = false
 
--- how a deed turns whether its party reads
-abbrev pub Reads : Deed Change ListName → Bool → Bool → Type 0
+-- how an effect turns whether its party reads
+abbrev pub Reads : Effect Change ListName → Bool → Bool → Type 0
 Reads (changes begins_to_read) b c = c ≡ true
 Reads (changes becomes_upgradable) b c = c ≡ true
 Reads (changes downgrades) b c = c ≡ true
@@ -54,7 +54,7 @@ Reads (changes upgrades_at_once) b c = c ≡ false
 Reads _ b c = c ≡ b
 
 -- how it turns for what its party has the turn
-abbrev pub Shares : Deed Change ListName → Place → Place → Type 0
+abbrev pub Shares : Effect Change ListName → Place → Place → Type 0
 Shares d x q = ((has_turn x ≡ 1) × ((p : ℕ) → turn_after p d (turn_as p (share_of x)) ≡ turn_as p (share_of q))) ⊎ (((p : ℕ) (t : state.Turn) → turn_after p d t ≡ t) × (share_of q ≡ share_of x))
 
 -- no call begins at these places: in the midst of a poll that takes the turn, and where readers or the writer are notified
@@ -69,8 +69,8 @@ is_midway DownNotify = true
 is_midway DowngradeNotify = true
 is_midway _ = false
 
--- what a deed found
-abbrev pub Finding : Deed Change ListName → RwLock → Place → Type 0
+-- what an effect found
+abbrev pub Finding : Effect Change ListName → RwLock → Place → Type 0
 Finding (changes begins_to_read) l x = (marked l ≡ 0) × (readers l < l.limit)
 Finding (changes stops_reading) l x = is_reading x ≡ true
 Finding (changes becomes_upgradable) l x = (has_turn x ≡ 1) × (share_of x ≡ passing) × (readers l < l.limit)
@@ -127,7 +127,7 @@ MeetsReaders l x s = ⊥
 
 -- why a step refuses its call
 abbrev pub Refuses : Bool → RwLock → Place → Found → Refusal → Type 0
-Refuses memory l x f Refusal.Memory = (memory ≡ false) × (in_no_writer x + in_no_readers x ≡ 0) × (deed_at x f ≡ nothing) × ((t : TurnCourse) → fits_turn x t ≡ true → JoinsAt x t) × (lacks_memory x ≡ true)
+Refuses memory l x f Refusal.Memory = (memory ≡ false) × (in_no_writer x + in_no_readers x ≡ 0) × (effect_at x f ≡ nothing) × ((t : TurnCourse) → fits_turn x t ≡ true → JoinsAt x t) × (lacks_memory x ≡ true)
 Refuses memory l x f Refusal.Readers = (l.limit ≤ readers l) × MeetsReaders l x (sought_at (place_after (next_of x f)))
 Refuses memory l x f _ = ⊥
 
@@ -140,12 +140,12 @@ Reason memory l v x f (Answer.Refused n) = (r : Refusal) × (n ≡ number_of r) 
 Reason memory l v x f _ = Unit {0}
 
 abbrev pub Judged : Bool → RwLock → ℕ → Place → Found → Option Answer → Option Answer → Type 0
-Judged memory l v x f (Some b) o = (o ≡ Some b) × (gives_back (deed_at x f) ≡ true)
+Judged memory l v x f (Some b) o = (o ≡ Some b) × (gives_back (effect_at x f) ≡ true)
 Judged memory l v x f None None = Unit {0}
 Judged memory l v x f None (Some b) = Reason memory l v x f b
 
 -- whether a join found memory, and that a party gives nothing up until its call is decided
-abbrev pub Room : Bool → Deed Change ListName → Type 0
+abbrev pub Room : Bool → Effect Change ListName → Type 0
 Room memory (does list joins) = memory ≡ true
 Room memory _ = Unit {0}
 
@@ -153,7 +153,7 @@ abbrev pub is_judged : Option Answer → Bool
 is_judged (Some b) = true
 is_judged None = false
 
-abbrev pub keeps_what_it_has : Option Answer → Deed Change ListName → Bool
+abbrev pub keeps_what_it_has : Option Answer → Effect Change ListName → Bool
 keeps_what_it_has o d = not (gives_up d) || is_judged o
 
 -- an upgrade's future stays one while its call is undecided or pending
@@ -175,17 +175,17 @@ abbrev pub IsLast : RwLock → Place → Place → Type 0
 IsLast l x y = (owes_in for_no_readers (owing_at y) ≡ false) ⊎ ((reads x ≡ 1) × (readers l ≡ 1) × (reads y ≡ 0))
 
 pub record Row (memory : Bool) (l : RwLock) (v : ℕ) (x : Place) (f : Found) : Type 0 where
-  pub reading : Reads (deed_at x f) (is_reading x) (is_reading (place_after (next_of x f)))
-  pub sharing : Shares (deed_at x f) x (place_after (next_of x f))
-  pub starving : (p : ℕ) (s : List Bool) → starved_after p (deed_at x f) s ≡ s
-  pub valued : (u : ℕ) → value_after (deed_at x f) u ≡ u
-  pub unturned : (p : ℕ) (a : List (Entry ℕ)) → entries_after p (deed_at x f) for_the_turn a ≡ a
-  pub no_writer : (p : ℕ) (a b : List (Entry ℕ)) → OnNoWriter p (action_of x) f a b → b ≡ entries_after p (deed_at x f) for_no_writer a
-  pub no_readers : (p : ℕ) (a b : List (Entry ℕ)) → OnNoReaders p (action_of x) f a b → b ≡ entries_after p (deed_at x f) for_no_readers a
-  pub finding : Finding (deed_at x f) l x
+  pub reading : Reads (effect_at x f) (is_reading x) (is_reading (place_after (next_of x f)))
+  pub sharing : Shares (effect_at x f) x (place_after (next_of x f))
+  pub starving : (p : ℕ) (s : List Bool) → starved_after p (effect_at x f) s ≡ s
+  pub valued : (u : ℕ) → value_after (effect_at x f) u ≡ u
+  pub unturned : (p : ℕ) (a : List (Entry ℕ)) → entries_after p (effect_at x f) for_the_turn a ≡ a
+  pub no_writer : (p : ℕ) (a b : List (Entry ℕ)) → OnNoWriter p (action_of x) f a b → b ≡ entries_after p (effect_at x f) for_no_writer a
+  pub no_readers : (p : ℕ) (a b : List (Entry ℕ)) → OnNoReaders p (action_of x) f a b → b ≡ entries_after p (effect_at x f) for_no_readers a
+  pub finding : Finding (effect_at x f) l x
   pub judged : (t u : TurnCourse) → Judged memory l v x f (verdict v x t) (verdict_then v u (next_of x f))
-  pub room : Room memory (deed_at x f)
-  pub holds_on : (t : TurnCourse) → keeps_what_it_has (verdict v x t) (deed_at x f) ≡ true
+  pub room : Room memory (effect_at x f)
+  pub holds_on : (t : TurnCourse) → keeps_what_it_has (verdict v x t) (effect_at x f) ≡ true
   pub over : is_after_ready (answer_by v (next_of x f)) ≡ false
   pub upgrade : KeepsUpgrade v x (next_of x f)
   pub refused : RefusedAt x (next_of x f)

@@ -1,9 +1,9 @@
 -- What one action on the turn does and decides, as callers see it.
-use Rattle.world_rwlock.proofs.Prelude.{◌≡◌, ℕ, ◌==◌, ◌||◌, not, inl, inr, Bool, true, false, List, map, Option, Some, None, refl, arith, ap, sym, ◌∙◌, subst, false≢true, Answer, Move, Refusal, Stage, inputs_of, refused, Deed, changes, does, joins, TurnCourse, is_out, is_taking, Takes, Tries, Releases, Cancels, holds, decision, LockCall, TurnStep, End as TurnEnd, turn_at, holder_of, decided_then, IsReason, decided_by, out_free, waiting_free, releasing_free, releasing_decided, cancelling_decided, IsPolls, taking_decided, holding_holds, Found, Turn, Ending, Purpose, Place, action_of, next_of, place_after, after_lock, after_turn, in_no_writer, in_no_readers, fits_turn, OnTurn, LockBegins, LockGoesOn, RwLock, IsRwLock, Change, entries_after, gives_up, ListName, for_the_turn, for_no_readers, for_no_writer, MayMeet, World, list_of, told_in, HasTurn, sought_at, passing, is_reading, verdict, verdict_until, refused_by, seen, is_counted, is_for_turn, sought_by, waiting_listed}
+use Rattle.world_rwlock.proofs.Prelude.{◌≡◌, ℕ, ◌==◌, ◌||◌, not, inl, inr, Bool, true, false, List, map, Option, Some, None, refl, arith, ap, sym, ◌∙◌, subst, false≢true, Answer, Move, Refusal, Stage, inputs_of, refused, Effect, changes, does, joins, TurnCourse, is_out, is_taking, Takes, Tries, Releases, Cancels, holds, decision, LockCall, TurnStep, End as TurnEnd, turn_at, holder_of, decided_then, IsReason, decided_by, out_free, waiting_free, releasing_free, releasing_decided, cancelling_decided, IsPolls, taking_decided, holding_holds, Found, Turn, Ending, Purpose, Place, action_of, next_of, place_after, after_lock, after_turn, in_no_writer, in_no_readers, fits_turn, OnTurn, LockBegins, LockGoesOn, RwLock, IsRwLock, Change, entries_after, gives_up, ListName, for_the_turn, for_no_readers, for_no_writer, MayMeet, World, list_of, told_in, HasTurn, sought_at, passing, is_reading, verdict, verdict_until, refused_by, seen, is_counted, is_for_turn, sought_by, waiting_listed}
 use Rattle.std.proofs.Math.Seq.{map-set_same}
 use Rattle.lock_event.specs.declared.event.Mark.TheVariants.{Waiting}
 use Rattle.world_mutex.specs.machine.Course as course
-use Rattle.world_mutex.specs.machine.Deeds as mutex
+use Rattle.world_mutex.specs.machine.Effects as mutex
 use Rattle.world_mutex.proofs.of_machine.callers.Holders as sees
 use Rattle.world_rwlock.proofs.of_machine.stages.Leads.{Led, Ends, steps_in_turn}
 use Rattle.world_rwlock.proofs.step.Rows.{verdict_then, Room, keeps_what_it_has, TurnRow, turn_row}
@@ -91,8 +91,8 @@ meets_turn w p Purpose.UpgradableRead u (TurnStep.End (TurnEnd.Refused Refusal.S
 meets_turn w p Purpose.Write u (TurnStep.End (TurnEnd.Refused Refusal.Starved)) h r e out = out
 meets_turn w p pr u (TurnStep.End _) h r e out = absurd h
 
--- what a deed gives up, and that a join found room
-room_of : (memory : Bool) (d : Deed Change ListName) → ((list : ListName) → d ≡ does list joins → memory ≡ true) → Room memory d
+-- what an effect gives up, and that a join found room
+room_of : (memory : Bool) (d : Effect Change ListName) → ((list : ListName) → d ≡ does list joins → memory ≡ true) → Room memory d
 room_of memory (does list joins) h = h list refl
 room_of memory _ h = tt
 
@@ -100,14 +100,14 @@ never_given : (b c : Bool) → (b ≡ true → c ≡ true) → c ≡ false → b
 never_given false c h e = refl
 never_given true c h e = absurd (false≢true (sym e ∙ h refl))
 
-released_given : (d : Deed mutex.Change mutex.ListName) → mutex.gives_up d ≡ false → mutex.is_release d ≡ false
+released_given : (d : Effect mutex.Change mutex.ListName) → mutex.gives_up d ≡ false → mutex.is_release d ≡ false
 released_given (changes mutex.releases) e = absurd (cc)
 released_given _ e = refl
 
-kept_so : (o : Option Answer) (d : Deed Change ListName) → gives_up d ≡ false → keeps_what_it_has o d ≡ true
+kept_so : (o : Option Answer) (d : Effect Change ListName) → gives_up d ≡ false → keeps_what_it_has o d ≡ true
 kept_so o d e = rw e refl
 
-judged_so : (b : Answer) (d : Deed Change ListName) → keeps_what_it_has (Some b) d ≡ true
+judged_so : (b : Answer) (d : Effect Change ListName) → keeps_what_it_has (Some b) d ≡ true
 judged_so b d = or_true (not (gives_up d)) where
   or_true : (c : Bool) → c || true ≡ true
   or_true true = refl
@@ -135,13 +135,13 @@ module _ (m : Move) (l k : RwLock) (ss : List Stage) (opening : ℕ) (ts : List 
   abbrev new : World
   new = seen k ts opening v
 
-  abbrev Judges : Place → Place → Deed Change ListName → Option Answer → Option Answer → Type 0
+  abbrev Judges : Place → Place → Effect Change ListName → Option Answer → Option Answer → Type 0
   Judges x to d was now = JudgedAs m old k new v x to d was now
 
-  facts : (x : Place) (f : Found) (c : Known m l k ss v x f) → TurnRow v x f → (decided : Option TurnEnd) (n : TurnStep) (did : TurnDid memory p decided n l.turn k.turn) (mv : TurnMoved p l k old did.legal.deed) → keeps_what_it_has (verdict v x t) mv.deed ≡ true → k.no_writer ≡ l.no_writer → k.no_readers ≡ l.no_readers
-      → Judges x (place_after (next_of x f)) mv.deed (verdict v x t) (verdict_then v u (next_of x f)) → Facts m l k ss opening ts v x (next_of x f)
+  facts : (x : Place) (f : Found) (c : Known m l k ss v x f) → TurnRow v x f → (decided : Option TurnEnd) (n : TurnStep) (did : TurnDid memory p decided n l.turn k.turn) (mv : TurnMoved p l k old did.legal.effect) → keeps_what_it_has (verdict v x t) mv.effect ≡ true → k.no_writer ≡ l.no_writer → k.no_readers ≡ l.no_readers
+      → Judges x (place_after (next_of x f)) mv.effect (verdict v x t) (verdict_then v u (next_of x f)) → Facts m l k ss opening ts v x (next_of x f)
   facts x f c row decided n did mv kept_on nw nr judged = record {
-    deed = mv.deed;
+    effect = mv.effect;
     readers = ap (map is_reading) c.places ∙ (map-set_same is_reading l.places p (place_after (next_of x f)) Place.Out (row.reading ∙ ap (λ (n : ℕ). n == 1) c.same.reading) ∙ sym (mv.readers (map is_reading l.places)));
     turn = mv.turn;
     starved = mv.starved;
@@ -151,13 +151,13 @@ module _ (m : Move) (l k : RwLock) (ss : List Stage) (opening : ℕ) (ts : List 
     starved_limit = did.legal.limit;
     others = did.legal.others;
     judged = judged;
-    room = room_of memory mv.deed (λ list e. did.legal.found_memory mutex.for_the_lock (mv.joining list e));
+    room = room_of memory mv.effect (λ list e. did.legal.found_memory mutex.for_the_lock (mv.joining list e));
     holds_on = kept_on;
     over = row.over;
     upgrade = row.upgrade;
     refused = row.refused;
   } where
-    by_list : (list : ListName) → list_of new list ≡ entries_after p mv.deed list (list_of old list)
+    by_list : (list : ListName) → list_of new list ≡ entries_after p mv.effect list (list_of old list)
     by_list for_the_turn = mv.turn_list
     by_list for_no_readers = nr ∙ sym (mv.no_readers l.no_readers)
     by_list for_no_writer = nw ∙ sym (mv.no_writer l.no_writer)
@@ -186,7 +186,7 @@ module _ (m : Move) (l k : RwLock) (ss : List Stage) (opening : ℕ) (ts : List 
   waits_then pr (TurnStep.End (TurnEnd.Refused r)) h e w = absurd (cc)
 
   -- a poll that wasn't decided there
-  undecided : (x to : Place) (d : Deed Change ListName) (o : Option TurnEnd) → ((e : TurnEnd) → o ≡ Some e → IsReason memory p l.turn k.turn e) → ((r : Refusal) → IsReason memory p l.turn k.turn (TurnEnd.Refused r) → CauseAs m old new r)
+  undecided : (x to : Place) (d : Effect Change ListName) (o : Option TurnEnd) → ((e : TurnEnd) → o ≡ Some e → IsReason memory p l.turn k.turn e) → ((r : Refusal) → IsReason memory p l.turn k.turn (TurnEnd.Refused r) → CauseAs m old new r)
       → (o ≡ Some TurnEnd.Pending → told_in k.turn.entries p ≡ Some Waiting → WaitsIn k p to) → ((r : Refusal) → o ≡ Some (TurnEnd.Refused r) → Fitting old p x to d r) → Judges x to d None (poll_says o)
   undecided x to d None why causes waits idle = tt
   undecided x to d (Some TurnEnd.Got) why causes waits idle = tt
@@ -197,16 +197,16 @@ module _ (m : Move) (l k : RwLock) (ss : List Stage) (opening : ℕ) (ts : List 
   undecided x to d (Some TurnEnd.Pending) why causes waits idle = waits refl (why TurnEnd.Pending refl)
   undecided x to d (Some (TurnEnd.Refused r)) why causes waits idle = (r, refl, causes r (why (TurnEnd.Refused r) refl), idle r refl)
 
-  polled : (x : Place) (pr : Purpose) (tn : TurnStep) (decided : Option TurnEnd) (did : TurnDid memory p decided tn l.turn k.turn) (mv : TurnMoved p l k old did.legal.deed) → IsPolls decided → Takes tn u → ((r : Refusal) → decided ≡ None → IsReason memory p l.turn k.turn (TurnEnd.Refused r) → CauseAs m old new r) → ((r : Refusal) → decided ≡ None → decided_then tn u ≡ Some (TurnEnd.Refused r) → Fitting old p x (place_after (after_lock pr (Turn tn))) mv.deed r)
-      → Judges x (place_after (after_lock pr (Turn tn))) mv.deed (refused_by decided) (verdict_then v u (after_lock pr (Turn tn)))
+  polled : (x : Place) (pr : Purpose) (tn : TurnStep) (decided : Option TurnEnd) (did : TurnDid memory p decided tn l.turn k.turn) (mv : TurnMoved p l k old did.legal.effect) → IsPolls decided → Takes tn u → ((r : Refusal) → decided ≡ None → IsReason memory p l.turn k.turn (TurnEnd.Refused r) → CauseAs m old new r) → ((r : Refusal) → decided ≡ None → decided_then tn u ≡ Some (TurnEnd.Refused r) → Fitting old p x (place_after (after_lock pr (Turn tn))) mv.effect r)
+      → Judges x (place_after (after_lock pr (Turn tn))) mv.effect (refused_by decided) (verdict_then v u (after_lock pr (Turn tn)))
   polled x pr tn decided did mv dec takes causes idle =
       let to : Place = place_after (after_lock pr (Turn tn)) in
-      let P : Option Answer → Type 0 = λ o. Judges x to mv.deed (refused_by decided) o in
+      let P : Option Answer → Type 0 = λ o. Judges x to mv.effect (refused_by decided) o in
       subst P (sym (now_polled v u pr tn takes)) (by_decided dec) where
-        by_decided : IsPolls decided → Judges x (place_after (after_lock pr (Turn tn))) mv.deed (refused_by decided) (poll_says (decided_then tn u))
+        by_decided : IsPolls decided → Judges x (place_after (after_lock pr (Turn tn))) mv.effect (refused_by decided) (poll_says (decided_then tn u))
         by_decided (inl e) =
-            let Q : Option TurnEnd → Type 0 = λ o. Judges x (place_after (after_lock pr (Turn tn))) mv.deed (refused_by o) (poll_says (decided_then tn u)) in
-            subst Q (sym e) (undecided x (place_after (after_lock pr (Turn tn))) mv.deed (decided_then tn u) (λ b y. did.legal.reason b e y) (λ r why. causes r e why) (waits_then pr tn takes) (λ r y. idle r e y))
+            let Q : Option TurnEnd → Type 0 = λ o. Judges x (place_after (after_lock pr (Turn tn))) mv.effect (refused_by o) (poll_says (decided_then tn u)) in
+            subst Q (sym e) (undecided x (place_after (after_lock pr (Turn tn))) mv.effect (decided_then tn u) (λ b y. did.legal.reason b e y) (λ r why. causes r e why) (waits_then pr tn takes) (λ r y. idle r e y))
         by_decided (inr (inl e)) =
             let kept = did.legal.kept TurnEnd.Got e in
             rw (e, kept.0) tt
@@ -214,7 +214,7 @@ module _ (m : Move) (l k : RwLock) (ss : List Stage) (opening : ℕ) (ts : List 
             let kept = did.legal.kept (TurnEnd.Refused h.0) h.1 in
             rw (h.1, kept.0) (refl, mv.parting kept.1)
 
-  tried : (pr : Purpose) (tn : TurnStep) (d : Deed Change ListName) → Tries tn u → Judges (Place.TryTurn pr) (place_after (after_turn (Place.TryTurn pr) (Turn tn))) d None (verdict_then v u (after_turn (Place.TryTurn pr) (Turn tn)))
+  tried : (pr : Purpose) (tn : TurnStep) (d : Effect Change ListName) → Tries tn u → Judges (Place.TryTurn pr) (place_after (after_turn (Place.TryTurn pr) (Turn tn))) d None (verdict_then v u (after_turn (Place.TryTurn pr) (Turn tn)))
   tried Purpose.UpgradableRead (TurnStep.End TurnEnd.Got) d h = tt
   tried Purpose.Write (TurnStep.End TurnEnd.Got) d h = tt
   tried pr (TurnStep.End TurnEnd.NotFree) d h = tt
@@ -222,13 +222,13 @@ module _ (m : Move) (l k : RwLock) (ss : List Stage) (opening : ℕ) (ts : List 
   tried pr TurnStep.More d h = absurd h
 
   -- whoever isn't decided there, or has the turn, keeps what it has
-  on_hold : (decided : Option TurnEnd) (n : TurnStep) (did : TurnDid memory p decided n l.turn k.turn) (mv : TurnMoved p l k old did.legal.deed) → IsPolls decided → keeps_what_it_has (refused_by decided) mv.deed ≡ true
-  on_hold decided n did mv (inl e) = kept_so (refused_by decided) mv.deed (never_given (gives_up mv.deed) (mutex.is_release did.legal.deed) mv.giving_up (released_given did.legal.deed (did.legal.holds_on e)))
-  on_hold decided n did mv (inr (inl e)) = kept_so (refused_by decided) mv.deed (never_given (gives_up mv.deed) (mutex.is_release did.legal.deed) mv.giving_up (did.legal.keeps_lock e))
-  on_hold decided n did mv (inr (inr h)) = let P : Option TurnEnd → Type 0 = λ o. keeps_what_it_has (refused_by o) mv.deed ≡ true in subst P (sym h.1) (judged_so (refused h.0) mv.deed)
+  on_hold : (decided : Option TurnEnd) (n : TurnStep) (did : TurnDid memory p decided n l.turn k.turn) (mv : TurnMoved p l k old did.legal.effect) → IsPolls decided → keeps_what_it_has (refused_by decided) mv.effect ≡ true
+  on_hold decided n did mv (inl e) = kept_so (refused_by decided) mv.effect (never_given (gives_up mv.effect) (mutex.is_release did.legal.effect) mv.giving_up (released_given did.legal.effect (did.legal.holds_on e)))
+  on_hold decided n did mv (inr (inl e)) = kept_so (refused_by decided) mv.effect (never_given (gives_up mv.effect) (mutex.is_release did.legal.effect) mv.giving_up (did.legal.keeps_lock e))
+  on_hold decided n did mv (inr (inr h)) = let P : Option TurnEnd → Type 0 = λ o. keeps_what_it_has (refused_by o) mv.effect ≡ true in subst P (sym h.1) (judged_so (refused h.0) mv.effect)
 
   -- a refusal for memory on the way does nothing else
-  idle_there : (pr : Purpose) (n : TurnStep) (did : TurnDid memory p (decision t) n l.turn k.turn) (mv : TurnMoved p l k old did.legal.deed) (r : Refusal) → decision t ≡ None → decided_then n u ≡ Some (TurnEnd.Refused r) → Takes n u → (HasTurn old.state.turn p → ⊥) → Fitting old p (Place.TakeTurn pr) (place_after (after_lock pr (Turn n))) mv.deed r
+  idle_there : (pr : Purpose) (n : TurnStep) (did : TurnDid memory p (decision t) n l.turn k.turn) (mv : TurnMoved p l k old did.legal.effect) (r : Refusal) → decision t ≡ None → decided_then n u ≡ Some (TurnEnd.Refused r) → Takes n u → (HasTurn old.state.turn p → ⊥) → Fitting old p (Place.TakeTurn pr) (place_after (after_lock pr (Turn n))) mv.effect r
   idle_there pr n did mv Refusal.Memory e h takes out = (mv.idle (did.legal.refused_idly Refusal.Memory e h), refl)
   idle_there pr n did mv Refusal.Starved e h takes out = (mv.idle (did.legal.refused_idly Refusal.Starved e h), refl, meets_turn old p pr u n takes Refusal.Starved h out)
   idle_there pr n did mv Refusal.Readers e h takes out = absurd (did.legal.reason (TurnEnd.Refused Refusal.Readers) e h)
@@ -270,56 +270,56 @@ module _ (m : Move) (l k : RwLock) (ss : List Stage) (opening : ℕ) (ts : List 
       let row = turn_row v u (Place.TryTurn pr) (Turn tn) s e in
       let did = begun LockCall.Try tn o in
       let mv = moved m l k ss opening ts v (Place.TryTurn pr) (Turn tn) c afterwards row.sharing None tn did (inl (o.at_once.looks refl).1) refl in
-      facts (Place.TryTurn pr) (Turn tn) c row None tn did mv (on_hold None tn did mv (inl refl)) c.no_writer c.no_readers (tried pr tn mv.deed e)
+      facts (Place.TryTurn pr) (Turn tn) c row None tn did mv (on_hold None tn did mv (inl refl)) c.no_writer c.no_readers (tried pr tn mv.effect e)
   on_turn (Place.TryTurn pr) _ c s o e fit = absurd o
   on_turn Place.CancelTurn (Turn tn) c s o e fit =
       let row = turn_row v u Place.CancelTurn (Turn tn) s e in
       let did = begun LockCall.Cancel tn o in
       let mv = moved m l k ss opening ts v Place.CancelTurn (Turn tn) c afterwards row.sharing (Some TurnEnd.GivenBack) tn did (inr (inl (did.legal.kept TurnEnd.GivenBack refl).1)) refl in
-      facts Place.CancelTurn (Turn tn) c row (Some TurnEnd.GivenBack) tn did mv (judged_so Answer.GivenBack mv.deed) c.no_writer c.no_readers ((now_cancelled v u tn e).0, mv.parting (did.legal.kept TurnEnd.GivenBack refl).1)
+      facts Place.CancelTurn (Turn tn) c row (Some TurnEnd.GivenBack) tn did mv (judged_so Answer.GivenBack mv.effect) c.no_writer c.no_readers ((now_cancelled v u tn e).0, mv.parting (did.legal.kept TurnEnd.GivenBack refl).1)
   on_turn Place.CancelTurn _ c s o e fit = absurd o
   on_turn Place.CancellingTurn (Turn tn) c s o e fit =
       let row = turn_row v u Place.CancellingTurn (Turn tn) s e in
       let did = gone_on tn o in
       let mv = moved m l k ss opening ts v Place.CancellingTurn (Turn tn) c afterwards row.sharing (decision t) tn did (inr (inl (did.legal.kept TurnEnd.GivenBack (cancelling_decided t fit)).1)) refl in
-      facts Place.CancellingTurn (Turn tn) c row (decision t) tn did mv (judged_so Answer.GivenBack mv.deed) c.no_writer c.no_readers ((now_cancelled v u tn e).1, mv.parting (did.legal.kept TurnEnd.GivenBack (cancelling_decided t fit)).1)
+      facts Place.CancellingTurn (Turn tn) c row (decision t) tn did mv (judged_so Answer.GivenBack mv.effect) c.no_writer c.no_readers ((now_cancelled v u tn e).1, mv.parting (did.legal.kept TurnEnd.GivenBack (cancelling_decided t fit)).1)
   on_turn Place.CancellingTurn _ c s o e fit = absurd o
   on_turn (Place.ReleaseTurn Ending.Reading) (Turn tn) c s o e fit =
       let row = turn_row v u (Place.ReleaseTurn Ending.Reading) (Turn tn) s e in
       let did = begun LockCall.Release tn o in
       let held : holder_of l.turn ≡ Some p = sees.holds_it l.turn.courses p c.laws.turn.one_holder (holding_holds t fit) in
       let mv = left m l k ss opening ts v (Place.ReleaseTurn Ending.Reading) (Turn tn) c afterwards row.sharing (Some TurnEnd.GivenBack) tn did refl held (released_free u tn e) in
-      facts (Place.ReleaseTurn Ending.Reading) (Turn tn) c row (Some TurnEnd.GivenBack) tn did mv (judged_so (verdict_until Ending.Reading) mv.deed) c.no_writer c.no_readers (now_released v u Ending.Reading tn e, mv.parting (did.legal.kept TurnEnd.GivenBack refl).1)
+      facts (Place.ReleaseTurn Ending.Reading) (Turn tn) c row (Some TurnEnd.GivenBack) tn did mv (judged_so (verdict_until Ending.Reading) mv.effect) c.no_writer c.no_readers (now_released v u Ending.Reading tn e, mv.parting (did.legal.kept TurnEnd.GivenBack refl).1)
   on_turn (Place.ReleaseTurn Ending.GivenBack) (Turn tn) c s o e fit =
       let row = turn_row v u (Place.ReleaseTurn Ending.GivenBack) (Turn tn) s e in
       let did = begun LockCall.Release tn o in
       let mv = moved m l k ss opening ts v (Place.ReleaseTurn Ending.GivenBack) (Turn tn) c afterwards row.sharing (Some TurnEnd.GivenBack) tn did (inr (inl (did.legal.kept TurnEnd.GivenBack refl).1)) refl in
-      facts (Place.ReleaseTurn Ending.GivenBack) (Turn tn) c row (Some TurnEnd.GivenBack) tn did mv (judged_so (verdict_until Ending.GivenBack) mv.deed) c.no_writer c.no_readers (now_released v u Ending.GivenBack tn e, mv.parting (did.legal.kept TurnEnd.GivenBack refl).1)
+      facts (Place.ReleaseTurn Ending.GivenBack) (Turn tn) c row (Some TurnEnd.GivenBack) tn did mv (judged_so (verdict_until Ending.GivenBack) mv.effect) c.no_writer c.no_readers (now_released v u Ending.GivenBack tn e, mv.parting (did.legal.kept TurnEnd.GivenBack refl).1)
   on_turn (Place.ReleaseTurn (Ending.NotFree q)) (Turn tn) c s o e fit =
       let row = turn_row v u (Place.ReleaseTurn (Ending.NotFree q)) (Turn tn) s e in
       let did = begun LockCall.Release tn o in
       let mv = moved m l k ss opening ts v (Place.ReleaseTurn (Ending.NotFree q)) (Turn tn) c afterwards row.sharing (Some TurnEnd.GivenBack) tn did (inr (inl (did.legal.kept TurnEnd.GivenBack refl).1)) refl in
-      facts (Place.ReleaseTurn (Ending.NotFree q)) (Turn tn) c row (Some TurnEnd.GivenBack) tn did mv (judged_so (verdict_until (Ending.NotFree q)) mv.deed) c.no_writer c.no_readers (now_released v u (Ending.NotFree q) tn e, mv.parting (did.legal.kept TurnEnd.GivenBack refl).1)
+      facts (Place.ReleaseTurn (Ending.NotFree q)) (Turn tn) c row (Some TurnEnd.GivenBack) tn did mv (judged_so (verdict_until (Ending.NotFree q)) mv.effect) c.no_writer c.no_readers (now_released v u (Ending.NotFree q) tn e, mv.parting (did.legal.kept TurnEnd.GivenBack refl).1)
   on_turn (Place.ReleaseTurn Ending.RefuseReaders) (Turn tn) c s o e fit =
       let row = turn_row v u (Place.ReleaseTurn Ending.RefuseReaders) (Turn tn) s e in
       let did = begun LockCall.Release tn o in
       let mv = moved m l k ss opening ts v (Place.ReleaseTurn Ending.RefuseReaders) (Turn tn) c afterwards row.sharing (Some TurnEnd.GivenBack) tn did (inr (inl (did.legal.kept TurnEnd.GivenBack refl).1)) refl in
-      facts (Place.ReleaseTurn Ending.RefuseReaders) (Turn tn) c row (Some TurnEnd.GivenBack) tn did mv (judged_so (verdict_until Ending.RefuseReaders) mv.deed) c.no_writer c.no_readers (now_released v u Ending.RefuseReaders tn e, mv.parting (did.legal.kept TurnEnd.GivenBack refl).1)
+      facts (Place.ReleaseTurn Ending.RefuseReaders) (Turn tn) c row (Some TurnEnd.GivenBack) tn did mv (judged_so (verdict_until Ending.RefuseReaders) mv.effect) c.no_writer c.no_readers (now_released v u Ending.RefuseReaders tn e, mv.parting (did.legal.kept TurnEnd.GivenBack refl).1)
   on_turn (Place.ReleaseTurn Ending.RefuseMemory) (Turn tn) c s o e fit =
       let row = turn_row v u (Place.ReleaseTurn Ending.RefuseMemory) (Turn tn) s e in
       let did = begun LockCall.Release tn o in
       let mv = moved m l k ss opening ts v (Place.ReleaseTurn Ending.RefuseMemory) (Turn tn) c afterwards row.sharing (Some TurnEnd.GivenBack) tn did (inr (inl (did.legal.kept TurnEnd.GivenBack refl).1)) refl in
-      facts (Place.ReleaseTurn Ending.RefuseMemory) (Turn tn) c row (Some TurnEnd.GivenBack) tn did mv (judged_so (verdict_until Ending.RefuseMemory) mv.deed) c.no_writer c.no_readers (now_released v u Ending.RefuseMemory tn e, mv.parting (did.legal.kept TurnEnd.GivenBack refl).1)
+      facts (Place.ReleaseTurn Ending.RefuseMemory) (Turn tn) c row (Some TurnEnd.GivenBack) tn did mv (judged_so (verdict_until Ending.RefuseMemory) mv.effect) c.no_writer c.no_readers (now_released v u Ending.RefuseMemory tn e, mv.parting (did.legal.kept TurnEnd.GivenBack refl).1)
   on_turn (Place.ReleaseTurn Ending.NotifyReaders) (Turn tn) c s o e fit =
       let row = turn_row v u (Place.ReleaseTurn Ending.NotifyReaders) (Turn tn) s e in
       let did = begun LockCall.Release tn o in
       let mv = moved m l k ss opening ts v (Place.ReleaseTurn Ending.NotifyReaders) (Turn tn) c afterwards row.sharing (Some TurnEnd.GivenBack) tn did (inr (inl (did.legal.kept TurnEnd.GivenBack refl).1)) refl in
-      facts (Place.ReleaseTurn Ending.NotifyReaders) (Turn tn) c row (Some TurnEnd.GivenBack) tn did mv (judged_so (verdict_until Ending.NotifyReaders) mv.deed) c.no_writer c.no_readers (now_released v u Ending.NotifyReaders tn e, mv.parting (did.legal.kept TurnEnd.GivenBack refl).1)
+      facts (Place.ReleaseTurn Ending.NotifyReaders) (Turn tn) c row (Some TurnEnd.GivenBack) tn did mv (judged_so (verdict_until Ending.NotifyReaders) mv.effect) c.no_writer c.no_readers (now_released v u Ending.NotifyReaders tn e, mv.parting (did.legal.kept TurnEnd.GivenBack refl).1)
   on_turn (Place.ReleaseTurn q) _ c s o e fit = absurd o
   on_turn (Place.ReleasingTurn q) (Turn tn) c s o e fit =
       let row = turn_row v u (Place.ReleasingTurn q) (Turn tn) s e in
       let did = gone_on tn o in
       let mv = moved m l k ss opening ts v (Place.ReleasingTurn q) (Turn tn) c afterwards row.sharing (decision t) tn did (inr (inl (did.legal.kept TurnEnd.GivenBack (releasing_decided t fit)).1)) refl in
-      facts (Place.ReleasingTurn q) (Turn tn) c row (decision t) tn did mv (judged_so (verdict_until q) mv.deed) c.no_writer c.no_readers (now_releasing v u q tn e, mv.parting (did.legal.kept TurnEnd.GivenBack (releasing_decided t fit)).1)
+      facts (Place.ReleasingTurn q) (Turn tn) c row (decision t) tn did mv (judged_so (verdict_until q) mv.effect) c.no_writer c.no_readers (now_releasing v u q tn e, mv.parting (did.legal.kept TurnEnd.GivenBack (releasing_decided t fit)).1)
   on_turn (Place.ReleasingTurn q) _ c s o e fit = absurd o
   on_turn _ f c s o e fit = absurd (cc)

@@ -1,7 +1,7 @@
 -- What one action on the turn does, as callers see it.
-use Rattle.world_rwlock.proofs.Prelude.{◌≡◌, ◌≢◌, ℕ, zero, suc, ◌+◌, ◌<◌, ◌⊎◌, inl, inr, Bool, true, false, List, [], ◌∷◌, length, Option, Some, None, refl, arith, ap, sym, ◌∙◌, get_or, get_or-set_same, set, ℕ_discrete, cases_Bool, false≢true, Entry, Move, Stage, how_many, inputs_of, Deed, ListFunction, nothing, changes, does, joins, none_some, TurnCourse, holds, counted, TurnStep, End as TurnEnd, Mutex, turn_at, is_holder, is_counted, holder_of, starved_of, TakenFairly, IsLegal, Found, Place, next_of, place_after, RwLock, place_at, IsRwLock, Change, takes_turn, leaves_turn, starves, recovers, turn_after, readers_after, starved_after, value_after, IsAllowed, gives_back, gives_up, entries_after, ListName, for_the_turn, for_no_readers, for_no_writer, World, passing, upgrading, turn_as, share_of, turn_by, seen, asks, leaves, notifies, notifies_additionally, MayDo, listed, may_tell, taking, releasing, undecided, called, counting, has_lock, giving_up, HasTurn, Share, waiting, writing, sought_by, is_for_turn, is_out, is_holding, is_waiting, is_cancelling, fits_turn, owes_in, owing_at, has_to_tell, mapped_at, sought_at, Purpose}
+use Rattle.world_rwlock.proofs.Prelude.{◌≡◌, ◌≢◌, ℕ, zero, suc, ◌+◌, ◌<◌, ◌⊎◌, inl, inr, Bool, true, false, List, [], ◌∷◌, length, Option, Some, None, refl, arith, ap, sym, ◌∙◌, get_or, get_or-set_same, set, ℕ_discrete, cases_Bool, false≢true, Entry, Move, Stage, how_many, inputs_of, Effect, ListFunction, nothing, changes, does, joins, none_some, TurnCourse, holds, counted, TurnStep, End as TurnEnd, Mutex, turn_at, is_holder, is_counted, holder_of, starved_of, TakenFairly, IsLegal, Found, Place, next_of, place_after, RwLock, place_at, IsRwLock, Change, takes_turn, leaves_turn, starves, recovers, turn_after, readers_after, starved_after, value_after, IsAllowed, gives_back, gives_up, entries_after, ListName, for_the_turn, for_no_readers, for_no_writer, World, passing, upgrading, turn_as, share_of, turn_by, seen, asks, leaves, notifies, notifies_additionally, MayDo, listed, may_tell, taking, releasing, undecided, called, counting, has_lock, giving_up, HasTurn, Share, waiting, writing, sought_by, is_for_turn, is_out, is_holding, is_waiting, is_cancelling, fits_turn, owes_in, owing_at, has_to_tell, mapped_at, sought_at, Purpose}
 use Rattle.world_mutex.specs.machine.Course as turn_roles
-use Rattle.world_mutex.specs.machine.Deeds as mutex
+use Rattle.world_mutex.specs.machine.Effects as mutex
 use Rattle.world_mutex.proofs.of_machine.callers.Holders as sees
 use Rattle.world_rwlock.specs.State as state
 use Rattle.world_rwlock.proofs.table.Views as view
@@ -29,28 +29,28 @@ put_off (b ∷ xs) ys (suc p) e = elim (put_off xs (set xs p false) p refl) as (
   | inr h ↦ inr h
 ]
 
--- ---- the deed
+-- ---- the effect
 
 -- what the mutex says of the action, whichever call it belongs to
 pub record TurnDid (memory : Bool) (p : ℕ) (decided : Option TurnEnd) (n : TurnStep) (old new : Mutex) : Type 0 where
   pub legal : IsLegal memory p decided n old new
   pub fair : TakenFairly old new
 
--- the deed on the turn, as the World has it
-pub record TurnMoved (p : ℕ) (l k : RwLock) (w : World) (mutex_deed : Deed mutex.Change mutex.ListName) : Type 0 where
-  pub deed : Deed Change ListName
-  pub readers : (rs : List Bool) → readers_after p deed rs ≡ rs
-  pub turn : turn_by (holder_of k.turn) k.places ≡ turn_after p deed (turn_by (holder_of l.turn) l.places)
-  pub starved : starved_of k.turn ≡ starved_after p deed (starved_of l.turn)
-  pub valued : (u : ℕ) → value_after deed u ≡ u
-  pub allowed : IsAllowed p deed w
-  pub turn_list : k.turn.entries ≡ entries_after p deed for_the_turn l.turn.entries
-  pub no_readers : (es : List (Entry ℕ)) → entries_after p deed for_no_readers es ≡ es
-  pub no_writer : (es : List (Entry ℕ)) → entries_after p deed for_no_writer es ≡ es
-  pub parting : mutex.gives_back mutex_deed ≡ true → gives_back deed ≡ true
-  pub giving_up : gives_up deed ≡ true → mutex.is_release mutex_deed ≡ true
-  pub joining : (list : ListName) → deed ≡ does list joins → mutex_deed ≡ does mutex.for_the_lock joins
-  pub idle : mutex_deed ≡ nothing → deed ≡ nothing
+-- the effect on the turn, as the World has it
+pub record TurnMoved (p : ℕ) (l k : RwLock) (w : World) (mutex_effect : Effect mutex.Change mutex.ListName) : Type 0 where
+  pub effect : Effect Change ListName
+  pub readers : (rs : List Bool) → readers_after p effect rs ≡ rs
+  pub turn : turn_by (holder_of k.turn) k.places ≡ turn_after p effect (turn_by (holder_of l.turn) l.places)
+  pub starved : starved_of k.turn ≡ starved_after p effect (starved_of l.turn)
+  pub valued : (u : ℕ) → value_after effect u ≡ u
+  pub allowed : IsAllowed p effect w
+  pub turn_list : k.turn.entries ≡ entries_after p effect for_the_turn l.turn.entries
+  pub no_readers : (es : List (Entry ℕ)) → entries_after p effect for_no_readers es ≡ es
+  pub no_writer : (es : List (Entry ℕ)) → entries_after p effect for_no_writer es ≡ es
+  pub parting : mutex.gives_back mutex_effect ≡ true → gives_back effect ≡ true
+  pub giving_up : gives_up effect ≡ true → mutex.is_release mutex_effect ≡ true
+  pub joining : (list : ListName) → effect ≡ does list joins → mutex_effect ≡ does mutex.for_the_lock joins
+  pub idle : mutex_effect ≡ nothing → effect ≡ nothing
 
 -- who may notify in the turn's list hasn't the turn, and stands there only while it is starved
 tells_free : (c : TurnCourse) → may_tell c ≡ true → holds c ≡ 0
@@ -102,20 +102,20 @@ has_holder (Some q) xs p y = ap Some (by_share (share_of (place_at xs q)) y) whe
   by_share waiting y = y
   by_share writing y = y
 
-joins_there : (g : ListFunction) (list : ListName) → Path (Deed Change ListName) (does for_the_turn g) (does list joins) → Path (Deed mutex.Change mutex.ListName) (does mutex.for_the_lock g) (does mutex.for_the_lock joins)
+joins_there : (g : ListFunction) (list : ListName) → Path (Effect Change ListName) (does for_the_turn g) (does list joins) → Path (Effect mutex.Change mutex.ListName) (does mutex.for_the_lock g) (does mutex.for_the_lock joins)
 joins_there g list e = cc
 
--- what tells one deed from another: `cc` finds each, but reads all that is in scope first
-nothing_joins : (list : ListName) → Path (Deed Change ListName) nothing (does list joins) → ⊥
+-- what tells one effect from another: `cc` finds each, but reads all that is in scope first
+nothing_joins : (list : ListName) → Path (Effect Change ListName) nothing (does list joins) → ⊥
 nothing_joins list e = cc
 
-change_joins : (c : Change) (list : ListName) → Path (Deed Change ListName) (changes c) (does list joins) → ⊥
+change_joins : (c : Change) (list : ListName) → Path (Effect Change ListName) (changes c) (does list joins) → ⊥
 change_joins c list e = cc
 
-change_idle : (c : mutex.Change) → Path (Deed mutex.Change mutex.ListName) (changes c) nothing → ⊥
+change_idle : (c : mutex.Change) → Path (Effect mutex.Change mutex.ListName) (changes c) nothing → ⊥
 change_idle c e = cc
 
-does_idle : (f : ListFunction) → Path (Deed mutex.Change mutex.ListName) (does mutex.for_the_lock f) nothing → ⊥
+does_idle : (f : ListFunction) → Path (Effect mutex.Change mutex.ListName) (does mutex.for_the_lock f) nothing → ⊥
 does_idle f e = cc
 
 module _ (m : Move) (l k : RwLock) (ss : List Stage) (opening : ℕ) (ts : List Stage) (v : ℕ) (x : Place) (f : Found) (c : Known m l k ss v x f) (afterwards : IsRwLock k)
@@ -206,45 +206,45 @@ module _ (m : Move) (l k : RwLock) (ss : List Stage) (opening : ℕ) (ts : List 
 
     -- why its party may be counted as starved, if it is
     abbrev pub MayCount : Type 0
-    MayCount = (starved_of k.turn ≡ starved_of l.turn) ⊎ ((mutex.gives_back did.legal.deed ≡ true) ⊎ (is_for_turn (sought_by w p) ≡ true))
+    MayCount = (starved_of k.turn ≡ starved_of l.turn) ⊎ ((mutex.gives_back did.legal.effect ≡ true) ⊎ (is_for_turn (sought_by w p) ≡ true))
 
-    -- where the party only passes, each deed of the mutex is one of the turn, or nothing
-    moved_by : (d : Deed mutex.Change mutex.ListName) → ((starved_of k.turn ≡ starved_of l.turn) ⊎ ((mutex.gives_back d ≡ true) ⊎ (is_for_turn (sought_by w p) ≡ true))) → MayDo p d l.turn → holder_of k.turn ≡ mutex.holder_after p d (holder_of l.turn) → starved_of k.turn ≡ mutex.starved_after p d (starved_of l.turn) → k.turn.entries ≡ mutex.entries_after p d l.turn.entries
+    -- where the party only passes, each effect of the mutex is one of the turn, or nothing
+    moved_by : (d : Effect mutex.Change mutex.ListName) → ((starved_of k.turn ≡ starved_of l.turn) ⊎ ((mutex.gives_back d ≡ true) ⊎ (is_for_turn (sought_by w p) ≡ true))) → MayDo p d l.turn → holder_of k.turn ≡ mutex.holder_after p d (holder_of l.turn) → starved_of k.turn ≡ mutex.starved_after p d (starved_of l.turn) → k.turn.entries ≡ mutex.entries_after p d l.turn.entries
         → share_of x ≡ passing → TurnMoved p l k w d
-    moved_by nothing why may h s e own = record { deed = nothing; readers = λ rs. refl; turn = stays own h; starved = s; valued = λ n. refl; allowed = tt; turn_list = e; no_readers = λ es. refl; no_writer = λ es. refl; parting = λ g. refl; giving_up = λ g. absurd (false≢true g); joining = λ list j. absurd (nothing_joins list j); idle = λ i. refl }
-    moved_by (does mutex.for_the_lock g) why may h s e own = record { deed = does for_the_turn g; readers = λ rs. refl; turn = stays own h; starved = s; valued = λ n. refl; allowed = lists_so g may; turn_list = e; no_readers = λ es. refl; no_writer = λ es. refl; parting = λ b. b; giving_up = λ g. absurd (false≢true g); joining = λ list j. joins_there g list j; idle = λ i. absurd (does_idle g i) }
+    moved_by nothing why may h s e own = record { effect = nothing; readers = λ rs. refl; turn = stays own h; starved = s; valued = λ n. refl; allowed = tt; turn_list = e; no_readers = λ es. refl; no_writer = λ es. refl; parting = λ g. refl; giving_up = λ g. absurd (false≢true g); joining = λ list j. absurd (nothing_joins list j); idle = λ i. refl }
+    moved_by (does mutex.for_the_lock g) why may h s e own = record { effect = does for_the_turn g; readers = λ rs. refl; turn = stays own h; starved = s; valued = λ n. refl; allowed = lists_so g may; turn_list = e; no_readers = λ es. refl; no_writer = λ es. refl; parting = λ b. b; giving_up = λ g. absurd (false≢true g); joining = λ list j. joins_there g list j; idle = λ i. absurd (does_idle g i) }
     moved_by (changes mutex.takes) why may h s e own = elim (cases_Bool (is_holder t)) as (λ _. TurnMoved p l k w (changes mutex.takes)) [
-      | inl held ↦ record { deed = nothing; readers = λ rs. refl; turn = stays own (h ∙ sym (held_by (is_holder t) refl held)); starved = s; valued = λ n. refl; allowed = tt; turn_list = e; no_readers = λ es. refl; no_writer = λ es. refl; parting = λ g. refl; giving_up = λ g. absurd (false≢true g); joining = λ list j. absurd (nothing_joins list j); idle = λ i. refl }
-      | inr out ↦ record { deed = changes takes_turn; readers = λ rs. refl; turn = turn_own (holder_of k.turn) h; starved = s; valued = λ n. refl; allowed = took_free out h; turn_list = e; no_readers = λ es. refl; no_writer = λ es. refl; parting = λ g. absurd (false≢true g); giving_up = λ g. absurd (false≢true g); joining = λ list j. absurd (change_joins takes_turn list j); idle = λ i. absurd (change_idle mutex.takes i) }
+      | inl held ↦ record { effect = nothing; readers = λ rs. refl; turn = stays own (h ∙ sym (held_by (is_holder t) refl held)); starved = s; valued = λ n. refl; allowed = tt; turn_list = e; no_readers = λ es. refl; no_writer = λ es. refl; parting = λ g. refl; giving_up = λ g. absurd (false≢true g); joining = λ list j. absurd (nothing_joins list j); idle = λ i. refl }
+      | inr out ↦ record { effect = changes takes_turn; readers = λ rs. refl; turn = turn_own (holder_of k.turn) h; starved = s; valued = λ n. refl; allowed = took_free out h; turn_list = e; no_readers = λ es. refl; no_writer = λ es. refl; parting = λ g. absurd (false≢true g); giving_up = λ g. absurd (false≢true g); joining = λ list j. absurd (change_joins takes_turn list j); idle = λ i. absurd (change_idle mutex.takes i) }
     ]
     moved_by (changes mutex.releases) why may h s e own = elim (cases_Bool (is_holder t)) as (λ _. TurnMoved p l k w (changes mutex.releases)) [
-      | inl held ↦ record { deed = changes leaves_turn; readers = λ rs. refl; turn = turn_none (holder_of k.turn) k.places h; starved = s; valued = λ n. refl; allowed = inl (ap (λ o. turn_by o l.places) (held_by (is_holder t) refl held) ∙ ap (turn_as p) (sym c.share ∙ own)); turn_list = e; no_readers = λ es. refl; no_writer = λ es. refl; parting = λ g. refl; giving_up = λ g. refl; joining = λ list j. absurd (change_joins leaves_turn list j); idle = λ i. absurd (change_idle mutex.releases i) }
-      | inr out ↦ record { deed = nothing; readers = λ rs. refl; turn = stays own (h ∙ sym (left_nobody (holder_of l.turn) refl h out)); starved = s; valued = λ n. refl; allowed = tt; turn_list = e; no_readers = λ es. refl; no_writer = λ es. refl; parting = λ g. refl; giving_up = λ g. absurd (false≢true g); joining = λ list j. absurd (nothing_joins list j); idle = λ i. refl }
+      | inl held ↦ record { effect = changes leaves_turn; readers = λ rs. refl; turn = turn_none (holder_of k.turn) k.places h; starved = s; valued = λ n. refl; allowed = inl (ap (λ o. turn_by o l.places) (held_by (is_holder t) refl held) ∙ ap (turn_as p) (sym c.share ∙ own)); turn_list = e; no_readers = λ es. refl; no_writer = λ es. refl; parting = λ g. refl; giving_up = λ g. refl; joining = λ list j. absurd (change_joins leaves_turn list j); idle = λ i. absurd (change_idle mutex.releases i) }
+      | inr out ↦ record { effect = nothing; readers = λ rs. refl; turn = stays own (h ∙ sym (left_nobody (holder_of l.turn) refl h out)); starved = s; valued = λ n. refl; allowed = tt; turn_list = e; no_readers = λ es. refl; no_writer = λ es. refl; parting = λ g. refl; giving_up = λ g. absurd (false≢true g); joining = λ list j. absurd (nothing_joins list j); idle = λ i. refl }
     ]
     moved_by (changes mutex.starves) why may h s e own = elim (put_on (starved_of l.turn) (starved_of k.turn) p s) as (λ _. TurnMoved p l k w (changes mutex.starves)) [
-      | inl same ↦ record { deed = nothing; readers = λ rs. refl; turn = stays own h; starved = same; valued = λ n. refl; allowed = tt; turn_list = e; no_readers = λ es. refl; no_writer = λ es. refl; parting = λ g. absurd (false≢true g); giving_up = λ g. absurd (false≢true g); joining = λ list j. absurd (nothing_joins list j); idle = λ i. refl }
-      | inr one ↦ record { deed = changes starves; readers = λ rs. refl; turn = stays own h; starved = s; valued = λ n. refl; allowed = (one.0, omega (arith, one.1, sees.how_many_counted k.turn.courses, afterwards.turn.few_starved, did.legal.limit), wants one.1 why); turn_list = e; no_readers = λ es. refl; no_writer = λ es. refl; parting = λ g. absurd (false≢true g); giving_up = λ g. absurd (false≢true g); joining = λ list j. absurd (change_joins starves list j); idle = λ i. absurd (change_idle mutex.starves i) }
+      | inl same ↦ record { effect = nothing; readers = λ rs. refl; turn = stays own h; starved = same; valued = λ n. refl; allowed = tt; turn_list = e; no_readers = λ es. refl; no_writer = λ es. refl; parting = λ g. absurd (false≢true g); giving_up = λ g. absurd (false≢true g); joining = λ list j. absurd (nothing_joins list j); idle = λ i. refl }
+      | inr one ↦ record { effect = changes starves; readers = λ rs. refl; turn = stays own h; starved = s; valued = λ n. refl; allowed = (one.0, omega (arith, one.1, sees.how_many_counted k.turn.courses, afterwards.turn.few_starved, did.legal.limit), wants one.1 why); turn_list = e; no_readers = λ es. refl; no_writer = λ es. refl; parting = λ g. absurd (false≢true g); giving_up = λ g. absurd (false≢true g); joining = λ list j. absurd (change_joins starves list j); idle = λ i. absurd (change_idle mutex.starves i) }
     ]
     moved_by (changes mutex.recovers) why may h s e own = elim (put_off (starved_of l.turn) (starved_of k.turn) p s) as (λ _. TurnMoved p l k w (changes mutex.recovers)) [
-      | inl same ↦ record { deed = nothing; readers = λ rs. refl; turn = stays own h; starved = same; valued = λ n. refl; allowed = tt; turn_list = e; no_readers = λ es. refl; no_writer = λ es. refl; parting = λ g. refl; giving_up = λ g. absurd (false≢true g); joining = λ list j. absurd (nothing_joins list j); idle = λ i. refl }
-      | inr one ↦ record { deed = changes recovers; readers = λ rs. refl; turn = stays own h; starved = s; valued = λ n. refl; allowed = one; turn_list = e; no_readers = λ es. refl; no_writer = λ es. refl; parting = λ g. refl; giving_up = λ g. absurd (false≢true g); joining = λ list j. absurd (change_joins recovers list j); idle = λ i. absurd (change_idle mutex.recovers i) }
+      | inl same ↦ record { effect = nothing; readers = λ rs. refl; turn = stays own h; starved = same; valued = λ n. refl; allowed = tt; turn_list = e; no_readers = λ es. refl; no_writer = λ es. refl; parting = λ g. refl; giving_up = λ g. absurd (false≢true g); joining = λ list j. absurd (nothing_joins list j); idle = λ i. refl }
+      | inr one ↦ record { effect = changes recovers; readers = λ rs. refl; turn = stays own h; starved = s; valued = λ n. refl; allowed = one; turn_list = e; no_readers = λ es. refl; no_writer = λ es. refl; parting = λ g. refl; giving_up = λ g. absurd (false≢true g); joining = λ list j. absurd (change_joins recovers list j); idle = λ i. absurd (change_idle mutex.recovers i) }
     ]
 
     -- where the party had the turn for an upgradable right and has it no more, it left it
     still_holds : (h : Option ℕ) → holder_of k.turn ≡ h → h ≡ Some p → holds u ≡ 0 → ⊥
     still_holds h e y none = let one = sees.is_held_by k.turn.courses p (e ∙ y) in absurd (omega (arith, one, none))
 
-    left_by : (d : Deed mutex.Change mutex.ListName) → holder_of k.turn ≡ mutex.holder_after p d (holder_of l.turn) → starved_of k.turn ≡ mutex.starved_after p d (starved_of l.turn) → k.turn.entries ≡ mutex.entries_after p d l.turn.entries
+    left_by : (d : Effect mutex.Change mutex.ListName) → holder_of k.turn ≡ mutex.holder_after p d (holder_of l.turn) → starved_of k.turn ≡ mutex.starved_after p d (starved_of l.turn) → k.turn.entries ≡ mutex.entries_after p d l.turn.entries
         → share_of x ≡ upgrading → holder_of l.turn ≡ Some p → holds u ≡ 0 → TurnMoved p l k w d
-    left_by (changes mutex.releases) h s e own held none = record { deed = changes leaves_turn; readers = λ rs. refl; turn = turn_none (holder_of k.turn) k.places h; starved = s; valued = λ n. refl; allowed = inr (ap (λ o. turn_by o l.places) held ∙ ap (turn_as p) (sym c.share ∙ own)); turn_list = e; no_readers = λ es. refl; no_writer = λ es. refl; parting = λ g. refl; giving_up = λ g. refl; joining = λ list j. absurd (change_joins leaves_turn list j); idle = λ i. absurd (change_idle mutex.releases i) }
+    left_by (changes mutex.releases) h s e own held none = record { effect = changes leaves_turn; readers = λ rs. refl; turn = turn_none (holder_of k.turn) k.places h; starved = s; valued = λ n. refl; allowed = inr (ap (λ o. turn_by o l.places) held ∙ ap (turn_as p) (sym c.share ∙ own)); turn_list = e; no_readers = λ es. refl; no_writer = λ es. refl; parting = λ g. refl; giving_up = λ g. refl; joining = λ list j. absurd (change_joins leaves_turn list j); idle = λ i. absurd (change_idle mutex.releases i) }
     left_by (changes mutex.takes) h s e own held none = absurd (still_holds (Some p) h refl none)
     left_by (changes mutex.starves) h s e own held none = absurd (still_holds (holder_of l.turn) h held none)
     left_by (changes mutex.recovers) h s e own held none = absurd (still_holds (holder_of l.turn) h held none)
     left_by nothing h s e own held none = absurd (still_holds (holder_of l.turn) h held none)
     left_by (does mutex.for_the_lock g) h s e own held none = absurd (still_holds (holder_of l.turn) h held none)
 
-    pub moved : MayCount → share_of x ≡ passing → TurnMoved p l k w did.legal.deed
-    moved why own = moved_by did.legal.deed why did.legal.allowed did.legal.holder did.legal.starved did.legal.entries own
+    pub moved : MayCount → share_of x ≡ passing → TurnMoved p l k w did.legal.effect
+    moved why own = moved_by did.legal.effect why did.legal.allowed did.legal.holder did.legal.starved did.legal.entries own
 
-    pub left : share_of x ≡ upgrading → holder_of l.turn ≡ Some p → holds u ≡ 0 → TurnMoved p l k w did.legal.deed
-    left own held none = left_by did.legal.deed did.legal.holder did.legal.starved did.legal.entries own held none
+    pub left : share_of x ≡ upgrading → holder_of l.turn ≡ Some p → holds u ≡ 0 → TurnMoved p l k w did.legal.effect
+    left own held none = left_by did.legal.effect did.legal.holder did.legal.starved did.legal.entries own held none

@@ -1,5 +1,5 @@
 -- A refused poll of a party that stood in a list leaves some entry of that list marked, unless the list is empty.
-use Rattle.world_rwlock.proofs.Prelude.{◌≡◌, ◌≢◌, ℕ, ◌<◌, ◌≤◌, Bool, true, false, List, [], ◌∷◌, length, Some, refl, arith, ap, sym, ◌∙◌, subst, get_or-set_same, ℕ_discrete, false≢true, nat_tests, Entry, marked_count, entries_of, Account, accounts_after, Answer, Call, Inputs, What, Begin, Go, Kind, Rest, Within, within, is_refusal, outside, inputs_of, Deed, nothing, changes, does, going_on, moves_of, answers_of, some_eq, beginning, along, Onward, Got, Granted, Pending, NotFree, GivenBack, Refused, call_at, polls_again, others, notified_marked, TurnCourse, is_waiting, is_told, listed, TurnStep, End, HandsOn, Mutex, turn_at, out_unlisted, holding_unlisted, Action, Found, Done, Writer, NoneLeft, Yes, Turn, Ending, Next, Place, Purpose, start_of, action_of, next_of, place_after, after_lock, in_no_writer, in_no_readers, has_turn, fits_turn, OnNoWriter, OnTurn, place_at, Change, entries_after, knows_at, answer_by, Runs, HoldsWell, is_future, ListName, for_the_turn, for_no_readers, for_no_writer, World, list_of, standing_of, Stands, Moved, view_of}
+use Rattle.world_rwlock.proofs.Prelude.{◌≡◌, ◌≢◌, ℕ, ◌<◌, ◌≤◌, Bool, true, false, List, [], ◌∷◌, length, Some, refl, arith, ap, sym, ◌∙◌, subst, get_or-set_same, ℕ_discrete, false≢true, nat_tests, Entry, marked_count, entries_of, Account, accounts_after, Answer, Call, Inputs, What, Begin, Go, Kind, Rest, Within, within, is_refusal, outside, inputs_of, Effect, nothing, changes, does, going_on, moves_of, answers_of, some_eq, beginning, along, Onward, Got, Granted, Pending, NotFree, GivenBack, Refused, call_at, polls_again, others, notified_marked, TurnCourse, is_waiting, is_told, listed, TurnStep, End, HandsOn, Mutex, turn_at, out_unlisted, holding_unlisted, Action, Found, Done, Writer, NoneLeft, Yes, Turn, Ending, Next, Place, Purpose, start_of, action_of, next_of, place_after, after_lock, in_no_writer, in_no_readers, has_turn, fits_turn, OnNoWriter, OnTurn, place_at, Change, entries_after, knows_at, answer_by, Runs, HoldsWell, is_future, ListName, for_the_turn, for_no_readers, for_no_writer, World, list_of, standing_of, Stands, Moved, view_of}
 use Rattle.world_mutex.proofs.of_machine.callers.Released.{released_marks}
 use Rattle.world_rwlock.proofs.step.Acting.{Acting, Way, impossible, over, puts, acts, way, acting, fit}
 use Rattle.world_rwlock.proofs.table.Begun.{at_future}
@@ -243,7 +243,7 @@ module _ (p : ℕ) (i : Inputs) where
   record Alone (x : World) : Type 0 where
     pub only : (q : ℕ) → q ≢ p → entries_of q x.no_readers ≡ 0
 
-  others_kept : (d : Deed Change ListName) (l : List (Entry ℕ)) (q : ℕ) → q ≢ p → entries_of q (entries_after p d for_no_readers l) ≡ entries_of q l
+  others_kept : (d : Effect Change ListName) (l : List (Entry ℕ)) (q : ℕ) → q ≢ p → entries_of q (entries_after p d for_no_readers l) ≡ entries_of q l
   others_kept (does for_no_readers f) l q apart = others p l f q apart
   others_kept (does for_the_turn f) l q apart = refl
   others_kept (does for_no_writer f) l q apart = refl
@@ -256,7 +256,7 @@ module _ (p : ℕ) (i : Inputs) where
 
   alone_on : (x : World) (what : What) (a : Answer) (v : World) → Alone x → Moved x (record { party = p; what = what }) a v → Onward Alone (AtEnd for_no_readers) a v
   alone_on x what a v g s =
-      let d = s.legal.one_change.deed in
+      let d = s.legal.one_change.effect in
       let only : (q : ℕ) → q ≢ p → entries_of q v.no_readers ≡ 0 = λ q apart. ap (entries_of q) (s.legal.one_change.lists for_no_readers) ∙ (others_kept d x.no_readers q apart ∙ g.only q apart) in
       record {
         going = λ e. record { only = only };

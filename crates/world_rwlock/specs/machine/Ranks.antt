@@ -6,7 +6,7 @@ use Rattle.world_base.specs.declared.moves.Call.{Call}
 use Rattle.world_base.specs.declared.moves.Call.TheVariants as call
 use Rattle.lock_program.specs.declared.mutex.LockCall.TheVariants as turn_call
 use Rattle.world_mutex.specs.machine.Mutex.{steps_left as turn_steps_left}
-use Rattle.world_mutex.specs.machine.Deeds.{most_steps as most_turn_steps}
+use Rattle.world_mutex.specs.machine.Effects.{most_steps as most_turn_steps}
 use Rattle.sync_program.specs.declared.rwlock.Purpose.{Purpose}
 use Rattle.sync_program.specs.declared.rwlock.Purpose.TheVariants as purpose
 use Rattle.sync_program.specs.declared.rwlock.Ending.{Ending}

@@ -17,7 +17,7 @@ ghost use Rattle.world_rwlock.specs.machine.Solo.{SoloPolls};
 ghost use Rattle.world_rwlock.specs.machine.Ranks.{left_from, left_after, steps_left, most_steps};
 
 use crate::program::calls::start;
-use crate::program::deeds::carry_out;
+use crate::program::effects::carry_out;
 use crate::program::led::{Next, led};
 use crate::program::word::Word;
 use lock_event::Entry;

@@ -1,5 +1,5 @@
 -- Where everybody listed waits for one permit, each poll of a notified party takes one, while any are available, and leaves everybody else as he was.
-use Rattle.world_semaphore.proofs.Prelude.{◌≡◌, ◌≢◌, ℕ, without, zero, suc, ◌+◌, ◌<◌, ◌≤◌, inl, if◌then◌else◌, Bool, true, false, List, length, Some, is_some, refl, arith, ap, sym, ◌∙◌, subst, get_or-set_other, length-set, ℕ_discrete, Entry, is_marked_at, is_party, entries_of, Answer, Call, Inputs, Move, What, Begin, Go, Rest, Standing, outside, forgotten, is_outside, is_possible, going_on, beginning, Plain, Deed, nothing, changes, does, takes, gives_back, forgets, raises, gives, nothing_had, guard_of, permits_of, Share, entries_after, marked_listed, State, World, share_at, available, held, under_way, standing_of, size_of, state_after, IsAllowed, HasItsOwn, IsSound, IsAwake, is_at_rest, IsFreeAndWanted, Stands, Steps, known_of, learn, HoldsWell, Takes, knows, added_in, is_forget}
+use Rattle.world_semaphore.proofs.Prelude.{◌≡◌, ◌≢◌, ℕ, without, zero, suc, ◌+◌, ◌<◌, ◌≤◌, inl, if◌then◌else◌, Bool, true, false, List, length, Some, is_some, refl, arith, ap, sym, ◌∙◌, subst, get_or-set_other, length-set, ℕ_discrete, Entry, is_marked_at, is_party, entries_of, Answer, Call, Inputs, Move, What, Begin, Go, Rest, Standing, outside, forgotten, is_outside, is_possible, going_on, beginning, Plain, Effect, nothing, changes, does, takes, gives_back, forgets, raises, gives, nothing_had, guard_of, permits_of, Share, entries_after, marked_listed, State, World, share_at, available, held, under_way, standing_of, size_of, state_after, IsAllowed, HasItsOwn, IsSound, IsAwake, is_at_rest, IsFreeAndWanted, Stands, Steps, known_of, learn, HoldsWell, Takes, knows, added_in, is_forget}
 use Rattle.world_base.specs.Bounds.{SomeMarked, PolledInTurn}
 use Rattle.world_base.proofs.Draining.{moved_sum, without_long, first_listed, outside_all, outside_each}
 use Rattle.world_base.proofs.of_any_world.Endings.{ends_at}
@@ -8,7 +8,7 @@ use Rattle.lock_event.proofs.Counts.{length-joined}
 use Rattle.world_base.proofs.of_queue.Queues.{own_one}
 use Rattle.world_base.proofs.of_queue.Rekeyed.{entries_of-joined}
 use Rattle.world_semaphore.specs.Bound.{PollsTold, Drained, Drains}
-use Rattle.world_semaphore.specs.machine.Deeds.{ListFunction, joins, asks, removes, fits, list_after, Change, limit_after, share_after}
+use Rattle.world_semaphore.specs.machine.Effects.{ListFunction, joins, asks, removes, fits, list_after, Change, limit_after, share_after}
 use Rattle.world_semaphore.proofs.bound.Bound.{some_marked}
 use Rattle.world_semaphore.proofs.laws.Sound.{sound, awake}
 use Rattle.world_semaphore.proofs.of_machine.laws.Entries.{others, length-fitted, entries_of-fitted}
@@ -26,7 +26,7 @@ list_long size p asks l = by_told (is_marked_at (is_party p) l) where
 list_long size p removes l = without_long p l
 list_long size p (fits a) l = omega (arith, length-fitted size a l, entries_of-fitted size a p l)
 
-entries_long : (size : ℕ → ℕ) (p : ℕ) (d : Deed) (l : List (Entry ℕ)) → entries_of p (entries_after size p d l) + length l ≡ entries_of p l + length (entries_after size p d l)
+entries_long : (size : ℕ → ℕ) (p : ℕ) (d : Effect) (l : List (Entry ℕ)) → entries_of p (entries_after size p d l) + length l ≡ entries_of p l + length (entries_after size p d l)
 entries_long size p nothing l = refl
 entries_long size p (changes c) l = refl
 entries_long size p (does f) l = list_long size p f l
@@ -58,29 +58,29 @@ changed p c s t limit e = record {
   limit = ap (λ (x : State). x.limit) e ∙ limit;
 }
 
-by_deed : (x : World) (p : ℕ) (what : What) (d : Deed) (t : State) → IsPolling what → IsAllowed x (record { party = p; what = what }) d → t ≡ state_after p d x.state → SameState p x.state t
-by_deed x p what nothing t polls may e = record { parties = ap (λ (y : State). length y.shares) e; share = λ q apart. ap (λ y. share_at y q) e; limit = ap (λ (y : State). y.limit) e }
-by_deed x p what (does f) t polls may e = record { parties = ap (λ (y : State). length y.shares) e; share = λ q apart. ap (λ y. share_at y q) e; limit = ap (λ (y : State). y.limit) e }
-by_deed x p what (changes (takes k)) t polls may e = changed p (takes k) x.state t refl e
-by_deed x p what (changes (gives_back k)) t polls may e = changed p (gives_back k) x.state t refl e
-by_deed x p what (changes (forgets k)) t polls may e = absurd (polls.forgets may.1)
-by_deed x p what (changes (raises n)) t polls may e = absurd (polls.adds n may.0)
-by_deed x p what (changes (gives n)) t polls may e = changed p (gives n) x.state t refl e
+by_effect : (x : World) (p : ℕ) (what : What) (d : Effect) (t : State) → IsPolling what → IsAllowed x (record { party = p; what = what }) d → t ≡ state_after p d x.state → SameState p x.state t
+by_effect x p what nothing t polls may e = record { parties = ap (λ (y : State). length y.shares) e; share = λ q apart. ap (λ y. share_at y q) e; limit = ap (λ (y : State). y.limit) e }
+by_effect x p what (does f) t polls may e = record { parties = ap (λ (y : State). length y.shares) e; share = λ q apart. ap (λ y. share_at y q) e; limit = ap (λ (y : State). y.limit) e }
+by_effect x p what (changes (takes k)) t polls may e = changed p (takes k) x.state t refl e
+by_effect x p what (changes (gives_back k)) t polls may e = changed p (gives_back k) x.state t refl e
+by_effect x p what (changes (forgets k)) t polls may e = absurd (polls.forgets may.1)
+by_effect x p what (changes (raises n)) t polls may e = absurd (polls.adds n may.0)
+by_effect x p what (changes (gives n)) t polls may e = changed p (gives n) x.state t refl e
 
 module _ (p : ℕ) (i : Inputs) (w : World) where
   on_step : (what : What) → IsPolling what → (x : World) (b : Answer) (y : World) → IsSame p w x → Steps x (record { party = p; what = what }) b y → Onward (IsSame p w) (λ c z. IsSame p w z) b y
   on_step what polls x b y g s =
       let one = s.legal.one_change in
-      let state = by_deed x p what one.deed y.state polls one.allowed one.state in
-      let es : y.entries ≡ entries_after (size_of x) p one.deed x.entries = one.entries in
-      let long = entries_long (size_of x) p one.deed x.entries in
+      let state = by_effect x p what one.effect y.state polls one.allowed one.state in
+      let es : y.entries ≡ entries_after (size_of x) p one.effect x.entries = one.entries in
+      let long = entries_long (size_of x) p one.effect x.entries in
       let so : IsSame p w y = record {
         standing = λ q apart. one.others q apart ∙ g.standing q apart;
         size = λ q apart. s.legal.knows_sizes.others q apart ∙ g.size q apart;
         parties = state.parties ∙ g.parties;
         share = λ q apart. state.share q apart ∙ g.share q apart;
         limit = state.limit ∙ g.limit;
-        entries = λ q apart. ap (entries_of q) es ∙ (others (size_of x) p x.entries one.deed q apart ∙ g.entries q apart);
+        entries = λ q apart. ap (entries_of q) es ∙ (others (size_of x) p x.entries one.effect q apart ∙ g.entries q apart);
         long = omega (arith, long, g.long, ap length es, ap (entries_of p) es);
       } in
       record { going = λ e. so; ended = λ e. so }

@@ -1,5 +1,5 @@
 -- After each step what is known tells the rights and the limit.
-use Rattle.world_semaphore.proofs.Prelude.{◌≡◌, ◌≢◌, ℕ, ◌+◌, ◌<◌, ◌≤◌, ◌↔◌, true, false, get_or, length, Option, Some, None, is_some, refl, arith, ap, sym, ◌∙◌, subst, ℕ_discrete, sum_by, get_or-le-sum_by, Answer, Call, Inputs, Move, What, Begin, Go, Refusal, Kind, Rest, Stage, Outside, Inside, Forgotten, Within, within, Standing, outside, inside, forgotten, is_outside, refused, inputs_of, some_eq, same_test, other_test, StepsWell, stage_at, stands_as, call_at, polls_again, stage_after, Table, past_last, by_stage_or_past, Action, Found, Done, Left, Available, Yes, No, Place, Take, Retake, Join, Ask, Remove, Load, HandOn, PassOn, RefuseFit, Try, Lower, GiveBack, Raise, GiveAdded, FitAdded, CancelRemove, CancelLoad, FitGivenBack, Abandon, Position, Out, Unlisted, Waiting, Holding, At, Words, Next, action_of, next_of, position_after, Seat, Share, guard_of, seat_of, permits_of, permits_at, share_of, size_at, verdict, Deed, nothing, changes, does, takes, gives_back, forgets, raises, gives, deed_of, words_after, Finds, Semaphore, IsSemaphore, answer_by, position_at, knows, goes_with, runs, is_begun, is_polling, World, share_at, has_permits, standing_of, size_of, size_after, view_of, HasItsOwn, IsSound, IsAwake, is_at_rest, IsSemaphoreTable, TableSteps, Known, Tells, HoldsWell, accounts_of, learn, added_by, forgotten_by}
+use Rattle.world_semaphore.proofs.Prelude.{◌≡◌, ◌≢◌, ℕ, ◌+◌, ◌<◌, ◌≤◌, ◌↔◌, true, false, get_or, length, Option, Some, None, is_some, refl, arith, ap, sym, ◌∙◌, subst, ℕ_discrete, sum_by, get_or-le-sum_by, Answer, Call, Inputs, Move, What, Begin, Go, Refusal, Kind, Rest, Stage, Outside, Inside, Forgotten, Within, within, Standing, outside, inside, forgotten, is_outside, refused, inputs_of, some_eq, same_test, other_test, StepsWell, stage_at, stands_as, call_at, polls_again, stage_after, Table, past_last, by_stage_or_past, Action, Found, Done, Left, Available, Yes, No, Place, Take, Retake, Join, Ask, Remove, Load, HandOn, PassOn, RefuseFit, Try, Lower, GiveBack, Raise, GiveAdded, FitAdded, CancelRemove, CancelLoad, FitGivenBack, Abandon, Position, Out, Unlisted, Waiting, Holding, At, Words, Next, action_of, next_of, position_after, Seat, Share, guard_of, seat_of, permits_of, permits_at, share_of, size_at, verdict, Effect, nothing, changes, does, takes, gives_back, forgets, raises, gives, effect_of, words_after, Finds, Semaphore, IsSemaphore, answer_by, position_at, knows, goes_with, runs, is_begun, is_polling, World, share_at, has_permits, standing_of, size_of, size_after, view_of, HasItsOwn, IsSound, IsAwake, is_at_rest, IsSemaphoreTable, TableSteps, Known, Tells, HoldsWell, accounts_of, learn, added_by, forgotten_by}
 use Rattle.world_base.specs.Accounts.{Account, account_after, HasByAnswers}
 use Rattle.world_base.specs.Rights.{Right, permit}
 use Rattle.world_base.specs.table.Rights.{account_by, sought_by, TellsAccounts}
@@ -23,11 +23,11 @@ abbrev Kept_at : Stage → What → Within → Position → Place → Found → 
 Kept_at s what w x from f = Kept_by s what w x (next_of from f)
 
 -- and the limit is counted
-abbrev limit_by : Deed → ℕ → ℕ
+abbrev limit_by : Effect → ℕ → ℕ
 limit_by d l = (words_after d (record { available = 0; limit = l; most = 0 })).limit
 
 abbrev Counts_at : What → Position → Place → Found → Type 0
-Counts_at what x from f = (l : ℕ) → ((k : ℕ) → from ≡ Lower k → (k ≤ l) × (f ≡ Done)) → limit_by (deed_of (action_of from) f) l + forgotten_by what (answer_by (next_of from f)) (size_at x) ≡ l + added_by what (answer_by (next_of from f))
+Counts_at what x from f = (l : ℕ) → ((k : ℕ) → from ≡ Lower k → (k ≤ l) × (f ≡ Done)) → limit_by (effect_of (action_of from) f) l + forgotten_by what (answer_by (next_of from f)) (size_at x) ≡ l + added_by what (answer_by (next_of from f))
 
 pub record Accounted (s : Stage) (what : What) (w : Within) (x : Position) (from : Place) : Type 0 where
   pub account : (f : Found) → Kept_at s what w x from f
@@ -207,7 +207,7 @@ some_limit s laws p k known one =
     let most : permits_at (get_or s.positions p Out) ≤ sum_by permits_at s.positions = get_or-le-sum_by permits_at s.positions p Out known in
     omega (arith, most, one, laws.balanced)
 
-limit_seen : (d : Deed) (w : Words) → (words_after d w).limit ≡ limit_by d w.limit
+limit_seen : (d : Effect) (w : Words) → (words_after d w).limit ≡ limit_by d w.limit
 limit_seen nothing w = refl
 limit_seen (changes (takes k)) w = refl
 limit_seen (changes (gives_back k)) w = refl
@@ -258,8 +258,8 @@ module _ (t u : Table Semaphore) (m : Move) (a : Answer) where
           ∙ (ap (λ b. account_at (stands_as (verdict (after k.from k.found)) (stage_after Rest.Holding w b))) (sym k.answer) ∙ ap account_at (sym (acting.stands t u m a w k)))));
       others = λ q apart. ap account_at (acting.others_stand t u m a w k q apart);
       limit =
-          let is : u.machine.words.limit ≡ limit_by (deed_of (action_of k.from) k.found) t.machine.words.limit = ap (λ (v : Words). v.limit) k.acts.words ∙ limit_seen (deed_of (action_of k.from) k.found) t.machine.words in
-          let counts : limit_by (deed_of (action_of k.from) k.found) t.machine.words.limit + forgotten_by m.what (answer_by (next_of k.from k.found)) (size_at (position_at t.machine.positions p)) ≡ t.machine.words.limit + added_by m.what (answer_by (next_of k.from k.found)) =
+          let is : u.machine.words.limit ≡ limit_by (effect_of (action_of k.from) k.found) t.machine.words.limit = ap (λ (v : Words). v.limit) k.acts.words ∙ limit_seen (effect_of (action_of k.from) k.found) t.machine.words in
+          let counts : limit_by (effect_of (action_of k.from) k.found) t.machine.words.limit + forgotten_by m.what (answer_by (next_of k.from k.found)) (size_at (position_at t.machine.positions p)) ≡ t.machine.words.limit + added_by m.what (answer_by (next_of k.from k.found)) =
           so.limit k.found t.machine.words.limit (λ n e. (lowers_some n e, lower_done k.from n e k.acts.finds)) in
           let P : Answer → ℕ → Type 0 = λ b n. u.machine.words.limit + forgotten_by m.what b n ≡ t.machine.words.limit + added_by m.what b in
           let Q : Answer → Type 0 = λ b. P b (size_at (position_at t.machine.positions p)) in

@@ -1,5 +1,5 @@
 -- An action of a party is a legal step, as callers see it.
-use Rattle.world_semaphore.proofs.Prelude.{◌≡◌, ◌≢◌, ℕ, ◌<◌, ◌||◌, ◌⊎◌, inl, inr, Bool, true, false, List, map, length, Option, Some, None, is_some, refl, arith, ap, sym, ◌∙◌, subst, get_or-set_same, get_or-set_other, set, map-set, Entry, mark_at, is_party, entries_of, Answer, Call, Plain, Move, What, Begin, Refusal, Kind, Rest, Stage, Outside, Inside, Forgotten, Within, inputs_of, call_in, is_possible, is_stepped, is_decided, may_end, decision, refused, IsUndecided, is_giving_back, is_poll_after_ready, is_refusal, some_eq, none_some, finished_number, stage_at, stands_as, call_at, polls_again, stage_after, Table, set_same, call_seen, again_seen, stands_seen, decided_after, decision_seen, later_ends, Action, Found, Available, Done, Left, PastLimit, Yes, No, Next, Place, Take, Retake, Join, Ask, Remove, Load, HandOn, PassOn, RefuseFit, Try, Lower, GiveBack, Raise, GiveAdded, FitAdded, CancelRemove, CancelLoad, FitGivenBack, Abandon, Position, Out, Words, place_for, action_of, next_of, position_after, Seat, Share, guard_of, seat_of, share_of, size_at, debt_at, listed, verdict, verdict_of, Deed, nothing, changes, does, joins, asks, removes, fits, takes, gives_back, forgets, raises, gives, share_after, deed_of, Finds, words_after, entries_after, Semaphore, IsSemaphore, Acts, knows, runs, position_at, sizes_of, answer_by, is_polling, State, World, share_at, available, standing_of, size_of, debt_of, view_of, call_of, DecidesOn, state_after, gives_something_back, added_in, wanted, wanted_in, IsAllowed, ChangesOneThing, KnowsSizes, KnowsDebts, Carries, Waits, IsCause, IsRefusedForCause, size_after, LeavesClear, EndsProperly, Legal, IsSemaphoreTable}
+use Rattle.world_semaphore.proofs.Prelude.{◌≡◌, ◌≢◌, ℕ, ◌<◌, ◌||◌, ◌⊎◌, inl, inr, Bool, true, false, List, map, length, Option, Some, None, is_some, refl, arith, ap, sym, ◌∙◌, subst, get_or-set_same, get_or-set_other, set, map-set, Entry, mark_at, is_party, entries_of, Answer, Call, Plain, Move, What, Begin, Refusal, Kind, Rest, Stage, Outside, Inside, Forgotten, Within, inputs_of, call_in, is_possible, is_stepped, is_decided, may_end, decision, refused, IsUndecided, is_giving_back, is_poll_after_ready, is_refusal, some_eq, none_some, finished_number, stage_at, stands_as, call_at, polls_again, stage_after, Table, set_same, call_seen, again_seen, stands_seen, decided_after, decision_seen, later_ends, Action, Found, Available, Done, Left, PastLimit, Yes, No, Next, Place, Take, Retake, Join, Ask, Remove, Load, HandOn, PassOn, RefuseFit, Try, Lower, GiveBack, Raise, GiveAdded, FitAdded, CancelRemove, CancelLoad, FitGivenBack, Abandon, Position, Out, Words, place_for, action_of, next_of, position_after, Seat, Share, guard_of, seat_of, share_of, size_at, debt_at, listed, verdict, verdict_of, Effect, nothing, changes, does, joins, asks, removes, fits, takes, gives_back, forgets, raises, gives, share_after, effect_of, Finds, words_after, entries_after, Semaphore, IsSemaphore, Acts, knows, runs, position_at, sizes_of, answer_by, is_polling, State, World, share_at, available, standing_of, size_of, debt_of, view_of, call_of, DecidesOn, state_after, gives_something_back, added_in, wanted, wanted_in, IsAllowed, ChangesOneThing, KnowsSizes, KnowsDebts, Carries, Waits, IsCause, IsRefusedForCause, size_after, LeavesClear, EndsProperly, Legal, IsSemaphoreTable}
 use Rattle.std.proofs.Math.Seq.{map-set_same}
 use Rattle.lock_event.specs.declared.event.Mark.TheVariants.{Waiting}
 use Rattle.world_base.proofs.of_queue.Told.{waits_at}
@@ -99,7 +99,7 @@ ends_by _ _ x f h e = absurd (cc h)
 -- ---- What was decided, and what is decided now
 
 module _ (memory : Bool) (w : Words) (x : Place) (f : Found) (n : Next) where
-  parted : (v o : Option Answer) → Judged memory w x f n v o → is_some v ≡ true → gives_something_back (deed_of (action_of x) f) ≡ true
+  parted : (v o : Option Answer) → Judged memory w x f n v o → is_some v ≡ true → gives_something_back (effect_of (action_of x) f) ≡ true
   parted (Some b) o j h = j.1
   parted None o j h = absurd (cc)
 
@@ -133,8 +133,8 @@ pub join_unlisted : (x : Place) → is_join x ≡ true → (seat_of x).listed �
 join_unlisted (Join k told) h = refl
 join_unlisted _ h = absurd (cc)
 
-pub room_found : (memory : Bool) (d : Deed) → Room memory d → d ≡ does joins → memory ≡ true
-room_found memory d h e = let P : Deed → Type 0 = Room memory in subst P e h
+pub room_found : (memory : Bool) (d : Effect) → Room memory d → d ≡ does joins → memory ≡ true
+room_found memory d h e = let P : Effect → Type 0 = Room memory in subst P e h
 
 -- who is answered Pending stands in the list
 pended_listed : (x : Place) (f : Found) → answer_by (next_of x f) ≡ Answer.Pending → listed (after x f) ≡ 1
@@ -174,7 +174,7 @@ add_stage Forgotten (Begin (Call.AddPermits k) i) w n a e = absurd (none_some e)
 add_stage s _ w n a e = absurd (cc a)
 
 -- only a fit has an entry notified
-pub fits_action : (b : Action) (f : Found) (c : ℕ) → deed_of b f ≡ does (fits c) → b ≡ Action.Fit c
+pub fits_action : (b : Action) (f : Found) (c : ℕ) → effect_of b f ≡ does (fits c) → b ≡ Action.Fit c
 fits_action (Action.Fit n) Done c e = cc e
 fits_action (Action.Fit n) _ c e = absurd (cc e)
 fits_action (Action.Take n) (Left d) c e = absurd (cc e)
@@ -262,8 +262,8 @@ module _ (t u : Table Semaphore) (m : Move) (a : Answer) (w : Within) where
     abbrev to : Position
     to = after from found
 
-    abbrev deed : Deed
-    deed = deed_of (action_of from) found
+    abbrev effect : Effect
+    effect = effect_of (action_of from) found
 
     r : Row memory t.machine.words from found
     r = row memory p t.machine.words t.machine.entries from found k.acts.finds
@@ -295,15 +295,15 @@ module _ (t u : Table Semaphore) (m : Move) (a : Answer) (w : Within) where
     pub share_new : share_at new.state p ≡ share_of to
     share_new = seen.share_seen u p ∙ ap share_of lands
 
-    state_so : (d : Deed) → SharesSo d (seat_of from).share (share_of to) → u.machine.words ≡ words_after d t.machine.words → new.state ≡ state_after p d old.state
+    state_so : (d : Effect) → SharesSo d (seat_of from).share (share_of to) → u.machine.words ≡ words_after d t.machine.words → new.state ≡ state_after p d old.state
     state_so (changes c) h e = same_state _ _ _ _ (ap (λ (v : Words). v.limit) e) (ap (map share_of) k.acts.positions ∙ (map-set share_of xs p to ∙ ap (set (map share_of xs) p) (h ∙ ap (share_after c) (sym share_old))))
     state_so nothing h e = same_state _ _ _ _ (ap (λ (v : Words). v.limit) e) (ap (map share_of) k.acts.positions ∙ map-set_same share_of xs p to Out (h ∙ ap (λ (z : Seat). z.share) k.here.same))
     state_so (does f) h e = same_state _ _ _ _ (ap (λ (v : Words). v.limit) e) (ap (map share_of) k.acts.positions ∙ map-set_same share_of xs p to Out (h ∙ ap (λ (z : Seat). z.share) k.here.same))
 
-    pub state_is : new.state ≡ state_after p deed old.state
-    state_is = state_so deed r.shares k.acts.words
+    pub state_is : new.state ≡ state_after p effect old.state
+    state_is = state_so effect r.shares k.acts.words
 
-    most_so : (d : Deed) → u.machine.words ≡ words_after d t.machine.words → u.machine.words.most ≡ t.machine.words.most
+    most_so : (d : Effect) → u.machine.words ≡ words_after d t.machine.words → u.machine.words.most ≡ t.machine.words.most
     most_so (changes c) e = ap (λ (v : Words). v.most) e
     most_so nothing e = ap (λ (v : Words). v.most) e
     most_so (does f) e = ap (λ (v : Words). v.most) e
@@ -317,7 +317,7 @@ module _ (t u : Table Semaphore) (m : Move) (a : Answer) (w : Within) where
     pub wants : (n : ℕ) → action_of from ≡ Action.Take n → wanted old m ≡ n
     wants n e = ap (wanted_in m.what) (seen.size_seen t p) ∙ k.here.wants n e
 
-    allowed_so : (d : Deed) → d ≡ deed → AllowedAt d from t.machine.words → IsAllowed old m d
+    allowed_so : (d : Effect) → d ≡ effect → AllowedAt d from t.machine.words → IsAllowed old m d
     allowed_so nothing is h = tt
     allowed_so (changes (takes n)) is h = (wants n h.0, omega (arith, seen.available_seen t k.old_laws, h.1), share_old ∙ h.2)
     allowed_so (changes (gives_back n)) is h = (share_old ∙ ap (λ y. (seat_of y).share) h, k.here.drop n h)
@@ -332,9 +332,9 @@ module _ (t u : Table Semaphore) (m : Move) (a : Answer) (w : Within) where
     decided_there : is_decided (standing_of old p) || is_giving_back m.what ≡ is_some (verdict_of from)
     decided_there = ap (λ z. is_decided z || is_giving_back m.what) stood ∙ k.here.decides
 
-    pub entries_seen : u.machine.entries ≡ entries_after (size_of old) p deed t.machine.entries
-    entries_seen = k.acts.entries ∙ same_sizes deed where
-      same_sizes : (d : Deed) → entries_after (sizes_of xs) p d t.machine.entries ≡ entries_after (size_of old) p d t.machine.entries
+    pub entries_seen : u.machine.entries ≡ entries_after (size_of old) p effect t.machine.entries
+    entries_seen = k.acts.entries ∙ same_sizes effect where
+      same_sizes : (d : Effect) → entries_after (sizes_of xs) p d t.machine.entries ≡ entries_after (size_of old) p d t.machine.entries
       same_sizes nothing = refl
       same_sizes (changes c) = refl
       same_sizes (does joins) = refl
@@ -344,15 +344,15 @@ module _ (t u : Table Semaphore) (m : Move) (a : Answer) (w : Within) where
 
     one_change : ChangesOneThing old m new
     one_change = record {
-      deed = deed;
-      allowed = allowed_so deed refl r.allowed;
+      effect = effect;
+      allowed = allowed_so effect refl r.allowed;
       state = state_is;
       entries = entries_seen;
-      most = most_so deed k.acts.words;
+      most = most_so effect k.acts.words;
       opening_permits = k.opening;
       others = others_stand;
       parties = acting.as_many verdict_in Rest.Holding t u p w a k.inside k.stages;
-      found_memory = λ e. room_found memory deed r.room e;
+      found_memory = λ e. room_found memory effect r.room e;
       parting = λ h. parted memory t.machine.words from found (next_of from found) (verdict_of from) (said (next_of from found)) r.judged (sym decided_there ∙ h);
       giving_up = λ h. decided_there ∙ r.held_on h;
     }
@@ -363,7 +363,7 @@ module _ (t u : Table Semaphore) (m : Move) (a : Answer) (w : Within) where
     pub owes : OwedBy p t.machine.words t.machine.entries (size_of old) from found to
     owes = owed memory p t.machine.words t.machine.entries (size_of old) from found k.acts.finds own_entries
 
-    pub available_new : available new.state ≡ (words_after deed t.machine.words).available
+    pub available_new : available new.state ≡ (words_after effect t.machine.words).available
     available_new = seen.available_seen u k.new_laws ∙ ap (λ (v : Words). v.available) k.acts.words
 
     size_rows : Sized s m.what w x from
@@ -380,7 +380,7 @@ module _ (t u : Table Semaphore) (m : Move) (a : Answer) (w : Within) where
 
     knows_debts : KnowsDebts old m new
     knows_debts = record {
-      own = owes_so p (seat_of from).debt (debt_at to) t.machine.entries (entries_after (size_of old) p deed t.machine.entries) (words_after deed t.machine.words).available (size_of old) (sym debt_old) (sym debt_new) (sym entries_seen) (sym available_new) owes;
+      own = owes_so p (seat_of from).debt (debt_at to) t.machine.entries (entries_after (size_of old) p effect t.machine.entries) (words_after effect t.machine.words).available (size_of old) (sym debt_old) (sym debt_new) (sym entries_seen) (sym available_new) owes;
       others = λ q apart. seen.debt_seen u q ∙ (ap debt_at (stays q apart) ∙ sym (seen.debt_seen t q));
     }
 
@@ -394,9 +394,9 @@ module _ (t u : Table Semaphore) (m : Move) (a : Answer) (w : Within) where
       granted = λ got d. elim (reason (Answer.Granted got) d) as (λ _. got ≡ Plain) [ inl e ↦ absurd (cc) | inr y ↦ y ];
     }
 
-    pended_so : (y : Place) (f : Found) (es : List (Entry ℕ)) → is_ask y ≡ true → f ≡ No → Finds memory p (action_of y) f t.machine.words t.machine.entries → es ≡ entries_after (size_of old) p (deed_of (action_of y) f) t.machine.entries → entries_of p t.machine.entries ≡ (seat_of y).listed → mark_at (is_party p) es ≡ Some Waiting
+    pended_so : (y : Place) (f : Found) (es : List (Entry ℕ)) → is_ask y ≡ true → f ≡ No → Finds memory p (action_of y) f t.machine.words t.machine.entries → es ≡ entries_after (size_of old) p (effect_of (action_of y) f) t.machine.entries → entries_of p t.machine.entries ≡ (seat_of y).listed → mark_at (is_party p) es ≡ Some Waiting
     pended_so (Ask n told) f es is_so ef finds is own =
-        let P : Found → Type 0 = λ f. Finds memory p (action_of (Ask n told)) f t.machine.words t.machine.entries → es ≡ entries_after (size_of old) p (deed_of (action_of (Ask n told)) f) t.machine.entries → mark_at (is_party p) es ≡ Some Waiting in
+        let P : Found → Type 0 = λ f. Finds memory p (action_of (Ask n told)) f t.machine.words t.machine.entries → es ≡ entries_after (size_of old) p (effect_of (action_of (Ask n told)) f) t.machine.entries → mark_at (is_party p) es ≡ Some Waiting in
         let base : P No = λ marked same. (let kept : es ≡ t.machine.entries = same ∙ rw marked refl in rw kept (waits_at p t.machine.entries own marked)) in
         subst P (sym ef) base finds is
     pended_so _ f es is_so ef finds is own = absurd (cc is_so)
@@ -410,7 +410,7 @@ module _ (t u : Table Semaphore) (m : Move) (a : Answer) (w : Within) where
 
     pub unchanged : (n : ℕ) → from ≡ Raise n → found ≡ PastLimit → u ≡ t
     unchanged n ef ep =
-        let P : Place → Found → Type 0 = λ y f. (u.machine.words ≡ words_after (deed_of (action_of y) f) t.machine.words) × (u.machine.entries ≡ entries_after (sizes_of xs) p (deed_of (action_of y) f) t.machine.entries) × (u.machine.positions ≡ set xs p (after y f)) × (a ≡ answer_by (next_of y f)) in
+        let P : Place → Found → Type 0 = λ y f. (u.machine.words ≡ words_after (effect_of (action_of y) f) t.machine.words) × (u.machine.entries ≡ entries_after (sizes_of xs) p (effect_of (action_of y) f) t.machine.entries) × (u.machine.positions ≡ set xs p (after y f)) × (a ≡ answer_by (next_of y f)) in
         let all : P from found = (k.acts.words, k.acts.entries, k.acts.positions, k.answer) in
         let Q : Place → Type 0 = λ y. P y found in
         let so : P (Raise n) PastLimit = subst (P (Raise n)) ep (subst Q ef all) in
@@ -421,7 +421,7 @@ module _ (t u : Table Semaphore) (m : Move) (a : Answer) (w : Within) where
         same_table _ _ _ _ _ _ (same_machine _ _ _ _ _ _ so.0 positions so.1) stages k.opening
 
     cause : (c : Refusal) → Refuses memory t.machine.words from found c → IsCause old m new c
-    cause Refusal.Memory y = (y.0, own_entries ∙ join_unlisted from y.1, entries_seen ∙ ap (λ (d : Deed). entries_after (size_of old) p d t.machine.entries) y.2, state_is ∙ ap (λ (d : Deed). state_after p d old.state) y.2)
+    cause Refusal.Memory y = (y.0, own_entries ∙ join_unlisted from y.1, entries_seen ∙ ap (λ (d : Effect). entries_after (size_of old) p d t.machine.entries) y.2, state_is ∙ ap (λ (d : Effect). state_after p d old.state) y.2)
     cause Refusal.Permits y = (y.0, k.here.raise y.0 y.1, y.2, ap view_of (unchanged y.0 y.1 y.3))
     cause Refusal.Finished y = absurd y
     cause _ y = absurd y

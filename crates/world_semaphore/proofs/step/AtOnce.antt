@@ -1,5 +1,5 @@
 -- What the first step of a call decides at once.
-use Rattle.world_semaphore.proofs.Prelude.{◌≡◌, ℕ, ◌+◌, ◌⊎◌, ◌||◌, inl, inr, Bool, true, false, Option, Some, is_some, nat_le, if◌then◌else◌, refl, arith, ap, sym, ◌∙◌, subst, false≢true, le-leb, lt-leb, fitted, entries_of, Answer, Plain, Move, What, Kind, Rest, Stage, Within, Refusal, Standing, outside, inside, inputs_of, decision, refused, is_drop, some_eq, not_one, outside_inside, stage_at, stands_as, call_at, polls_again, Table, Action, Found, Done, Left, Short, Available, PastLimit, Place, Take, Retake, PassOn, RefuseFit, Try, Lower, GiveBack, Raise, GiveAdded, FitAdded, CancelRemove, CancelLoad, FitGivenBack, Abandon, Position, available_in, action_of, next_of, Share, a_fit, seat_of, share_of, size_at, debt_at, listed, verdict, verdict_of, Deed, nothing, changes, does, fits, takes, gives_back, forgets, gives, entries_after, words_after, deed_of, Finds, FindsPermits, FindsSo, FindsRoom, Semaphore, knows, goes_with, runs, is_begun, is_adding, position_at, answer_by, World, share_at, has_permits, available, standing_of, size_of, debt_of, view_of, state_after, added_in, is_forget, wanted, wanted_in, AnswersAtOnce, AddsAtOnce, GivesInTurn, TellsInTurn, is_try, is_poll, is_first_poll}
+use Rattle.world_semaphore.proofs.Prelude.{◌≡◌, ℕ, ◌+◌, ◌⊎◌, ◌||◌, inl, inr, Bool, true, false, Option, Some, is_some, nat_le, if◌then◌else◌, refl, arith, ap, sym, ◌∙◌, subst, false≢true, le-leb, lt-leb, fitted, entries_of, Answer, Plain, Move, What, Kind, Rest, Stage, Within, Refusal, Standing, outside, inside, inputs_of, decision, refused, is_drop, some_eq, not_one, outside_inside, stage_at, stands_as, call_at, polls_again, Table, Action, Found, Done, Left, Short, Available, PastLimit, Place, Take, Retake, PassOn, RefuseFit, Try, Lower, GiveBack, Raise, GiveAdded, FitAdded, CancelRemove, CancelLoad, FitGivenBack, Abandon, Position, available_in, action_of, next_of, Share, a_fit, seat_of, share_of, size_at, debt_at, listed, verdict, verdict_of, Effect, nothing, changes, does, fits, takes, gives_back, forgets, gives, entries_after, words_after, effect_of, Finds, FindsPermits, FindsSo, FindsRoom, Semaphore, knows, goes_with, runs, is_begun, is_adding, position_at, answer_by, World, share_at, has_permits, available, standing_of, size_of, debt_of, view_of, state_after, added_in, is_forget, wanted, wanted_in, AnswersAtOnce, AddsAtOnce, GivesInTurn, TellsInTurn, is_try, is_poll, is_first_poll}
 use Rattle.world_semaphore.proofs.of_machine.laws.Kept.{after}
 use Rattle.world_semaphore.proofs.table.Seen as seen
 use Rattle.world_semaphore.proofs.step.Rows.{said}
@@ -197,7 +197,7 @@ module _ (t u : Table Semaphore) (m : Move) (a : Answer) (w : Within) (k : Actin
 
     by_found : (f : Found) → FindsRoom n f t.machine.words → k.found ≡ f → AddsAtOnce n old m a new
     by_found Done room is = record {
-      fits = λ h. (acting.state_is t u m a w k ∙ ap (λ (d : Deed). state_after p d old.state) (ap (λ y. deed_of (action_of y) k.found) from ∙ ap (deed_of (Action.Raise n)) is), decided (Raise n) from ∙ ap (λ f. said (next_of (Raise n) f)) is);
+      fits = λ h. (acting.state_is t u m a w k ∙ ap (λ (d : Effect). state_after p d old.state) (ap (λ y. effect_of (action_of y) k.found) from ∙ ap (effect_of (Action.Raise n)) is), decided (Raise n) from ∙ ap (λ f. said (next_of (Raise n) f)) is);
       past = λ h. absurd (omega (arith, h, room));
     }
     by_found PastLimit room is = record {
@@ -206,17 +206,17 @@ module _ (t u : Table Semaphore) (m : Move) (a : Answer) (w : Within) (k : Actin
     }
     by_found _ room is = absurd room
 
-  done_there : (y : Place) → k.from ≡ y → deed_of (action_of k.from) k.found ≡ deed_of (action_of y) k.found
-  done_there y e = ap (λ z. deed_of (action_of z) k.found) e
+  done_there : (y : Place) → k.from ≡ y → effect_of (action_of k.from) k.found ≡ effect_of (action_of y) k.found
+  done_there y e = ap (λ z. effect_of (action_of z) k.found) e
 
   -- what the action of this place does to the state and to the list
-  state_there : (y : Place) → k.from ≡ y → (d : Deed) → deed_of (action_of y) k.found ≡ d → new.state ≡ state_after p d old.state
-  state_there y e d is = acting.state_is t u m a w k ∙ ap (λ (c : Deed). state_after p c old.state) (done_there y e ∙ is)
+  state_there : (y : Place) → k.from ≡ y → (d : Effect) → effect_of (action_of y) k.found ≡ d → new.state ≡ state_after p d old.state
+  state_there y e d is = acting.state_is t u m a w k ∙ ap (λ (c : Effect). state_after p c old.state) (done_there y e ∙ is)
 
-  list_there : (y : Place) → k.from ≡ y → (d : Deed) → deed_of (action_of y) k.found ≡ d → new.entries ≡ entries_after (size_of old) p d old.entries
-  list_there y e d is = acting.entries_seen t u m a w k ∙ ap (λ (c : Deed). entries_after (size_of old) p c old.entries) (done_there y e ∙ is)
+  list_there : (y : Place) → k.from ≡ y → (d : Effect) → effect_of (action_of y) k.found ≡ d → new.entries ≡ entries_after (size_of old) p d old.entries
+  list_there y e d is = acting.entries_seen t u m a w k ∙ ap (λ (c : Effect). entries_after (size_of old) p c old.entries) (done_there y e ∙ is)
 
-  lowered : (n : ℕ) (f : Found) → Finds memory p (Action.Lower n) f t.machine.words t.machine.entries → deed_of (Action.Lower n) f ≡ changes (forgets n)
+  lowered : (n : ℕ) (f : Found) → Finds memory p (Action.Lower n) f t.machine.words t.machine.entries → effect_of (Action.Lower n) f ≡ changes (forgets n)
   lowered n Done e = refl
   lowered n _ e = absurd e
 
@@ -230,31 +230,31 @@ module _ (t u : Table Semaphore) (m : Move) (a : Answer) (w : Within) (k : Actin
       (answered (Lower n) d.1, state_there (Lower n) d.1 (changes (forgets n)) (lowered n k.found (at (Lower n) Found_there d.1 k.acts.finds)) ∙ ap (λ c. state_after p (changes (forgets c)) old.state) (sym (size_is n d.2)))
 
   -- what is found available, of which the party is to tell then
-  record Gave (y : Place) (d : Deed) (available : ℕ) : Type 0 where
-    pub is : deed_of (action_of y) k.found ≡ d
+  record Gave (y : Place) (d : Effect) (available : ℕ) : Type 0 where
+    pub is : effect_of (action_of y) k.found ≡ d
     pub found : available_in k.found ≡ available
 
   gave_back : (n : ℕ) → Finds memory p (Action.GiveBack n) k.found t.machine.words t.machine.entries → Gave (GiveBack n) (changes (gives_back n)) (t.machine.words.available + n)
   gave_back n finds = by_found k.found refl finds where
     by_found : (f : Found) → k.found ≡ f → FindsSo (t.machine.words.available + n) f → Gave (GiveBack n) (changes (gives_back n)) (t.machine.words.available + n)
-    by_found (Available c) is e = record { is = ap (deed_of (Action.GiveBack n)) is; found = ap available_in is ∙ e }
+    by_found (Available c) is e = record { is = ap (effect_of (Action.GiveBack n)) is; found = ap available_in is ∙ e }
     by_found _ is e = absurd e
 
   gave : (n : ℕ) → Finds memory p (Action.Give n) k.found t.machine.words t.machine.entries → Gave (GiveAdded n) (changes (gives n)) (t.machine.words.available + n)
   gave n finds = by_found k.found refl finds where
     by_found : (f : Found) → k.found ≡ f → FindsSo (t.machine.words.available + n) f → Gave (GiveAdded n) (changes (gives n)) (t.machine.words.available + n)
-    by_found (Available c) is e = record { is = ap (deed_of (Action.Give n)) is; found = ap available_in is ∙ e }
+    by_found (Available c) is e = record { is = ap (effect_of (Action.Give n)) is; found = ap available_in is ∙ e }
     by_found _ is e = absurd e
 
   loaded : Finds memory p Action.Load k.found t.machine.words t.machine.entries → Gave CancelLoad nothing t.machine.words.available
   loaded finds = by_found k.found refl finds where
     by_found : (f : Found) → k.found ≡ f → FindsSo t.machine.words.available f → Gave CancelLoad nothing t.machine.words.available
-    by_found (Available c) is e = record { is = ap (deed_of Action.Load) is; found = ap available_in is ∙ e }
+    by_found (Available c) is e = record { is = ap (effect_of Action.Load) is; found = ap available_in is ∙ e }
     by_found _ is e = absurd e
 
   -- so many are available then
-  available_there : (y : Place) → k.from ≡ y → (d : Deed) → deed_of (action_of y) k.found ≡ d → available new.state ≡ (words_after d t.machine.words).available
-  available_there y e d is = acting.available_new t u m a w k ∙ ap (λ (c : Deed). (words_after c t.machine.words).available) (done_there y e ∙ is)
+  available_there : (y : Place) → k.from ≡ y → (d : Effect) → effect_of (action_of y) k.found ≡ d → available new.state ≡ (words_after d t.machine.words).available
+  available_there y e d is = acting.available_new t u m a w k ∙ ap (λ (c : Effect). (words_after c t.machine.words).available) (done_there y e ∙ is)
 
   returned : is_drop m.what ≡ true → standing_of old p ≡ outside Rest.Holding → (a ≡ Answer.Stepped) × (new.state ≡ state_after p (changes (gives_back (size_of old p))) old.state) × (debt_of new p ≡ a_fit (available new.state))
   returned h stands =
@@ -271,11 +271,11 @@ module _ (t u : Table Semaphore) (m : Move) (a : Answer) (w : Within) (k : Actin
 
   looked : (y : Place) (n : ℕ) → k.from ≡ y → action_of y ≡ Action.Take n → wanted old m ≡ n → (f : Found) → k.found ≡ f → FindsPermits n f t.machine.words.available → is_enough old m ≡ is_taken f → Looked
   looked y n e act_is wants (Left c) is found enough =
-      let deed : deed_of (action_of y) k.found ≡ changes (takes n) = ap (λ b. deed_of b k.found) act_is ∙ ap (deed_of (Action.Take n)) is in
-      (rw enough (state_there y e (changes (takes n)) deed ∙ ap (λ j. state_after p (changes (takes j)) old.state) (sym wants)), list_there y e (changes (takes n)) deed)
+      let effect : effect_of (action_of y) k.found ≡ changes (takes n) = ap (λ b. effect_of b k.found) act_is ∙ ap (effect_of (Action.Take n)) is in
+      (rw enough (state_there y e (changes (takes n)) effect ∙ ap (λ j. state_after p (changes (takes j)) old.state) (sym wants)), list_there y e (changes (takes n)) effect)
   looked y n e act_is wants (Short c) is found enough =
-      let deed : deed_of (action_of y) k.found ≡ nothing = ap (λ b. deed_of b k.found) act_is ∙ ap (deed_of (Action.Take n)) is in
-      (rw enough (state_there y e nothing deed), list_there y e nothing deed)
+      let effect : effect_of (action_of y) k.found ≡ nothing = ap (λ b. effect_of b k.found) act_is ∙ ap (effect_of (Action.Take n)) is in
+      (rw enough (state_there y e nothing effect), list_there y e nothing effect)
   looked y n e act_is wants _ is found enough = absurd found
 
   looks_at : (y : Place) (n : ℕ) → k.from ≡ y → action_of y ≡ Action.Take n → wanted_in m.what (size_at (position_at t.machine.positions p)) ≡ n → Looked
@@ -292,8 +292,8 @@ module _ (t u : Table Semaphore) (m : Move) (a : Answer) (w : Within) (k : Actin
   told_there : (y : Place) (c : ℕ) → k.from ≡ y → action_of y ≡ Action.Fit c → new.entries ≡ fitted (size_of old) c old.entries
   told_there y c e act_is =
       let F : Action → Type 0 = λ b. Finds memory p b k.found t.machine.words t.machine.entries in
-      list_there y e (does (fits c)) (ap (λ b. deed_of b k.found) act_is ∙ told_done c k.found (subst F act_is (at y Found_there e k.acts.finds))) where
-        told_done : (c : ℕ) (f : Found) → Finds memory p (Action.Fit c) f t.machine.words t.machine.entries → deed_of (Action.Fit c) f ≡ does (fits c)
+      list_there y e (does (fits c)) (ap (λ b. effect_of b k.found) act_is ∙ told_done c k.found (subst F act_is (at y Found_there e k.acts.finds))) where
+        told_done : (c : ℕ) (f : Found) → Finds memory p (Action.Fit c) f t.machine.words t.machine.entries → effect_of (Action.Fit c) f ≡ does (fits c)
         told_done c Done e = refl
         told_done c _ e = absurd e
 

@@ -1,5 +1,5 @@
 -- What an action does to what its party owes.
-use Rattle.world_semaphore.proofs.Prelude.{◌≡◌, ℕ, ◌<◌, inl, inr, Bool, true, false, List, [], ◌∷◌, Option, Some, None, refl, arith, ap, nat_tests, Entry, is_marked_at, marked_count, fitted, is_party, entries_of, unlisted_unmarked, Found, Done, Left, Short, Available, PastLimit, NoMemory, Yes, No, Place, Take, Retake, Join, Ask, Remove, Load, HandOn, PassOn, RefuseFit, Try, Lower, GiveBack, Raise, GiveAdded, FitAdded, CancelRemove, CancelLoad, FitGivenBack, Abandon, Position, told_more, Words, action_of, position_after, seat_of, debt_at, nothing_owed, a_look, a_fit, fit_if, deed_of, Finds, words_after, entries_after, Owes, Debt, subst}
+use Rattle.world_semaphore.proofs.Prelude.{◌≡◌, ℕ, ◌<◌, inl, inr, Bool, true, false, List, [], ◌∷◌, Option, Some, None, refl, arith, ap, nat_tests, Entry, is_marked_at, marked_count, fitted, is_party, entries_of, unlisted_unmarked, Found, Done, Left, Short, Available, PastLimit, NoMemory, Yes, No, Place, Take, Retake, Join, Ask, Remove, Load, HandOn, PassOn, RefuseFit, Try, Lower, GiveBack, Raise, GiveAdded, FitAdded, CancelRemove, CancelLoad, FitGivenBack, Abandon, Position, told_more, Words, action_of, position_after, seat_of, debt_at, nothing_owed, a_look, a_fit, fit_if, effect_of, Finds, words_after, entries_after, Owes, Debt, subst}
 use Rattle.world_semaphore.proofs.of_machine.laws.Kept.{after, more_is, no_more}
 use Rattle.world_semaphore.proofs.of_machine.stages.Taking.{taken}
 
@@ -33,7 +33,7 @@ none_left a h = no_more a (none_so (told_more true a) h)
 
 -- what the party of a place owes where it stands then, by the words and the list before
 abbrev pub OwedBy : ℕ → Words → List (Entry ℕ) → (ℕ → ℕ) → Place → Found → Position → Type 0
-OwedBy p w l size x f y = Owes p (seat_of x).debt (debt_at y) l (entries_after size p (deed_of (action_of x) f) l) (words_after (deed_of (action_of x) f) w).available size
+OwedBy p w l size x f y = Owes p (seat_of x).debt (debt_at y) l (entries_after size p (effect_of (action_of x) f) l) (words_after (effect_of (action_of x) f) w).available size
 
 -- the same of debts, entries and permits that are the same
 pub owes_so : (p : ℕ) (d e : Debt) {c b : Debt} (l m : List (Entry ℕ)) {n : List (Entry ℕ)} (a : ℕ) {k : ℕ} (size : ℕ → ℕ) → d ≡ c → e ≡ b → m ≡ n → a ≡ k → Owes p d e l m a size → Owes p c b l n k size

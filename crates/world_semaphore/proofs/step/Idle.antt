@@ -81,7 +81,7 @@ module _ (w : World) (m : Move) (well : StandsWell w) where
   pub impossible : call_of w m ≡ None → Legal w m Answer.NotPossible w
   impossible none = let still : Still Answer.NotPossible = idle.impossible standing_of (λ x p. knows) Rest.Holding IsCause w m refl none in record {
     possible = still.possible;
-    one_change = record { deed = nothing; allowed = tt; state = refl; entries = refl; most = refl; opening_permits = refl; others = λ q apart. refl; parties = refl; found_memory = λ e. absurd (cc); parting = λ h. refl; giving_up = λ h. absurd (cc) };
+    one_change = record { effect = nothing; allowed = tt; state = refl; entries = refl; most = refl; opening_permits = refl; others = λ q apart. refl; parties = refl; found_memory = λ e. absurd (cc); parting = λ h. refl; giving_up = λ h. absurd (cc) };
     knows_sizes = record { own = never_sized m.what (size_of w m.party); others = λ q apart. refl };
     knows_debts = λ h. absurd (cc h);
     carries = record { ready = λ got d. (let e = same_decides s Answer.NotPossible (Answer.Ready got) d in absurd (cc)); granted = λ got d. (let e = same_decides s Answer.NotPossible (Answer.Granted got) d in absurd (cc)) };
@@ -114,7 +114,7 @@ module _ (w : World) (m : Move) (well : StandsWell w) where
     pub over : Legal w m (refused Refusal.Finished) w
     over = let still : Still (refused Refusal.Finished) = idle.over standing_of (λ x p. knows) Rest.Holding IsCause w m refl h refl in record {
       possible = still.possible;
-      one_change = record { deed = nothing; allowed = tt; state = refl; entries = refl; most = refl; opening_permits = refl; others = λ q apart. refl; parties = refl; found_memory = λ e. absurd (cc); parting = λ h. refl; giving_up = λ h. absurd (cc) };
+      one_change = record { effect = nothing; allowed = tt; state = refl; entries = refl; most = refl; opening_permits = refl; others = λ q apart. refl; parties = refl; found_memory = λ e. absurd (cc); parting = λ h. refl; giving_up = λ h. absurd (cc) };
       knows_sizes = record { own = again_sized s m.what (size_of w m.party) h; others = λ q apart. refl };
       knows_debts = λ possible. unmoved (again_out s m.what h);
       carries = record { ready = λ got d. (let e = same_decides s (refused Refusal.Finished) (Answer.Ready got) d in absurd (cc)); granted = λ got d. (let e = same_decides s (refused Refusal.Finished) (Answer.Granted got) d in absurd (cc)) };

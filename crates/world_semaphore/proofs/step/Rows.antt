@@ -1,5 +1,5 @@
 -- What each place's action does, finding by finding.
-use Rattle.world_semaphore.proofs.Prelude.{◌≡◌, ℕ, ◌+◌, ◌<◌, ◌≤◌, Bool, true, false, List, Option, Some, None, is_some, refl, arith, Entry, Answer, Plain, Refusal, is_refusal, Action, Found, Done, Left, Short, Available, PastLimit, NoMemory, Yes, No, Next, Place, Take, Retake, Join, Ask, Remove, Load, HandOn, PassOn, RefuseFit, Try, Lower, GiveBack, Raise, GiveAdded, FitAdded, CancelRemove, CancelLoad, FitGivenBack, Abandon, Words, action_of, next_of, position_after, Share, nothing_had, guard_of, seat_of, share_of, listed, verdict_of, a_fit, Deed, nothing, changes, does, joins, fits, takes, gives_back, forgets, raises, gives, share_after, deed_of, Finds, answer_by, gives_something_back, gives_up}
+use Rattle.world_semaphore.proofs.Prelude.{◌≡◌, ℕ, ◌+◌, ◌<◌, ◌≤◌, Bool, true, false, List, Option, Some, None, is_some, refl, arith, Entry, Answer, Plain, Refusal, is_refusal, Action, Found, Done, Left, Short, Available, PastLimit, NoMemory, Yes, No, Next, Place, Take, Retake, Join, Ask, Remove, Load, HandOn, PassOn, RefuseFit, Try, Lower, GiveBack, Raise, GiveAdded, FitAdded, CancelRemove, CancelLoad, FitGivenBack, Abandon, Words, action_of, next_of, position_after, Share, nothing_had, guard_of, seat_of, share_of, listed, verdict_of, a_fit, Effect, nothing, changes, does, joins, fits, takes, gives_back, forgets, raises, gives, share_after, effect_of, Finds, answer_by, gives_something_back, gives_up}
 use Rattle.lock_program.specs.Refusals.{number_of}
 use Rattle.world_base.specs.table.Ends.{answer_of}
 use Rattle.lock_program.specs.declared.end.Next.TheVariants as next
@@ -11,12 +11,12 @@ said (next.Do y) = verdict_of y
 said (next.End e x) = Some (answer_of Plain e)
 
 -- what the party has then
-abbrev pub SharesSo : Deed → Share → Share → Type 0
+abbrev pub SharesSo : Effect → Share → Share → Type 0
 SharesSo (changes c) s t = t ≡ share_after c s
 SharesSo _ s t = t ≡ s
 
 -- where a change is made
-abbrev pub AllowedAt : Deed → Place → Words → Type 0
+abbrev pub AllowedAt : Effect → Place → Words → Type 0
 AllowedAt (changes (takes k)) x w = (action_of x ≡ Action.Take k) × (k ≤ w.available) × ((seat_of x).share ≡ nothing_had)
 AllowedAt (changes (gives_back k)) x w = x ≡ GiveBack k
 AllowedAt (changes (forgets k)) x w = x ≡ Lower k
@@ -35,7 +35,7 @@ is_ask _ = false
 
 -- why a call is refused
 abbrev pub Refuses : Bool → Words → Place → Found → Refusal → Type 0
-Refuses memory w x f Refusal.Memory = (memory ≡ false) × (is_join x ≡ true) × (deed_of (action_of x) f ≡ nothing)
+Refuses memory w x f Refusal.Memory = (memory ≡ false) × (is_join x ≡ true) × (effect_of (action_of x) f ≡ nothing)
 Refuses memory w x f Refusal.Permits = (n : ℕ) × (x ≡ Raise n) × (w.most < w.limit + n) × (f ≡ PastLimit)
 Refuses memory w x f _ = ⊥
 
@@ -49,20 +49,20 @@ Reason memory w x f n _ = Unit {0}
 
 -- what was decided is kept, and its party only gives back; what is decided now has its reason
 abbrev pub Judged : Bool → Words → Place → Found → Next → Option Answer → Option Answer → Type 0
-Judged memory w x f n (Some b) o = (o ≡ Some b) × (gives_something_back (deed_of (action_of x) f) ≡ true)
+Judged memory w x f n (Some b) o = (o ≡ Some b) × (gives_something_back (effect_of (action_of x) f) ≡ true)
 Judged memory w x f n None None = Unit {0}
 Judged memory w x f n None (Some b) = Reason memory w x f n b
 
-abbrev pub Room : Bool → Deed → Type 0
+abbrev pub Room : Bool → Effect → Type 0
 Room memory (does joins) = memory ≡ true
 Room memory _ = Unit {0}
 
 pub record RowBy (memory : Bool) (w : Words) (x : Place) (f : Found) (n : Next) : Type 0 where
-  pub shares : SharesSo (deed_of (action_of x) f) (seat_of x).share (share_of (position_after n))
-  pub allowed : AllowedAt (deed_of (action_of x) f) x w
+  pub shares : SharesSo (effect_of (action_of x) f) (seat_of x).share (share_of (position_after n))
+  pub allowed : AllowedAt (effect_of (action_of x) f) x w
   pub judged : Judged memory w x f n (verdict_of x) (said n)
-  pub room : Room memory (deed_of (action_of x) f)
-  pub held_on : gives_up (deed_of (action_of x) f) ≡ true → is_some (verdict_of x) ≡ true
+  pub room : Room memory (effect_of (action_of x) f)
+  pub held_on : gives_up (effect_of (action_of x) f) ≡ true → is_some (verdict_of x) ≡ true
   pub clear : is_refusal (answer_by n) ≡ true → listed (position_after n) ≡ 0
 
 abbrev pub Row : Bool → Words → Place → Found → Type 0

@@ -1,5 +1,5 @@
 -- While a party goes on alone, whoever was notified before or is owed something stays covered.
-use Rattle.world_semaphore.proofs.Prelude.{◌≡◌, ℕ, ◌-◌, ◌<◌, ◌⊎◌, inl, inr, Bool, true, false, List, Option, Some, None, refl, arith, ap, sym, ◌∙◌, subst, Entry, marked_count, marked_count-without_waiting, marked_count-joined, is_party, entries_of, is_stepped, Action, Found, Done, Left, Short, Available, PastLimit, NoMemory, Yes, No, Place, Take, Retake, Join, Ask, Remove, Load, HandOn, PassOn, RefuseFit, Try, Lower, GiveBack, Raise, GiveAdded, FitAdded, CancelRemove, CancelLoad, FitGivenBack, Abandon, At, told_more, Words, Next, action_of, next_of, position_after, Debt, nothing_owed, a_look, a_fit, fit_if, seat_of, deed_of, Finds, words_after, entries_after, answer_by}
+use Rattle.world_semaphore.proofs.Prelude.{◌≡◌, ℕ, ◌-◌, ◌<◌, ◌⊎◌, inl, inr, Bool, true, false, List, Option, Some, None, refl, arith, ap, sym, ◌∙◌, subst, Entry, marked_count, marked_count-without_waiting, marked_count-joined, is_party, entries_of, is_stepped, Action, Found, Done, Left, Short, Available, PastLimit, NoMemory, Yes, No, Place, Take, Retake, Join, Ask, Remove, Load, HandOn, PassOn, RefuseFit, Try, Lower, GiveBack, Raise, GiveAdded, FitAdded, CancelRemove, CancelLoad, FitGivenBack, Abandon, At, told_more, Words, Next, action_of, next_of, position_after, Debt, nothing_owed, a_look, a_fit, fit_if, seat_of, effect_of, Finds, words_after, entries_after, answer_by}
 use Rattle.world_semaphore.proofs.of_machine.laws.Entries.{marked_count-fitted}
 use Rattle.world_semaphore.proofs.of_machine.laws.Kept.{more_is, no_more}
 use Rattle.world_semaphore.proofs.of_machine.stages.Taking.{taken}
@@ -58,7 +58,7 @@ more_covers c marked available e = by_more (told_more true c) refl where
 
 module _ (memory : Bool) (p : ℕ) (w : Words) (l : List (Entry ℕ)) (size : ℕ → ℕ) where
   pub covers : (x : Place) (f : Found) → Finds memory p (action_of x) f w l → entries_of p l ≡ (seat_of x).listed → Covered (seat_of x).debt (marked_count l) w.available
-      → CoversBy x (marked_count (entries_after size p (deed_of (action_of x) f) l)) (words_after (deed_of (action_of x) f) w).available (next_of x f)
+      → CoversBy x (marked_count (entries_after size p (effect_of (action_of x) f) l)) (words_after (effect_of (action_of x) f) w).available (next_of x f)
   covers (Take k true true) (Left c) e own h = ((λ z g. same_debt (Remove k (told_more true c)) z _ _ (more_covers c _ _ (omega (arith, e))) g), λ s. absurd (cc s))
   covers (Take k true false) (Left c) e own h = ((λ z g. same_debt (Remove k None) z _ _ (free_on nothing_owed nothing_owed _ _ _ _ refl (λ m. m) (λ n. omega (arith, e, n)) h) g), λ s. absurd (cc s))
   covers (Take k false true) (Left c) e own h = taken (CoversBy (Take k false true) (marked_count l) (w.available - k)) k c

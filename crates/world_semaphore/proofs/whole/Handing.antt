@@ -1,5 +1,5 @@
 -- A notified party for whom there are too few permits hands over to one for whom there are enough.
-use Rattle.world_semaphore.proofs.Prelude.{◌≡◌, ◌≢◌, ℕ, ◌+◌, ◌<◌, ◌≤◌, inl, true, false, Bool, List, [], ◌∷◌, length, Some, None, refl, arith, ap, sym, ◌∙◌, subst, leb-true, nat_tests, Entry, is_marked, is_marked_at, marked_count, is_enough, fit_first, fitted, length-joined, length-without, marked_count-without_marked, marked_count-joined, is_party, entries_of, Answer, Call, Inputs, What, Begin, Rest, Within, outside, inputs_of, is_stepped, moves_of, answers_of, Table, some_eq, none_some, is_there, Action, Found, Done, Left, Short, NoMemory, Yes, No, Place, Take, Retake, Join, Ask, PassOn, Position, Waiting, At, Words, action_of, next_of, place_for, seat_of, size_at, listed, Deed, nothing, changes, does, deed_of, Finds, words_after, entries_after, Semaphore, answer_by, position_at, sizes_of, State, World, standing_of, size_of, state_after, Known, Runs, view_of}
+use Rattle.world_semaphore.proofs.Prelude.{◌≡◌, ◌≢◌, ℕ, ◌+◌, ◌<◌, ◌≤◌, inl, true, false, Bool, List, [], ◌∷◌, length, Some, None, refl, arith, ap, sym, ◌∙◌, subst, leb-true, nat_tests, Entry, is_marked, is_marked_at, marked_count, is_enough, fit_first, fitted, length-joined, length-without, marked_count-without_marked, marked_count-joined, is_party, entries_of, Answer, Call, Inputs, What, Begin, Rest, Within, outside, inputs_of, is_stepped, moves_of, answers_of, Table, some_eq, none_some, is_there, Action, Found, Done, Left, Short, NoMemory, Yes, No, Place, Take, Retake, Join, Ask, PassOn, Position, Waiting, At, Words, action_of, next_of, place_for, seat_of, size_at, listed, Effect, nothing, changes, does, effect_of, Finds, words_after, entries_after, Semaphore, answer_by, position_at, sizes_of, State, World, standing_of, size_of, state_after, Known, Runs, view_of}
 use Rattle.world_semaphore.proofs.of_machine.laws.Entries.{length-fitted}
 use Rattle.world_semaphore.proofs.of_machine.laws.Kept.{after}
 use Rattle.world_semaphore.proofs.table.Seen as seen
@@ -37,7 +37,7 @@ module _ (size : ℕ → ℕ) (a : ℕ) where
 
 -- ---- the places of a poll in vain, of a party that was told
 
-abbrev pub is_change : Deed → Bool
+abbrev pub is_change : Effect → Bool
 is_change (changes c) = true
 is_change _ = false
 
@@ -58,15 +58,15 @@ module _ (k a size : ℕ) where
 
   -- it goes on so, changes nothing of the state, and ends by telling others
   pub record Vain (x : Place) (f : Found) (len marked : ℕ) (own : Bool) : Type 0 where
-    pub unchanged : is_change (deed_of (action_of x) f) ≡ false
+    pub unchanged : is_change (effect_of (action_of x) f) ≡ false
     pub going : (z : Place) → after x f ≡ At z → IsVain z len marked own
     pub ends : is_stepped (answer_by (next_of x f)) ≡ false → (action_of x ≡ Action.Fit a) × (answer_by (next_of x f) ≡ Answer.Pending)
 
   module _ (p : ℕ) (w : Words) (l : List (Entry ℕ)) (sizes : ℕ → ℕ) (few : w.available ≡ a) (short : a < k) where
     abbrev then_list : Place → Found → List (Entry ℕ)
-    then_list x f = entries_after sizes p (deed_of (action_of x) f) l
+    then_list x f = entries_after sizes p (effect_of (action_of x) f) l
 
-    on : (x : Place) (f : Found) (y : Place) → after x f ≡ At y → is_change (deed_of (action_of x) f) ≡ false → is_stepped (answer_by (next_of x f)) ≡ true
+    on : (x : Place) (f : Found) (y : Place) → after x f ≡ At y → is_change (effect_of (action_of x) f) ≡ false → is_stepped (answer_by (next_of x f)) ≡ true
         → IsVain y (length (then_list x f)) (marked_count (then_list x f)) (is_marked_at (is_party p) (then_list x f)) → Vain x f (length (then_list x f)) (marked_count (then_list x f)) (is_marked_at (is_party p) (then_list x f))
     on x f y e same goes h = record { unchanged = same; going = λ z g. went y z _ _ _ h (sym e ∙ g); ends = λ s. absurd (cc (goes, s)) }
 
@@ -121,24 +121,24 @@ module _ (state : State) (k a size : ℕ) (short : a < k) where
     finds : Finds true p (action_of d.from) d.found t.machine.words t.machine.entries
     finds = let P : Bool → Type 0 = λ m. Finds m p (action_of d.from) d.found t.machine.words t.machine.entries in subst P found d.acts.finds
 
-    step : Vain k a size d.from d.found (length (entries_after sizes p (deed_of (action_of d.from) d.found) t.machine.entries)) (marked_count (entries_after sizes p (deed_of (action_of d.from) d.found) t.machine.entries)) (is_marked_at (is_party p) (entries_after sizes p (deed_of (action_of d.from) d.found) t.machine.entries))
+    step : Vain k a size d.from d.found (length (entries_after sizes p (effect_of (action_of d.from) d.found) t.machine.entries)) (marked_count (entries_after sizes p (effect_of (action_of d.from) d.found) t.machine.entries)) (is_marked_at (is_party p) (entries_after sizes p (effect_of (action_of d.from) d.found) t.machine.entries))
     step = vain k a size p t.machine.words t.machine.entries sizes g.few short d.from d.found finds (acting.own_entries t u (record { party = p; what = what }) b w d) g.vain
 
-    state_so : (c : Deed) → is_change c ≡ false → (view_of u).state ≡ state_after p c (view_of t).state → (view_of u).state ≡ (view_of t).state
+    state_so : (c : Effect) → is_change c ≡ false → (view_of u).state ≡ state_after p c (view_of t).state → (view_of u).state ≡ (view_of t).state
     state_so nothing h e = e
     state_so (changes c) h e = absurd (cc h)
     state_so (does f) h e = e
 
-    words_so : (c : Deed) → is_change c ≡ false → (words_after c t.machine.words).available ≡ t.machine.words.available
+    words_so : (c : Effect) → is_change c ≡ false → (words_after c t.machine.words).available ≡ t.machine.words.available
     words_so nothing h = refl
     words_so (changes c) h = absurd (cc h)
     words_so (does f) h = refl
 
     same_state : (view_of u).state ≡ state
-    same_state = state_so (deed_of (action_of d.from) d.found) step.unchanged (acting.state_is t u (record { party = p; what = what }) b w d) ∙ g.same
+    same_state = state_so (effect_of (action_of d.from) d.found) step.unchanged (acting.state_is t u (record { party = p; what = what }) b w d) ∙ g.same
 
     same_words : u.machine.words.available ≡ a
-    same_words = ap (λ (v : Words). v.available) d.acts.words ∙ (words_so (deed_of (action_of d.from) d.found) step.unchanged ∙ g.few)
+    same_words = ap (λ (v : Words). v.available) d.acts.words ∙ (words_so (effect_of (action_of d.from) d.found) step.unchanged ∙ g.few)
 
     hands_on : (z : Place) → after d.from d.found ≡ At z → IsHanding p z u
     hands_on z e =

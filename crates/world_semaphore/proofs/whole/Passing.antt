@@ -1,5 +1,5 @@
 -- A poll or a drop of a pending party leaves some entry notified, if as many permits are available as somebody listed waits for, where one was.
-use Rattle.world_semaphore.proofs.Prelude.{◌≡◌, ◌≢◌, ℕ, ◌<◌, ◌≤◌, ◌⊎◌, inl, inr, true, false, Bool, List, Some, None, refl, arith, ap, sym, ◌∙◌, subst, ℕ_discrete, Entry, marked_count, fitted, entries_of, Answer, Call, Inputs, What, Begin, Rest, Within, is_refusal, outside, inputs_of, is_stepped, moves_of, answers_of, some_eq, none_some, Table, Action, Found, Done, Left, Yes, Place, Take, Retake, Ask, Remove, Load, HandOn, PassOn, RefuseFit, FitAdded, FitGivenBack, Position, Waiting, At, Words, action_of, next_of, place_for, a_look, seat_of, size_at, listed, deed_of, Finds, words_after, entries_after, Semaphore, answer_by, position_at, sizes_of, World, standing_of, IsFreeAndWanted, Known, Runs, view_of}
+use Rattle.world_semaphore.proofs.Prelude.{◌≡◌, ◌≢◌, ℕ, ◌<◌, ◌≤◌, ◌⊎◌, inl, inr, true, false, Bool, List, Some, None, refl, arith, ap, sym, ◌∙◌, subst, ℕ_discrete, Entry, marked_count, fitted, entries_of, Answer, Call, Inputs, What, Begin, Rest, Within, is_refusal, outside, inputs_of, is_stepped, moves_of, answers_of, some_eq, none_some, Table, Action, Found, Done, Left, Yes, Place, Take, Retake, Ask, Remove, Load, HandOn, PassOn, RefuseFit, FitAdded, FitGivenBack, Position, Waiting, At, Words, action_of, next_of, place_for, a_look, seat_of, size_at, listed, effect_of, Finds, words_after, entries_after, Semaphore, answer_by, position_at, sizes_of, World, standing_of, IsFreeAndWanted, Known, Runs, view_of}
 use Rattle.world_semaphore.specs.machine.Seats.{size_of}
 use Rattle.world_semaphore.proofs.of_machine.laws.Entries.{entries_of-fitted, fitted_marks, wanted_so}
 use Rattle.world_semaphore.proofs.of_machine.laws.Kept.{after}
@@ -26,12 +26,12 @@ MarksWanted u = IsFreeAndWanted (view_of u) → 0 < marked_count u.machine.entri
 abbrev pub IsCovered : Place → Table Semaphore → Type 0
 IsCovered y t = Covered (seat_of y).debt (marked_count t.machine.entries) t.machine.words.available
 
-pub fit_done : (memory : Bool) (p c : ℕ) (f : Found) (w : Words) (size : ℕ → ℕ) (l es : List (Entry ℕ)) → Finds memory p (Action.Fit c) f w l → es ≡ entries_after size p (deed_of (Action.Fit c) f) l → es ≡ fitted size c l
+pub fit_done : (memory : Bool) (p c : ℕ) (f : Found) (w : Words) (size : ℕ → ℕ) (l es : List (Entry ℕ)) → Finds memory p (Action.Fit c) f w l → es ≡ entries_after size p (effect_of (Action.Fit c) f) l → es ≡ fitted size c l
 fit_done memory p c Done w size l es e is = is
 fit_done memory p c _ w size l es e is = absurd e
 
 module _ (p : ℕ) (t u : Table Semaphore) (what : What) (a : Answer) (w : Within) (k : Acting t u (record { party = p; what = what }) a w) where
-  covered_so : IsCovered k.from t → CoversBy k.from (marked_count (entries_after (sizes_of t.machine.positions) p (deed_of (action_of k.from) k.found) t.machine.entries)) (words_after (deed_of (action_of k.from) k.found) t.machine.words).available (next_of k.from k.found)
+  covered_so : IsCovered k.from t → CoversBy k.from (marked_count (entries_after (sizes_of t.machine.positions) p (effect_of (action_of k.from) k.found) t.machine.entries)) (words_after (effect_of (action_of k.from) k.found) t.machine.words).available (next_of k.from k.found)
   covered_so = covers (inputs_of what).memory p t.machine.words t.machine.entries (sizes_of t.machine.positions) k.from k.found k.acts.finds (acting.own_entries t u (record { party = p; what = what }) a w k)
 
   on_then : IsCovered k.from t → (z : Place) → after k.from k.found ≡ At z → IsCovered z u
@@ -50,7 +50,7 @@ module _ (p : ℕ) (t u : Table Semaphore) (what : What) (a : Answer) (w : Withi
 
   pub told_then : (c : ℕ) → action_of k.from ≡ Action.Fit c → u.machine.entries ≡ fitted (sizes_of t.machine.positions) c t.machine.entries
   told_then c e =
-      let F : Action → Type 0 = λ b. Finds (inputs_of what).memory p b k.found t.machine.words t.machine.entries × (u.machine.entries ≡ entries_after (sizes_of t.machine.positions) p (deed_of b k.found) t.machine.entries) in
+      let F : Action → Type 0 = λ b. Finds (inputs_of what).memory p b k.found t.machine.words t.machine.entries × (u.machine.entries ≡ entries_after (sizes_of t.machine.positions) p (effect_of b k.found) t.machine.entries) in
       let so : F (Action.Fit c) = subst F e (k.acts.finds, k.acts.entries) in
       fit_done (inputs_of what).memory p c k.found t.machine.words (sizes_of t.machine.positions) t.machine.entries u.machine.entries so.0 so.1
 

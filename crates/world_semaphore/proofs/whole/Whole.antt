@@ -1,5 +1,5 @@
 -- A call that is carried out alone ends within its number of steps.
-use Rattle.world_semaphore.proofs.Prelude.{◌≡◌, ℕ, ◌+◌, ◌<◌, ◌≤◌, if◌then◌else◌, Bool, true, false, List, Some, None, is_some, refl, arith, ap, sym, ◌∙◌, subst, Entry, is_marked_at, is_party, entries_of, Answer, Call, Inputs, Move, What, Begin, Go, Stage, Within, inputs_of, going_on, some_eq, left_by, beginning, stage_at, call_at, polls_again, Table, joined_unmarked, Found, Done, Left as Left_there, Short, PastLimit, NoMemory, Yes, No, Place, Take, Retake, Join, Ask, Remove, Load, HandOn, PassOn, RefuseFit, Try, Lower, GiveBack, Raise, GiveAdded, FitAdded, CancelRemove, CancelLoad, FitGivenBack, Abandon, Position, Out, Unlisted, Waiting, Holding, At, Words, Next, action_of, next_of, position_after, seat_of, deed_of, entries_after, Finds, Semaphore, IsSemaphore, answer_by, position_at, sizes_of, verdict, knows, goes_with, IsSemaphoreTable, TableSteps}
+use Rattle.world_semaphore.proofs.Prelude.{◌≡◌, ℕ, ◌+◌, ◌<◌, ◌≤◌, if◌then◌else◌, Bool, true, false, List, Some, None, is_some, refl, arith, ap, sym, ◌∙◌, subst, Entry, is_marked_at, is_party, entries_of, Answer, Call, Inputs, Move, What, Begin, Go, Stage, Within, inputs_of, going_on, some_eq, left_by, beginning, stage_at, call_at, polls_again, Table, joined_unmarked, Found, Done, Left as Left_there, Short, PastLimit, NoMemory, Yes, No, Place, Take, Retake, Join, Ask, Remove, Load, HandOn, PassOn, RefuseFit, Try, Lower, GiveBack, Raise, GiveAdded, FitAdded, CancelRemove, CancelLoad, FitGivenBack, Abandon, Position, Out, Unlisted, Waiting, Holding, At, Words, Next, action_of, next_of, position_after, seat_of, effect_of, entries_after, Finds, Semaphore, IsSemaphore, answer_by, position_at, sizes_of, verdict, knows, goes_with, IsSemaphoreTable, TableSteps}
 use Rattle.world_semaphore.specs.machine.Ranks.{left, left_at, is_own_marked, steps_left}
 use Rattle.world_semaphore.proofs.of_machine.stages.Taking.{taken}
 use Rattle.world_semaphore.proofs.of_machine.stages.Turns.{Turn, turn}
@@ -20,7 +20,7 @@ module _ (memory : Bool) (size : ℕ → ℕ) (p : ℕ) (w : Words) (l : List (E
   own = is_marked_at (is_party p) l
 
   abbrev told_then : Place → Found → Bool
-  told_then x f = is_marked_at (is_party p) (entries_after size p (deed_of (action_of x) f) l)
+  told_then x f = is_marked_at (is_party p) (entries_after size p (effect_of (action_of x) f) l)
 
   pub fewer : (x : Place) (f : Found) → Finds memory p (action_of x) f w l → entries_of p l ≡ (seat_of x).listed → Left x f (told_then x f) < left x own
   fewer (Take k true told) (Left_there a) e n = removes own where
@@ -175,8 +175,8 @@ module _ (t u : Table Semaphore) (m : Move) (a : Answer) where
   less w k =
       let own : entries_of p t.machine.entries ≡ (seat_of k.from).listed = acting.own_entries t u m a w k in
       let here = fewer (inputs_of m.what).memory (sizes_of t.machine.positions) p t.machine.words t.machine.entries k.from k.found k.acts.finds own in
-      let marks : is_own_marked u.machine p ≡ is_marked_at (is_party p) (entries_after (sizes_of t.machine.positions) p (deed_of (action_of k.from) k.found) t.machine.entries) = ap (is_marked_at (is_party p)) k.acts.entries in
-      let same : left_by a (steps_left u.machine p) ≡ Left k.from k.found (is_marked_at (is_party p) (entries_after (sizes_of t.machine.positions) p (deed_of (action_of k.from) k.found) t.machine.entries)) =
+      let marks : is_own_marked u.machine p ≡ is_marked_at (is_party p) (entries_after (sizes_of t.machine.positions) p (effect_of (action_of k.from) k.found) t.machine.entries) = ap (is_marked_at (is_party p)) k.acts.entries in
+      let same : left_by a (steps_left u.machine p) ≡ Left k.from k.found (is_marked_at (is_party p) (entries_after (sizes_of t.machine.positions) p (effect_of (action_of k.from) k.found) t.machine.entries)) =
       ap (λ b. left_by b (steps_left u.machine p)) k.answer ∙ (ap (λ x. left_by (answer_by (next_of k.from k.found)) (left_at x (is_own_marked u.machine p))) (acting.lands t u m a w k) ∙ ap (λ b. Left k.from k.found b) marks) in
       rw same here
 

@@ -12,7 +12,7 @@ use Rattle.sync_program.specs.declared.permits.SemaphoreCall.{SemaphoreCall}
 use Rattle.sync_program.specs.declared.permits.SemaphoreCall.TheVariants as call
 use Rattle.world_base.specs.queue.Parties.{is_party, entries_of}
 use Rattle.world_semaphore.specs.machine.Course.{Course, out, unlisted, waiting, holding, adding, decided, is_polling, is_adding, is_dropping, size, share, debt, decision}
-use Rattle.world_semaphore.specs.machine.Deeds.{Deed, changes, does, takes, gives_back, forgets, raises, gives, joins, fits, share_then, words_after, entries_after, gives_something_back, gives_up}
+use Rattle.world_semaphore.specs.machine.Effects.{Effect, changes, does, takes, gives_back, forgets, raises, gives, joins, fits, share_then, words_after, entries_after, gives_something_back, gives_up}
 use Rattle.world_semaphore.specs.machine.Owing.{Owes}
 use Rattle.world_semaphore.specs.machine.Permits.{Permits, course_at, size_of}
 use Rattle.world_semaphore.specs.machine.Seats.{nothing_had, guard_of, under_way_of, a_look, a_fit}
@@ -78,7 +78,7 @@ pub record GoesOn (at : Course) (s : Step) (to : Course) : Type 0 where
 -- ---- What it changes
 
 -- Where a change may be made by a call for k permits, decided so. Permits are taken as many as it is for, where as many are available; what a guard has is given back or forgotten once that is decided; an add raises the limit below its greatest value, and gives what it raised it by; and only a party whose call is decided tells others, of so many permits as it owes to tell of.
-abbrev pub IsAllowed : ℕ → ℕ → Option End → Deed → Permits → Type 0
+abbrev pub IsAllowed : ℕ → ℕ → Option End → Effect → Permits → Type 0
 IsAllowed p k d (changes (takes n)) m = (n ≡ k) × (n ≤ m.words.available) × (share (course_at m.courses p) ≡ nothing_had)
 IsAllowed p k d (changes (gives_back n)) m = (share (course_at m.courses p) ≡ guard_of n) × (d ≡ Some GivenBack)
 IsAllowed p k d (changes (forgets n)) m = (share (course_at m.courses p) ≡ guard_of n) × (d ≡ Some GivenBack)
@@ -99,16 +99,16 @@ IsReason memory p k old new _ = Unit {0}
 
 -- A step of a call for k permits changes one thing of the words and of what its party has where it may, or does one list function, never both, and moves no other party. A join has found memory. A call that was decided only gives back, and keeps its decision; one that wasn't gives nothing up; one that is decided now has its reason; and what its party owes is told of in turn.
 pub record IsLegal (memory : Bool) (p k : ℕ) (decided : Option End) (s : Step) (old new : Permits) : Type 0 where
-  pub deed : Deed
-  pub allowed : IsAllowed p k decided deed old
-  pub words : new.words ≡ words_after deed old.words
-  pub share : share (course_at new.courses p) ≡ share_then deed (share (course_at old.courses p))
-  pub entries : new.entries ≡ entries_after (size_of old) p deed old.entries
-  pub found_memory : deed ≡ does joins → memory ≡ true
+  pub effect : Effect
+  pub allowed : IsAllowed p k decided effect old
+  pub words : new.words ≡ words_after effect old.words
+  pub share : share (course_at new.courses p) ≡ share_then effect (share (course_at old.courses p))
+  pub entries : new.entries ≡ entries_after (size_of old) p effect old.entries
+  pub found_memory : effect ≡ does joins → memory ≡ true
   pub parties : length new.courses ≡ length old.courses
   pub others : (q : ℕ) → q ≢ p → course_at new.courses q ≡ course_at old.courses q
-  pub kept : (e : End) → decided ≡ Some e → (decided_then s (course_at new.courses p) ≡ Some e) × (gives_something_back deed ≡ true)
-  pub holds_on : decided ≡ None → gives_up deed ≡ false
+  pub kept : (e : End) → decided ≡ Some e → (decided_then s (course_at new.courses p) ≡ Some e) × (gives_something_back effect ≡ true)
+  pub holds_on : decided ≡ None → gives_up effect ≡ false
   pub reason : (e : End) → decided ≡ None → decided_then s (course_at new.courses p) ≡ Some e → IsReason memory p k old new e
   pub debts : Owes p (debt (course_at old.courses p)) (debt (course_at new.courses p)) old.entries new.entries new.words.available (size_of old)
 

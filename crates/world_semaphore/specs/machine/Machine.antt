@@ -33,7 +33,7 @@ use Rattle.world_semaphore.specs.declared.machine.words.Words.{Words}
 use Rattle.world_semaphore.specs.machine.Program.{place_for, action_of, next_of, position_after}
 use Rattle.world_semaphore.specs.machine.Seats.{seat_of, seated, permits_at, under_way_at, listed, waits_for, waits, owes, size_of, size_at, is_short_at, is_short, is_resting}
 use Rattle.world_base.specs.queue.Debts.{IsOwed}
-use Rattle.world_semaphore.specs.machine.Deeds.{Finds, deed_of, words, words_after, entries_after}
+use Rattle.world_semaphore.specs.machine.Effects.{Finds, effect_of, words, words_after, entries_after}
 use Rattle.world_semaphore.specs.machine.Tally.{IsSound, tally_of, counts_of}
 
 -- what contracts see of a semaphore
@@ -181,8 +181,8 @@ answer_by (next.End e x) = answer_of Plain e
 -- A party does the action of this place, which finds this, and goes where its program says.
 pub record Acts (memory : Bool) (p : ℕ) (from : Place) (found : Found) (s t : Semaphore) : Type 0 where
   pub finds : Finds memory p (action_of from) found s.words s.entries
-  pub words : t.words ≡ words_after (deed_of (action_of from) found) s.words
-  pub entries : t.entries ≡ entries_after (sizes_of s.positions) p (deed_of (action_of from) found) s.entries
+  pub words : t.words ≡ words_after (effect_of (action_of from) found) s.words
+  pub entries : t.entries ≡ entries_after (sizes_of s.positions) p (effect_of (action_of from) found) s.entries
   pub positions : t.positions ≡ slice_set s.positions p (position_after (next_of from found))
 
 -- So it does, and this comes next.

@@ -9,7 +9,7 @@ use Rattle.world_base.specs.queue.Parties.{is_party, entries_of}
 use Rattle.world_base.specs.table.Resting.{AreAtRest}
 use Rattle.world_semaphore.specs.declared.machine.words.Words.{Words}
 use Rattle.world_semaphore.specs.machine.Course.{Course, out, is_resting, is_waiting, size, share, listed, debt, left}
-use Rattle.world_semaphore.specs.machine.Deeds.{words}
+use Rattle.world_semaphore.specs.machine.Effects.{words}
 use Rattle.world_semaphore.specs.machine.Seats.{permits_of, pays}
 
 -- What contracts see of a semaphore.

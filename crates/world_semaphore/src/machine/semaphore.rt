@@ -5,7 +5,7 @@ ghost use Rattle.world_base.specs.declared.standing.Stage.TheVariants.{Outside};
 ghost use Rattle.world_base.specs.declared.standing.Rest.TheVariants.{Idle};
 ghost use Rattle.sync_program.specs.declared.permits.Position.TheVariants.{Out};
 ghost use Rattle.world_semaphore.specs.machine.Program.{place_for as place_for_lem, position_after};
-ghost use Rattle.world_semaphore.specs.machine.Deeds.{CanDo, told_by};
+ghost use Rattle.world_semaphore.specs.machine.Effects.{CanDo, told_by};
 ghost use Rattle.world_semaphore.specs.machine.Carried.{Carried};
 ghost use Rattle.world_semaphore.specs.machine.Machine.{new_semaphore, position_at, IsSemaphore, StandsAt, ActsSo, answer_by};
 

@@ -1,7 +1,7 @@
 //! The words of a semaphore: how many permits are available, and how many there are.
 
 ghost use Rattle.std.specs.Prelude.{◌≡◌, ◌+◌, ◌-◌, ◌<◌, ◌≤◌, IfOk, IfErr};
-ghost use Rattle.world_semaphore.specs.machine.Deeds.{FindsPermits, FindsSo, FindsRoom, words, taken_after, raised_after};
+ghost use Rattle.world_semaphore.specs.machine.Effects.{FindsPermits, FindsSo, FindsRoom, words, taken_after, raised_after};
 
 use lock_program::Refusal;
 use sync_program::permits::Found;

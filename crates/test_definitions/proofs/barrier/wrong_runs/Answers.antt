@@ -18,7 +18,7 @@ use Rattle.world_base.specs.declared.standing.Rest.TheVariants.{Pending}
 use Rattle.lock_program.specs.Refusals.{number_of}
 use Rattle.world_base.specs.Standings.{Standing, outside, inside, refused, is_possible}
 use Rattle.world_base.specs.Frame.{is_drop}
-use Rattle.world_base.specs.Steps.{Deed, nothing, changes, does, leaves, list_after}
+use Rattle.world_base.specs.Steps.{Effect, nothing, changes, does, leaves, list_after}
 use Rattle.world_barrier.specs.AtOnce.{is_dropping}
 use Rattle.world_barrier.specs.machine.Waits.{Wait, no_wait, uncounted, counted}
 use Rattle.world_barrier.specs.Bound.{ComesTo, IsNotified, IsToldOfLock}
@@ -40,7 +40,7 @@ use Rattle.std.proofs.lemmas.Bool.{true≢false}
 -- ---- Arrivals
 
 -- another number of arrivals comes by one that is counted, and may be
-arrives_so : (w : World) (m : Move) (d : Deed Change ListName) (k : ℕ) → IsAllowed w m d → k ≡ arrivals_after d w.arrivals → k ≢ w.arrivals → MayArrive w m.party
+arrives_so : (w : World) (m : Move) (d : Effect Change ListName) (k : ℕ) → IsAllowed w m d → k ≡ arrivals_after d w.arrivals → k ≢ w.arrivals → MayArrive w m.party
 arrives_so w m nothing k ok e other = absurd (other e)
 arrives_so w m (does list f) k ok e other = absurd (other e)
 arrives_so w m (changes takes) k ok e other = absurd (other e)
@@ -49,7 +49,7 @@ arrives_so w m (changes starves) k ok e other = absurd (other e)
 arrives_so w m (changes recovers) k ok e other = absurd (other e)
 arrives_so w m (changes arrives) k ok e other = ok
 
-never_fewer : (d : Deed Change ListName) (k : ℕ) → k ≤ arrivals_after d k
+never_fewer : (d : Effect Change ListName) (k : ℕ) → k ≤ arrivals_after d k
 never_fewer nothing k = omega arith
 never_fewer (does list f) k = omega arith
 never_fewer (changes takes) k = omega arith
@@ -89,13 +89,13 @@ wait_twice a x e f = let never : counted a ≡ uncounted = sym e ∙ f in cc nev
 pub returns-clause-counted_twice : goal.returns-clause-counted_twice
 returns-clause-counted_twice c = λ r.
     let one = r.legal.one_change in
-    let may = arrives_so r.step.old r.step.move one.deed r.step.new.arrivals one.allowed one.arrivals r.more in
+    let may = arrives_so r.step.old r.step.move one.effect r.step.new.arrivals one.allowed one.arrivals r.more in
     wait_twice r.arrival (wait_of r.step.old r.step.move.party) r.counted may.uncounted
 
 pub returns-clause-taken_back : goal.returns-clause-taken_back
 returns-clause-taken_back c = λ r.
     let one = r.legal.one_change in
-    let least = never_fewer one.deed r.step.old.arrivals in
+    let least = never_fewer one.effect r.step.old.arrivals in
     absurd (omega (arith, least, one.arrivals, r.fewer))
 
 counted_as : (a b : ℕ) (x : Wait) → x ≡ counted a → x ≡ counted b → b ≡ a
@@ -110,13 +110,13 @@ returns-clause-follows_too_soon c = λ r.
 pub returns-clause-counted_unlisted : goal.returns-clause-counted_unlisted
 returns-clause-counted_unlisted c = λ r.
     let one = r.legal.one_change in
-    let may = arrives_so r.step.old r.step.move one.deed r.step.new.arrivals one.allowed one.arrivals (one_more r.step.new.arrivals r.step.old.arrivals r.counted) in
+    let may = arrives_so r.step.old r.step.move one.effect r.step.new.arrivals one.allowed one.arrivals (one_more r.step.new.arrivals r.step.old.arrivals r.counted) in
     elim may.joined as (λ _. ⊥) [ inl leads ↦ r.waits leads | inr listed ↦ absurd (omega (arith, listed, r.unlisted)) ]
 
 pub returns-clause-counted_without_lock : goal.returns-clause-counted_without_lock
 returns-clause-counted_without_lock c = λ r.
     let one = r.legal.one_change in
-    let may = arrives_so r.step.old r.step.move one.deed r.step.new.arrivals one.allowed one.arrivals (one_more r.step.new.arrivals r.step.old.arrivals r.counted) in
+    let may = arrives_so r.step.old r.step.move one.effect r.step.new.arrivals one.allowed one.arrivals (one_more r.step.new.arrivals r.step.old.arrivals r.counted) in
     r.without may.holds
 
 pub returns-clause-waits_uncounted : goal.returns-clause-waits_uncounted
@@ -228,7 +228,7 @@ returns-clause-looks_in_vain c = λ r. r.not_taken ((r.legal.first_poll r.first)
 
 pub returns-clause-wakes_all : goal.returns-clause-wakes_all
 returns-clause-wakes_all c = λ r.
-    let P : Deed Change ListName → Type 0 = IsAllowed r.step.old r.step.move in
+    let P : Effect Change ListName → Type 0 = IsAllowed r.step.old r.step.move in
     let allowed : P (does Lock (notifies r.many)) = subst P r.notifies r.legal.one_change.allowed in
     r.more allowed.one
 

@@ -18,14 +18,14 @@ use Rattle.world_base.specs.declared.standing.Rest.TheVariants.{Pending}
 use Rattle.lock_program.specs.Refusals.{number_of}
 use Rattle.world_base.specs.Frame.{is_drop}
 use Rattle.world_base.specs.Standings.{Standing, outside, inside, is_decided, is_possible, inputs_of, refused}
-use Rattle.world_base.specs.Steps.{Deed, nothing, changes, does, joins, notifies, asks, list_after}
+use Rattle.world_base.specs.Steps.{Effect, nothing, changes, does, joins, notifies, asks, list_after}
 use Rattle.world_base.proofs.Equations.{some_eq, none_some}
 use Rattle.sync_program.specs.declared.once_cell.ListName.{ListName}
 use Rattle.sync_program.specs.declared.once_cell.ListName.TheVariants.{Active, Passive}
 use Rattle.world_once_cell.specs.declared.program.words.Content.{Content}
 use Rattle.world_once_cell.specs.declared.program.words.Content.TheVariants.{Empty, BeingMade, Full}
 use Rattle.world_once_cell.specs.machine.Seats.{Task, no_task, initializes, sets, waits_only, fills_with, failed}
-use Rattle.world_once_cell.specs.program.Deeds.{Change, begins, fills, empties, content_after}
+use Rattle.world_once_cell.specs.program.Effects.{Change, begins, fills, empties, content_after}
 use Rattle.world_once_cell.specs.machine.Machine.{is_maker}
 use Rattle.world_once_cell.proofs.of_machine.laws.Contents.{maker_is, is_its_maker}
 use Rattle.world_once_cell.specs.State.{World, list_in, is_empty, standing_of, task_of}
@@ -52,7 +52,7 @@ same_maker : (n k : ℕ) (c : Content) → c ≡ BeingMade n → c ≡ BeingMade
 same_maker n k c e f = let same : BeingMade n ≡ BeingMade k = sym e ∙ f in cc same
 
 -- making ends by its maker alone, dropped or failed
-ends_so : (w : World) (m : Move) (d : Deed Change ListName) (c : Content) (n : ℕ) → IsAllowed w m d → c ≡ content_after m.party d w.cell → w.cell ≡ BeingMade n → c ≡ Empty → (is_drop m.what ≡ true) ⊎ (task_of w n ≡ failed)
+ends_so : (w : World) (m : Move) (d : Effect Change ListName) (c : Content) (n : ℕ) → IsAllowed w m d → c ≡ content_after m.party d w.cell → w.cell ≡ BeingMade n → c ≡ Empty → (is_drop m.what ≡ true) ⊎ (task_of w n ≡ failed)
 ends_so w m nothing c n ok e made empty = absurd (made_empty n w.cell made (sym e ∙ empty))
 ends_so w m (does list f) c n ok e made empty = absurd (made_empty n w.cell made (sym e ∙ empty))
 ends_so w m (changes begins) c n ok e made empty = absurd (made_empty n w.cell made ok.0)
@@ -62,12 +62,12 @@ ends_so w m (changes empties) c n ok e made empty = elim ok.1 as (λ _. (is_drop
 pub returns-clause-ends_by_nothing : goal.returns-clause-ends_by_nothing
 returns-clause-ends_by_nothing c = λ r.
     let one = r.legal.one_change in
-    elim (ends_so r.step.old r.step.move one.deed r.step.new.cell r.maker one.allowed one.cell r.making r.ended) as (λ _. ⊥) [ inl d ↦ true≢false (sym d ∙ r.not_dropped) | inr f ↦ r.not_failed f ]
+    elim (ends_so r.step.old r.step.move one.effect r.step.new.cell r.maker one.allowed one.cell r.making r.ended) as (λ _. ⊥) [ inl d ↦ true≢false (sym d ∙ r.not_dropped) | inr f ↦ r.not_failed f ]
 
 made_full : (n v : ℕ) (c : Content) → c ≡ BeingMade n → c ≡ Full v → ⊥
 made_full n v c e f = let never : BeingMade n ≡ Full v = sym e ∙ f in cc never
 
-fills_so : (w : World) (m : Move) (d : Deed Change ListName) (c : Content) (u v : ℕ) → IsAllowed w m d → c ≡ content_after m.party d w.cell → w.cell ≡ BeingMade m.party → task_of w m.party ≡ fills_with v → c ≡ Full u → u ≡ v
+fills_so : (w : World) (m : Move) (d : Effect Change ListName) (c : Content) (u v : ℕ) → IsAllowed w m d → c ≡ content_after m.party d w.cell → w.cell ≡ BeingMade m.party → task_of w m.party ≡ fills_with v → c ≡ Full u → u ≡ v
 fills_so w m nothing c u v ok e made gave full = absurd (made_full m.party u w.cell made (sym e ∙ full))
 fills_so w m (does list f) c u v ok e made gave full = absurd (made_full m.party u w.cell made (sym e ∙ full))
 fills_so w m (changes begins) c u v ok e made gave full = let never : BeingMade m.party ≡ Full u = sym e ∙ full in absurd (cc never)
@@ -80,7 +80,7 @@ fills_so w m (changes (fills z)) c u v ok e made gave full =
 pub returns-clause-fills_another : goal.returns-clause-fills_another
 returns-clause-fills_another c = λ r.
     let one = r.legal.one_change in
-    r.other (fills_so r.step.old r.step.move one.deed r.step.new.cell r.entered r.given one.allowed one.cell (maker_is r.step.old.cell r.step.move.party r.making) r.gave r.fills)
+    r.other (fills_so r.step.old r.step.move one.effect r.step.new.cell r.entered r.given one.allowed one.cell (maker_is r.step.old.cell r.step.move.party r.making) r.gave r.fills)
 
 pub returns-clause-makes_another : goal.returns-clause-makes_another
 returns-clause-makes_another c = λ r.
@@ -190,15 +190,15 @@ tells_decided w m list (inside u (Some (answer.Refused n))) h = refl
 tells_decided w m list _ h = absurd h
 
 -- whom this party may tell that did so
-told_there : (w : World) (m : Move) (d : Deed Change ListName) (list : ListName) (n : ℕ) (s : Standing) → IsAllowed w m d → d ≡ does list (notifies n) → standing_of w m.party ≡ s → MayTell w m list s
+told_there : (w : World) (m : Move) (d : Effect Change ListName) (list : ListName) (n : ℕ) (s : Standing) → IsAllowed w m d → d ≡ does list (notifies n) → standing_of w m.party ≡ s → MayTell w m list s
 told_there w m d list n s ok e stands =
-    let P : Deed Change ListName → Type 0 = IsAllowed w m in
+    let P : Effect Change ListName → Type 0 = IsAllowed w m in
     let Q : Standing → Type 0 = MayTell w m list in
     let here : P (does list (notifies n)) = subst P e ok in subst Q stands here.1
 
 pub returns-clause-marks_undecided : goal.returns-clause-marks_undecided
 returns-clause-marks_undecided c = λ r.
-    let may = told_there r.step.old r.step.move r.legal.one_change.deed r.list r.many (standing_of r.step.old r.step.move.party) r.legal.one_change.allowed r.marks refl in
+    let may = told_there r.step.old r.step.move r.legal.one_change.effect r.list r.many (standing_of r.step.old r.step.move.party) r.legal.one_change.allowed r.marks refl in
     true≢false (sym (tells_decided r.step.old r.step.move r.list (standing_of r.step.old r.step.move.party) may) ∙ r.undecided)
 
 pub returns-clause-grants_nothing : goal.returns-clause-grants_nothing
@@ -249,15 +249,15 @@ pub returns-clause-left_to_nobody : goal.returns-clause-left_to_nobody
 returns-clause-left_to_nobody c = λ r. elim (r.sound.told_or_due r.empty r.party r.stands r.listed) as (λ _. ⊥) [ inl some ↦ absurd (omega (arith, some, r.none_told)) | inr q ↦ true≢false (sym q.1.due ∙ r.none_due q.0) ]
 
 pub returns-clause-tells_anyone : goal.returns-clause-tells_anyone
-returns-clause-tells_anyone c = λ r. told_there r.step.old r.step.move r.legal.one_change.deed r.list r.many (inside r.within (Some (answer.Ready (got.Value r.value)))) r.legal.one_change.allowed r.tells r.ready
+returns-clause-tells_anyone c = λ r. told_there r.step.old r.step.move r.legal.one_change.effect r.list r.many (inside r.within (Some (answer.Ready (got.Value r.value)))) r.legal.one_change.allowed r.tells r.ready
 
 not_active : Passive ≡ Active → ⊥
 not_active e = cc e
 
 pub returns-clause-tells_passive : goal.returns-clause-tells_passive
 returns-clause-tells_passive c = λ r. elim r.decided as (λ _. ⊥) [
-  | inl e ↦ not_active (told_there r.step.old r.step.move r.legal.one_change.deed Passive r.many (inside r.within (Some answer.GivenBack)) r.legal.one_change.allowed r.tells e)
-  | inr e ↦ not_active (told_there r.step.old r.step.move r.legal.one_change.deed Passive r.many (inside r.within (Some (answer.Ready got.Failed))) r.legal.one_change.allowed r.tells e)
+  | inl e ↦ not_active (told_there r.step.old r.step.move r.legal.one_change.effect Passive r.many (inside r.within (Some answer.GivenBack)) r.legal.one_change.allowed r.tells e)
+  | inr e ↦ not_active (told_there r.step.old r.step.move r.legal.one_change.effect Passive r.many (inside r.within (Some (answer.Ready got.Failed))) r.legal.one_change.allowed r.tells e)
 ]
 
 pub returns-clause-loses_what_was_made : goal.returns-clause-loses_what_was_made
@@ -288,7 +288,7 @@ returns-clause-makes_after_failure c = λ r. made_empty r.step.move.party r.step
 
 pub returns-clause-maker_joins : goal.returns-clause-maker_joins
 returns-clause-maker_joins c = λ r.
-    let P : Deed Change ListName → Type 0 = IsAllowed r.step.old r.step.move in
+    let P : Effect Change ListName → Type 0 = IsAllowed r.step.old r.step.move in
     let ok : P (does r.list joins) = subst P r.joined r.legal.one_change.allowed in
     true≢false (sym r.making ∙ ok.1)
 

@@ -15,7 +15,7 @@ use Rattle.world_base.specs.Frame.{is_drop}
 use Rattle.lock_program.specs.Refusals.{number_of}
 use Rattle.world_base.specs.Standings.{Standing, inside, inputs_of, is_decided, is_possible}
 use Rattle.world_mutex.specs.Whole.{steps_left_of}
-use Rattle.world_base.specs.Steps.{Deed, nothing, changes, does}
+use Rattle.world_base.specs.Steps.{Effect, nothing, changes, does}
 use Rattle.world_base.proofs.Equations.{some_none, none_some, outside_inside}
 use Rattle.world_base.proofs.Lists.{notified_marked}
 use Rattle.world_mutex.specs.Legal.{Change, ListName, takes, releases, starves, recovers, puts, state_after, gives_up, notifies_one, is_try, is_first_poll, HasItsOwn, IsCause}
@@ -59,7 +59,7 @@ returns-clause-refused_having_taken c = λ r.
     let why = r.legal.refused_for_cause.cause (number_of refusal.Memory) r.refused in
     r.took (ap (λ (s : State). s.holder) (kept_state r.step.move r.step.old r.step.new why.0 why.1 why.2))
 
-let_go : (p : ℕ) (d : Deed Change ListName) (s : State) → s.holder ≡ Some p → (state_after p d s).holder ≡ None → gives_up d ≡ true
+let_go : (p : ℕ) (d : Effect Change ListName) (s : State) → s.holder ≡ Some p → (state_after p d s).holder ≡ None → gives_up d ≡ true
 let_go p (changes releases) s held n = refl
 let_go p (changes takes) s held n = absurd (some_none n)
 let_go p (changes starves) s held n = absurd (some_none (sym held ∙ n))
@@ -74,7 +74,7 @@ undecided_going s what u i e g h = let no : is_decided (inside u None) || is_dro
 pub returns-clause-lets_go_undecided : goal.returns-clause-lets_go_undecided
 returns-clause-lets_go_undecided c = λ r.
     let one = r.legal.one_change in
-    let up = let_go r.step.move.party one.deed r.step.old.state r.held (sym (ap (λ (s : State). s.holder) one.state) ∙ r.let_go) in
+    let up = let_go r.step.move.party one.effect r.step.old.state r.held (sym (ap (λ (s : State). s.holder) one.state) ∙ r.let_go) in
     undecided_going (standing_of r.step.old r.step.move.party) r.step.move.what r.within r.inputs r.undecided r.goes (one.giving_up up)
 
 own_at : (w : World) (p : ℕ) (s : Standing) → standing_of w p ≡ s → HasItsOwn w p (standing_of w p) → HasItsOwn w p s

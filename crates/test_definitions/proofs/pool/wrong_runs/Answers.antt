@@ -10,7 +10,7 @@ use Rattle.world_base.specs.declared.standing.Within.{Within}
 use Rattle.world_base.specs.Standings.{Standing}
 use Rattle.world_pool.specs.Bound.{TakesLock}
 use Rattle.world_pool.specs.Laws.{IsSound}
-use Rattle.world_pool.specs.Legal.{Deed, Does, MayPop, StandsAfter, nothing, in_semaphore, in_lock, pops, pushes, loses}
+use Rattle.world_pool.specs.Legal.{Effect, Does, MayPop, StandsAfter, nothing, in_semaphore, in_lock, pops, pushes, loses}
 use Rattle.world_pool.specs.State.{World, limit}
 use Rattle.world_pool.specs.machine.Machine.{how_many_leased}
 use Rattle.world_pool.proofs.laws.Rights.{one_leases, leased_once}
@@ -29,7 +29,7 @@ pub returns-clause-drop_returns_permit : goal.returns-clause-drop_returns_permit
 returns-clause-drop_returns_permit c = λ r. absurd (omega (arith, (r.at_once.drops r.drops).1.forgotten, r.returns))
 
 -- an item leaves the list only where its taker may
-shrinks : (d : Deed) (w : World) (m : Move) (v : World) → Does d w m v → length v.items < length w.items → MayPop w m.party
+shrinks : (d : Effect) (w : World) (m : Move) (v : World) → Does d w m v → length v.items < length w.items → MayPop w m.party
 shrinks pops w m v h less = h.2.may
 shrinks nothing w m v h less = absurd (omega (arith, ap length h.2.0))
 shrinks in_semaphore w m v h less = absurd (omega (arith, ap length h.2.0))
@@ -38,13 +38,13 @@ shrinks pushes w m v h less = absurd (omega (arith, ap length h.2.last, length-a
 shrinks loses w m v h less = absurd (omega (arith, ap length h.1.items))
 
 pub returns-clause-pops_without_lock : goal.returns-clause-pops_without_lock
-returns-clause-pops_without_lock c = λ r. r.without (shrinks r.legal.one_change.deed r.step.old r.step.move r.step.new r.legal.one_change.does r.pops).lock
+returns-clause-pops_without_lock c = λ r. r.without (shrinks r.legal.one_change.effect r.step.old r.step.move r.step.new r.legal.one_change.does r.pops).lock
 
 pub returns-clause-pops_without_permit : goal.returns-clause-pops_without_permit
-returns-clause-pops_without_permit c = λ r. r.without (shrinks r.legal.one_change.deed r.step.old r.step.move r.step.new r.legal.one_change.does r.pops).permit
+returns-clause-pops_without_permit c = λ r. r.without (shrinks r.legal.one_change.effect r.step.old r.step.move r.step.new r.legal.one_change.does r.pops).permit
 
 -- no step raises the limit
-never_more : (d : Deed) (w : World) (m : Move) (v : World) → Does d w m v → IsSound w → IsSound v → limit v ≤ limit w
+never_more : (d : Effect) (w : World) (m : Move) (v : World) → Does d w m v → IsSound w → IsSound v → limit v ≤ limit w
 never_more nothing w m v h s t = omega (arith, ap (λ x. x.words.limit) h.0)
 never_more in_lock w m v h s t = omega (arith, ap (λ x. x.words.limit) h.0)
 never_more pops w m v h s t = omega (arith, ap (λ x. x.words.limit) h.0)
@@ -54,7 +54,7 @@ never_more in_semaphore w m v h s t = omega (arith, ap length h.2.0, ap how_many
 
 pub returns-clause-lost_comes_back : goal.returns-clause-lost_comes_back
 returns-clause-lost_comes_back c = λ r.
-    let less = never_more r.legal.one_change.deed r.step.old r.step.move r.step.new r.legal.one_change.does r.sound r.sound_then in
+    let less = never_more r.legal.one_change.effect r.step.old r.step.move r.step.new r.legal.one_change.does r.sound r.sound_then in
     absurd (omega (arith, less, r.legal.one_change.made, r.fewer))
 
 pub returns-clause-sleeps_beside_an_item : goal.returns-clause-sleeps_beside_an_item

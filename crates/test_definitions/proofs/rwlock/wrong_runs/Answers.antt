@@ -18,7 +18,7 @@ use Rattle.lock_program.specs.Refusals.{number_of}
 use Rattle.world_base.specs.Rights.{Right, read, upgradable, write}
 use Rattle.world_base.specs.Rosters.{is_on}
 use Rattle.world_base.specs.Standings.{Standing, outside, inside, is_decided, is_possible, refused}
-use Rattle.world_base.specs.Steps.{Deed, nothing, changes, does}
+use Rattle.world_base.specs.Steps.{Effect, nothing, changes, does}
 use Rattle.world_base.proofs.Equations.{none_some, outside_inside}
 use Rattle.world_rwlock.specs.Changes.{Change, takes_turn, leaves_turn, starves, recovers, begins_to_read, stops_reading, becomes_upgradable, stops_upgradable, begins_to_wait, begins_to_write, upgrades, upgrades_at_once, unmarks, downgrades, downgrades_to_upgradable, puts, turn_after, readers_after, IsAllowed, gives_up}
 use Rattle.world_rwlock.specs.Bound.{IsToldOfTurn}
@@ -54,13 +54,13 @@ returns-clause-pends_too_early c = λ r. r.legal.waits.not_before r.within r.dec
 pub returns-clause-refused_at_first : goal.returns-clause-refused_at_first
 returns-clause-refused_at_first c = λ r. let was = r.legal.refused_for_cause.memory r.refused in outside_inside (sym r.begins ∙ was.1)
 
-turn_kept : (p : ℕ) (d : Deed Change ListName) (t : Turn) → d ≡ nothing → turn_after p d t ≡ t
+turn_kept : (p : ℕ) (d : Effect Change ListName) (t : Turn) → d ≡ nothing → turn_after p d t ≡ t
 turn_kept p d t e = rw e refl
 
 pub returns-clause-refused_having_moved : goal.returns-clause-refused_having_moved
 returns-clause-refused_having_moved c = λ r.
     let one = r.legal.one_change in
-    r.moved (ap (λ (s : State). s.turn) one.state ∙ turn_kept r.step.move.party one.deed r.step.old.state.turn (one.refused_idly r.refused))
+    r.moved (ap (λ (s : State). s.turn) one.state ∙ turn_kept r.step.move.party one.effect r.step.old.state.turn (one.refused_idly r.refused))
 
 own_as : (w : World) (p : ℕ) (s : Standing) → standing_of w p ≡ s → HasItsOwn w p (standing_of w p) → HasItsOwn w p s
 own_as w p s e h = let P : Standing → Type 0 = λ x. HasItsOwn w p x in subst P e h
@@ -73,7 +73,7 @@ returns-clause-reads_with_the_bit c = λ r.
     let own = own_as r.step.new r.step.move.party (outside Pending) r.pending (r.legal.leaves_clear.each r.step.move.party) in
     elim own.1 as (λ _. ⊥) [ inl w ↦ absurd (cc (r.seeks, w.1)) | inr n ↦ n.0 (has_turn r.step.new r.step.move.party r.waits) ]
 
-left : (p : ℕ) (d : Deed Change ListName) (t : Turn) → t ≡ passes p → turn_after p d t ≡ nobody → gives_up d ≡ true
+left : (p : ℕ) (d : Effect Change ListName) (t : Turn) → t ≡ passes p → turn_after p d t ≡ nobody → gives_up d ≡ true
 left p (changes leaves_turn) t e n = refl
 left p (changes takes_turn) t e n = absurd (cc)
 left p (changes becomes_upgradable) t e n = absurd (cc)
@@ -99,11 +99,11 @@ undecided_going s what u i e g h = let no : is_decided (inside u None) || is_giv
 pub returns-clause-lets_go_undecided : goal.returns-clause-lets_go_undecided
 returns-clause-lets_go_undecided c = λ r.
     let one = r.legal.one_change in
-    let up = left r.step.move.party one.deed r.step.old.state.turn r.had (sym (ap (λ (s : State). s.turn) one.state) ∙ r.left) in
+    let up = left r.step.move.party one.effect r.step.old.state.turn r.had (sym (ap (λ (s : State). s.turn) one.state) ∙ r.left) in
     undecided_going (standing_of r.step.old r.step.move.party) r.step.move.what r.within r.inputs r.undecided r.goes (one.giving_up up)
 
 -- who clears the bit while it waits to write gives it up
-unmarks_by : (w : World) (p : ℕ) (d : Deed Change ListName) → w.state.turn ≡ waits_to_write p → IsAllowed p d w → is_marked (turn_after p d w.state.turn) ≡ false → gives_up d ≡ true
+unmarks_by : (w : World) (p : ℕ) (d : Effect Change ListName) → w.state.turn ≡ waits_to_write p → IsAllowed p d w → is_marked (turn_after p d w.state.turn) ≡ false → gives_up d ≡ true
 unmarks_by w p (changes unmarks) e may n = refl
 unmarks_by w p (changes leaves_turn) e may n = refl
 unmarks_by w p (changes stops_upgradable) e may n = refl
@@ -126,7 +126,7 @@ unmarks_by w p (does list f) e may n = absurd (true≢false (sym (ap is_marked e
 pub returns-clause-unmarks_undecided : goal.returns-clause-unmarks_undecided
 returns-clause-unmarks_undecided c = λ r.
     let one = r.legal.one_change in
-    let up = unmarks_by r.step.old r.step.move.party one.deed r.had one.allowed (sym (ap (λ (s : State). is_marked s.turn) one.state) ∙ r.cleared) in
+    let up = unmarks_by r.step.old r.step.move.party one.effect r.had one.allowed (sym (ap (λ (s : State). is_marked s.turn) one.state) ∙ r.cleared) in
     undecided_going (standing_of r.step.old r.step.move.party) r.step.move.what r.within r.inputs r.undecided r.goes (one.giving_up up)
 
 stays_on : (rs : List Bool) (p : ℕ) → is_on rs p ≡ true → is_on (slice_set rs p true) p ≡ true
@@ -135,7 +135,7 @@ stays_on (b ∷ rs) zero h = refl
 stays_on (b ∷ rs) (suc p) h = stays_on rs p h
 
 -- who stops reading, and doesn't write or wait to, gives its reading up
-stops_by : (p : ℕ) (d : Deed Change ListName) (rs : List Bool) (t : Turn) → is_on rs p ≡ true → is_on (readers_after p d rs) p ≡ false → is_marked (turn_after p d t) ≡ false → gives_up d ≡ true
+stops_by : (p : ℕ) (d : Effect Change ListName) (rs : List Bool) (t : Turn) → is_on rs p ≡ true → is_on (readers_after p d rs) p ≡ false → is_marked (turn_after p d t) ≡ false → gives_up d ≡ true
 stops_by p (changes stops_reading) rs t had gone n = refl
 stops_by p (changes stops_upgradable) rs t had gone n = refl
 stops_by p (changes unmarks) rs t had gone n = refl
@@ -159,7 +159,7 @@ pub returns-clause-stops_reading_undecided : goal.returns-clause-stops_reading_u
 returns-clause-stops_reading_undecided c = λ r.
     let one = r.legal.one_change in
     let p = r.step.move.party in
-    let up = stops_by p one.deed r.step.old.state.readers r.step.old.state.turn r.had (sym (ap (λ (s : State). is_on s.readers p) one.state) ∙ r.stopped) (sym (ap (λ (s : State). is_marked s.turn) one.state) ∙ r.unmarked) in
+    let up = stops_by p one.effect r.step.old.state.readers r.step.old.state.turn r.had (sym (ap (λ (s : State). is_on s.readers p) one.state) ∙ r.stopped) (sym (ap (λ (s : State). is_marked s.turn) one.state) ∙ r.unmarked) in
     undecided_going (standing_of r.step.old p) r.step.move.what r.within r.inputs r.undecided r.goes (one.giving_up up)
 
 pub returns-clause-downgrades_undecided : goal.returns-clause-downgrades_undecided
@@ -295,7 +295,7 @@ returns-clause-tries_turn_in_vain c = λ r. none_some (sym (r.legal.try_goes_on 
 pub returns-clause-starved_having_taken : goal.returns-clause-starved_having_taken
 returns-clause-starved_having_taken c = λ r.
     let one = r.legal.one_change in
-    r.took (ap (λ (s : State). s.turn) one.state ∙ turn_kept r.step.move.party one.deed r.step.old.state.turn (one.starved_idly r.refused))
+    r.took (ap (λ (s : State). s.turn) one.state ∙ turn_kept r.step.move.party one.effect r.step.old.state.turn (one.starved_idly r.refused))
 
 -- what a refusal for too many starved parties found
 record Fresh (m : Move) (old : World) : Type 0 where
@@ -318,8 +318,8 @@ returns-clause-starved_at_first c = λ r. let was = (fresh_in r.step r.legal r.r
 pub returns-clause-decides_in_vain : goal.returns-clause-decides_in_vain
 returns-clause-decides_in_vain c = λ r. true≢false (sym (r.legal.leaves_clear.decided r.party r.within r.by r.decided) ∙ r.never)
 
-allowed_at : (s : Step) (legal : IsLegal s) (d : Deed Change ListName) → legal.one_change.deed ≡ d → IsAllowed s.move.party d s.old
-allowed_at s legal d e = let P : Deed Change ListName → Type 0 = λ x. IsAllowed s.move.party x s.old in subst P e legal.one_change.allowed
+allowed_at : (s : Step) (legal : IsLegal s) (d : Effect Change ListName) → legal.one_change.effect ≡ d → IsAllowed s.move.party d s.old
+allowed_at s legal d e = let P : Effect Change ListName → Type 0 = λ x. IsAllowed s.move.party x s.old in subst P e legal.one_change.allowed
 
 tells_one : (w : World) (p : ℕ) (list : ListName) (n : ℕ) → IsAllowed p (does list (notifies n)) w → n ≡ 1
 tells_one w p for_the_turn n h = h.one
@@ -460,14 +460,14 @@ returns-clause-enters_turn_and_tells c = λ r. r.tells (r.legal.first_upgradable
 pub returns-clause-stops_last_silently : goal.returns-clause-stops_last_silently
 returns-clause-stops_last_silently c = λ r. true≢false (sym (r.legal.gives_up.last_reader r.read r.last (inr r.unmarked)).1 ∙ r.silent)
 
-wants_turn : (p : ℕ) (w : World) (d : Deed Change ListName) → d ≡ changes starves → IsAllowed p d w → is_for_turn (sought_by w p) ≡ true
-wants_turn p w d e may = let A : Deed Change ListName → Type 0 = λ z. IsAllowed p z w in (subst A e may).2
+wants_turn : (p : ℕ) (w : World) (d : Effect Change ListName) → d ≡ changes starves → IsAllowed p d w → is_for_turn (sought_by w p) ≡ true
+wants_turn p w d e may = let A : Effect Change ListName → Type 0 = λ z. IsAllowed p z w in (subst A e may).2
 
 pub returns-clause-read_starves : goal.returns-clause-read_starves
-returns-clause-read_starves c = λ r. false≢true (sym (ap is_for_turn r.reader) ∙ wants_turn r.step.move.party r.step.old r.legal.one_change.deed r.counts r.legal.one_change.allowed)
+returns-clause-read_starves c = λ r. false≢true (sym (ap is_for_turn r.reader) ∙ wants_turn r.step.move.party r.step.old r.legal.one_change.effect r.counts r.legal.one_change.allowed)
 
 -- a change is of the moving party's own right to read
-others_read : (p q : ℕ) (d : Deed Change ListName) (rs : List Bool) → q ≢ p → is_on (readers_after p d rs) q ≡ is_on rs q
+others_read : (p q : ℕ) (d : Effect Change ListName) (rs : List Bool) → q ≢ p → is_on (readers_after p d rs) q ≡ is_on rs q
 others_read p q (changes begins_to_read) rs apart = get_or-set_other rs p q true false apart
 others_read p q (changes becomes_upgradable) rs apart = get_or-set_other rs p q true false apart
 others_read p q (changes downgrades) rs apart = get_or-set_other rs p q true false apart
@@ -484,7 +484,7 @@ others_read p q (does list f) rs apart = refl
 pub returns-clause-reader_lost : goal.returns-clause-reader_lost
 returns-clause-reader_lost c = λ r.
     let one = r.legal.one_change in
-    let same = ap (λ (s : State). is_on s.readers r.reader) one.state ∙ others_read r.step.move.party r.reader one.deed r.step.old.state.readers r.another in
+    let same = ap (λ (s : State). is_on s.readers r.reader) one.state ∙ others_read r.step.move.party r.reader one.effect r.step.old.state.readers r.another in
     true≢false (sym r.read ∙ (sym same ∙ r.lost))
 
 pub returns-clause-starved_unwaited : goal.returns-clause-starved_unwaited

@@ -13,7 +13,7 @@ use Rattle.world_base.specs.Frame.{is_drop}
 use Rattle.world_base.specs.Standings.{Standing, is_decided, is_possible}
 use Rattle.world_base.proofs.Equations.{none_some}
 use Rattle.world_semaphore.specs.machine.Seats.{Share}
-use Rattle.world_semaphore.specs.machine.Deeds.{Deed, nothing, changes, does, fits, takes, gives_back, forgets, raises, gives}
+use Rattle.world_semaphore.specs.machine.Effects.{Effect, nothing, changes, does, fits, takes, gives_back, forgets, raises, gives}
 use Rattle.world_semaphore.specs.State.{State, World, has_permits, standing_of, size_of}
 use Rattle.world_semaphore.specs.AtOnce.{is_try}
 use Rattle.world_semaphore.specs.Legal.{HasItsOwn, IsAllowed, state_after, is_forget, added_in}
@@ -39,7 +39,7 @@ returns-clause-takes_undecided c = λ r.
     true≢false (sym r.took ∙ ap (λ (s : Share). is_some s.held) (own_at r.step.new r.step.move.party _ r.undecided (r.legal.leaves_clear.each r.step.move.party)).0)
 
 -- a party that goes on neither gives its permits back nor forgets them
-keeps : (w : World) (m : Move) (d : Deed) (i : Inputs) → m.what ≡ Go i → IsAllowed w m d → has_permits w.state m.party ≡ true → has_permits (state_after m.party d w.state) m.party ≡ false → ⊥
+keeps : (w : World) (m : Move) (d : Effect) (i : Inputs) → m.what ≡ Go i → IsAllowed w m d → has_permits w.state m.party ≡ true → has_permits (state_after m.party d w.state) m.party ≡ false → ⊥
 keeps w m nothing i e h had gave = true≢false (sym had ∙ gave)
 keeps w m (does f) i e h had gave = true≢false (sym had ∙ gave)
 keeps w m (changes (takes k)) i e h had gave = true≢false (sym had ∙ ap (λ (s : Share). is_some s.held) h.2)
@@ -51,7 +51,7 @@ keeps w m (changes (gives n)) i e h had gave = true≢false (sym had ∙ ap (λ 
 pub returns-clause-gives_back_within : goal.returns-clause-gives_back_within
 returns-clause-gives_back_within c = λ r.
     let one = r.legal.one_change in
-    keeps r.step.old r.step.move one.deed r.inputs r.goes one.allowed r.had (sym (ap (λ (s : State). has_permits s r.step.move.party) one.state) ∙ r.gave)
+    keeps r.step.old r.step.move one.effect r.inputs r.goes one.allowed r.had (sym (ap (λ (s : State). has_permits s r.step.move.party) one.state) ∙ r.gave)
 
 pub returns-clause-gives_before_it_raises : goal.returns-clause-gives_before_it_raises
 returns-clause-gives_before_it_raises c = λ r.
@@ -59,8 +59,8 @@ returns-clause-gives_before_it_raises c = λ r.
     let limit : r.step.new.state.limit ≡ r.step.old.state.limit + r.number = ap (λ (s : State). s.limit) raised in
     absurd (omega (arith, limit, r.some, r.not_raised))
 
--- what the deed of a legal step is, it is allowed to be
-allowed_as : (w : World) (m : Move) (d e : Deed) → d ≡ e → IsAllowed w m d → IsAllowed w m e
+-- what the effect of a legal step is, it is allowed to be
+allowed_as : (w : World) (m : Move) (d e : Effect) → d ≡ e → IsAllowed w m d → IsAllowed w m e
 allowed_as w m d e is h = subst (IsAllowed w m) is h
 
 pub returns-clause-tells_of_others : goal.returns-clause-tells_of_others

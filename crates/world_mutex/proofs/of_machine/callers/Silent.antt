@@ -1,9 +1,9 @@
 -- A call that isn't decided notifies nobody, where nobody is starved and its party isn't about to be.
-use Rattle.world_mutex.proofs.Prelude.{◌≡◌, ℕ, Bool, true, false, Option, Some, None, refl, arith, subst, sym, ◌∙◌, false≢true, true≢false, MarksNobody, Deed, nothing, changes, does, joins, asks, leaves, notifies, notifies_additionally, End, Step, Course, out, holding, waiting, taking, releasing, cancelling, undecided, called, counting, has_lock, is_out, Change, ListName, for_the_lock, entries_after, Mutex, course_at, none_some}
+use Rattle.world_mutex.proofs.Prelude.{◌≡◌, ℕ, Bool, true, false, Option, Some, None, refl, arith, subst, sym, ◌∙◌, false≢true, true≢false, MarksNobody, Effect, nothing, changes, does, joins, asks, leaves, notifies, notifies_additionally, End, Step, Course, out, holding, waiting, taking, releasing, cancelling, undecided, called, counting, has_lock, is_out, Change, ListName, for_the_lock, entries_after, Mutex, course_at, none_some}
 use Rattle.world_base.proofs.Marks.{joined_marks, asked_marks}
 use Rattle.world_mutex.specs.machine.Conduct.{IsAllowed, IsLegal}
 use Rattle.world_mutex.specs.machine.Course.{gives_up, decision, counted, is_waiting, is_counting, may_tell}
-use Rattle.world_mutex.specs.machine.Deeds as deeds
+use Rattle.world_mutex.specs.machine.Effects as effects
 use Rattle.world_mutex.specs.machine.Mutex.{starved}
 use Rattle.world_mutex.proofs.of_machine.callers.Holders.{none_counted}
 
@@ -45,18 +45,18 @@ never_pending (taking (gives_up r) starved listed told) h = cc h
 never_pending releasing h = cc h
 never_pending (cancelling starved) h = cc h
 
--- what a deed marks
-deed_marks : (p : ℕ) (l : Mutex) (d : Deed Change ListName) → IsAllowed p d l → may_tell (course_at l.courses p) ≡ false → deeds.gives_up d ≡ false → MarksNobody p l.entries (entries_after p d l.entries)
-deed_marks p l nothing may quiet keeps = λ q apart h. h
-deed_marks p l (changes c) may quiet keeps = λ q apart h. h
-deed_marks p l (does for_the_lock joins) may quiet keeps = joined_marks p l.entries
-deed_marks p l (does for_the_lock asks) may quiet keeps = asked_marks p l.entries
-deed_marks p l (does for_the_lock leaves) may quiet keeps = absurd (true≢false keeps)
-deed_marks p l (does for_the_lock (notifies n)) may quiet keeps = absurd (false≢true (sym quiet ∙ may.1))
-deed_marks p l (does for_the_lock (notifies_additionally n)) may quiet keeps = absurd may
+-- what an effect marks
+effect_marks : (p : ℕ) (l : Mutex) (d : Effect Change ListName) → IsAllowed p d l → may_tell (course_at l.courses p) ≡ false → effects.gives_up d ≡ false → MarksNobody p l.entries (entries_after p d l.entries)
+effect_marks p l nothing may quiet keeps = λ q apart h. h
+effect_marks p l (changes c) may quiet keeps = λ q apart h. h
+effect_marks p l (does for_the_lock joins) may quiet keeps = joined_marks p l.entries
+effect_marks p l (does for_the_lock asks) may quiet keeps = asked_marks p l.entries
+effect_marks p l (does for_the_lock leaves) may quiet keeps = absurd (true≢false keeps)
+effect_marks p l (does for_the_lock (notifies n)) may quiet keeps = absurd (false≢true (sym quiet ∙ may.1))
+effect_marks p l (does for_the_lock (notifies_additionally n)) may quiet keeps = absurd may
 
 -- and a step of a call that isn't decided
 pub step_marks : (memory : Bool) (p : ℕ) (d : Option End) (s : Step) (l k : Mutex) → IsLegal memory p d s l k → d ≡ None → may_tell (course_at l.courses p) ≡ false → MarksNobody p l.entries k.entries
 step_marks memory p d s l k g midway quiet =
     let M : _ → Type 0 = MarksNobody p l.entries in
-    subst M (sym g.entries) (deed_marks p l g.deed g.allowed quiet (g.holds_on midway))
+    subst M (sym g.entries) (effect_marks p l g.effect g.allowed quiet (g.holds_on midway))

@@ -1,6 +1,6 @@
 -- What an action does, in numbers.
 use Rattle.world_mutex.proofs.Prelude.{◌≡◌, ℕ, ◌+◌, Bool, true, false, length, refl, ap, sym, ◌∙◌, marked_count, without, is_marked_at, is_party, Queue, joins, asks, leaves, notifies, chosen, counted_by, Action, Found, Done, Free, Held, SomeStarved, AtLimit, NoMemory, Yes, No, Word, bit, OnWord, word, CanDo, OnList, Tally, tally_of}
-use Rattle.world_mutex.proofs.of_machine.laws.Steps.{Effect, SameWord, SameList}
+use Rattle.world_mutex.proofs.of_machine.laws.Steps.{OnTally, SameWord, SameList}
 
 module _ (v w : Word) (s t : Queue) where
   abbrev before : Tally
@@ -21,7 +21,7 @@ module _ (v w : Word) (s t : Queue) where
   held_is : (h : Bool) (n : ℕ) → w ≡ word h n v.limit → (bit w.held ≡ bit h) × (w.starved ≡ n) × (w.limit ≡ v.limit)
   held_is h n e = (ap (λ w. bit w.held) e, ap (λ w. w.starved) e, ap (λ w. w.limit) e)
 
-  pub numbers : (p : ℕ) (memory : Bool) (a : Action) (f : Found) → OnWord a f v w → OnList p memory a f s t → CanDo p a v s → Effect a f before behind
+  pub numbers : (p : ℕ) (memory : Bool) (a : Action) (f : Found) → OnWord a f v w → OnList p memory a f s t → CanDo p a v s → OnTally a f before behind
   numbers p memory Action.Nothing Done e l k = (word_kept e, list_kept l)
   numbers p memory Action.Nothing _ e l k = absurd e
   numbers p memory Action.Take Free e l k = let h = held_is true v.starved e.2 in (ap bit e.0, e.1, h.0, h.1, h.2, list_kept l)

@@ -2,7 +2,7 @@
 use Rattle.world_mutex.proofs.Prelude.{◌≡◌, ℕ, ◌+◌, ◌<◌, ◌≤◌, zero, suc, true, false, arith, Place, Out, Holding, Enter, Try, Clear, CancelUncount, CancelLeave, Join, Look, Ask, Retry, PassOn, Count, JoinStarved, LookAlone, PassOnListed, AskStarved, Seize, Uncount, Leave, RefuseUncount, RefuseLeave, RefuseNotifyMemory, RefuseNotifyStarved, ReleaseNotify, Found, Done, Free, Held, SomeStarved, AtLimit, NoMemory, Yes, No, action_of, next_of, place_after, holds, counted, listed, Tally, Counts}
 use Rattle.world_base.proofs.of_queue.Debts.{still_owed}
 use Rattle.world_mutex.specs.machine.Tally.{IsSound}
-use Rattle.world_mutex.proofs.of_machine.laws.Steps.{Effect, IsCounted, Moves}
+use Rattle.world_mutex.proofs.of_machine.laws.Steps.{OnTally, IsCounted, Moves}
 
 abbrev pub after : Place → Found → Place
 after p f = place_after p (next_of p f)
@@ -21,7 +21,7 @@ starved_owed starving zero waiting m some cared owed = owed (omega arith)
 starved_owed starving (suc owing) waiting m some cared owed = omega arith
 
 module _ (s t : Tally) (a b : Counts) where
-  pub follows : (p : Place) (f : Found) → Effect (action_of p) f s t → IsSound s a → Moves p (after p f) a b → Follows s t p (after p f)
+  pub follows : (p : Place) (f : Found) → OnTally (action_of p) f s t → IsSound s a → Moves p (after p f) a b → Follows s t p (after p f)
   follows Out Done e i m = record { held = omega arith; starved = omega arith; in_list = omega arith; one = omega arith; limited = omega arith }
   follows Out _ e i m = absurd e
   follows Holding Done e i m = record { held = omega arith; starved = omega arith; in_list = omega arith; one = omega arith; limited = omega arith }
@@ -107,7 +107,7 @@ module _ (s t : Tally) (a b : Counts) where
   follows ReleaseNotify _ e i m = absurd e
 
   -- a free lock that a listed party waits for stays owed
-  owed_after : (p : Place) (f : Found) → Effect (action_of p) f s t → IsSound s a → IsCounted a → IsCounted b → Moves p (after p f) a b → b.listed ≡ t.size → t.held ≡ 0 → 0 < b.waiting → 0 < b.owing + t.marked
+  owed_after : (p : Place) (f : Found) → OnTally (action_of p) f s t → IsSound s a → IsCounted a → IsCounted b → Moves p (after p f) a b → b.listed ≡ t.size → t.held ≡ 0 → 0 < b.waiting → 0 < b.owing + t.marked
   owed_after Out Done e i c d m l h w = omega arith
   owed_after Out _ e i c d m l h w = absurd e
   owed_after Holding Done e i c d m l h w = omega arith
@@ -206,7 +206,7 @@ module _ (s t : Tally) (a b : Counts) where
   owed_after ReleaseNotify Done e i c d m l h w = omega arith
   owed_after ReleaseNotify _ e i c d m l h w = absurd e
 
-  pub kept : (p : Place) (f : Found) → Effect (action_of p) f s t → IsSound s a → IsCounted a → IsCounted b → Moves p (after p f) a b → IsSound t b
+  pub kept : (p : Place) (f : Found) → OnTally (action_of p) f s t → IsSound s a → IsCounted a → IsCounted b → Moves p (after p f) a b → IsSound t b
   kept p f e i c d m =
       let g : Follows s t p (after p f) = follows p f e i m in
       let l : b.listed ≡ t.size = omega arith in

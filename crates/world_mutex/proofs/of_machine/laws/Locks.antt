@@ -2,7 +2,7 @@
 use Rattle.world_mutex.proofs.Prelude.{◌≡◌, ℕ, ◌+◌, ◌<◌, Bool, List, length, arith, sym, subst, ◌∙◌, length-set, get_or-set_same, get_or-set_other, set, ℕ_discrete, Queue, entries_of, OneAtMost, own_by, others_by, Place, Out, listed, OnParties, Found, Word, action_of, OnWord, CanDo, OnList, tally_of, counts_of, IsLock, SameRoles, place_at}
 use Rattle.world_mutex.proofs.of_machine.laws.CanDo.{can_do}
 use Rattle.world_mutex.proofs.of_machine.laws.Owners.{on_parties, parties_kept, one_at_most}
-use Rattle.world_mutex.proofs.of_machine.laws.Steps.{Effect, Moves}
+use Rattle.world_mutex.proofs.of_machine.laws.Steps.{OnTally, Moves}
 use Rattle.world_mutex.proofs.of_machine.laws.Effects.{numbers}
 use Rattle.world_mutex.proofs.of_machine.laws.Parties.{moves, counted_all}
 use Rattle.world_mutex.proofs.of_machine.laws.Kept.{kept, follows, after}
@@ -14,9 +14,9 @@ module _ (p : ℕ) (v w : Word) (places : List Place) (list new : Queue) (memory
   locked from f lock known same word list_did =
       let to : Place = after from f in
       let can : CanDo p (action_of from) v list = can_do p v places list lock known from same in
-      let effect : Effect (action_of from) f (tally_of v list.entries) (tally_of w new.entries) = numbers v w list new p memory (action_of from) f word list_did can in
+      let on_tally : OnTally (action_of from) f (tally_of v list.entries) (tally_of w new.entries) = numbers v w list new p memory (action_of from) f word list_did can in
       let move : Moves from to (counts_of places) (counts_of (set places p to)) = moves places p from to known same in
-      let follow = follows (tally_of v list.entries) (tally_of w new.entries) (counts_of places) (counts_of (set places p to)) from f effect lock.sound move in
+      let follow = follows (tally_of v list.entries) (tally_of w new.entries) (counts_of places) (counts_of (set places p to)) from f on_tally lock.sound move in
       let parties : OnParties p (action_of from) f list.entries new.entries = on_parties p memory list new (action_of from) f list_did in
       let one : OneAtMost p list.entries new.entries = one_at_most p memory list new (action_of from) f v parties can in
       let counts = own_by p list.entries new.entries one in
@@ -28,7 +28,7 @@ module _ (p : ℕ) (v w : Word) (places : List Place) (list new : Queue) (memory
               subst P (sym e) (rw (get_or-set_same places p to Out known) own))
           | no apart ↦ rw (get_or-set_other places p j to Out apart) (others_by p list.entries new.entries one j apart ∙ lock.owners j)
         ];
-        sound = kept (tally_of v list.entries) (tally_of w new.entries) (counts_of places) (counts_of (set places p to)) from f effect lock.sound (counted_all places) (counted_all (set places p to)) move;
+        sound = kept (tally_of v list.entries) (tally_of w new.entries) (counts_of places) (counts_of (set places p to)) from f on_tally lock.sound (counted_all places) (counted_all (set places p to)) move;
         one_told = one_marked p (action_of from) f list.entries new.entries parties lock.one_told;
         as_many = parties_kept p memory list new (action_of from) f list_did ∙ (lock.as_many ∙ sym (length-set places p to));
       }

@@ -11,27 +11,27 @@ abbrev pub ListDid : ListFunction → Bool → Tally → Tally → Type 0
 ListDid f told s t = SameWord s t × Counted f told s.size s.marked t.size t.marked
 
 -- what an action does to the numbers where it finds this
-abbrev pub Effect : Action → Found → Tally → Tally → Type 0
-Effect Action.Nothing Done s t = SameWord s t × SameList s t
-Effect Action.Take Free s t = (s.held ≡ 0) × (s.starved ≡ 0) × (t.held ≡ 1) × (t.starved ≡ s.starved) × (t.limit ≡ s.limit) × SameList s t
-Effect Action.Take (Held starving) s t = (s.held ≡ 1) × (s.starved ≡ 0) × SameWord s t × SameList s t
-Effect Action.Take SomeStarved s t = (0 < s.starved) × SameWord s t × SameList s t
-Effect Action.TakeAlone Free s t = (s.held ≡ 0) × (s.starved ≡ 1) × (t.held ≡ 1) × (t.starved ≡ s.starved) × (t.limit ≡ s.limit) × SameList s t
-Effect Action.TakeAlone (Held starving) s t = (s.held ≡ 1) × SameWord s t × SameList s t
-Effect Action.TakeAlone SomeStarved s t = (s.held ≡ 0) × (s.starved ≢ 1) × SameWord s t × SameList s t
-Effect Action.Set Free s t = (s.held ≡ 0) × (t.held ≡ 1) × (t.starved ≡ s.starved) × (t.limit ≡ s.limit) × SameList s t
-Effect Action.Set (Held starving) s t = (s.held ≡ 1) × SameWord s t × SameList s t
-Effect Action.Count Done s t = (s.starved < s.limit) × (t.held ≡ s.held) × (t.starved ≡ s.starved + 1) × (t.limit ≡ s.limit) × SameList s t
-Effect Action.Count AtLimit s t = (s.starved ≡ s.limit) × SameWord s t × SameList s t
-Effect Action.Uncount Done s t = (t.held ≡ s.held) × (t.starved + 1 ≡ s.starved) × (t.limit ≡ s.limit) × SameList s t
-Effect Action.Clear Done s t = (s.held ≡ 1) × (t.held ≡ 0) × (t.starved ≡ s.starved) × (t.limit ≡ s.limit) × SameList s t
-Effect Action.Join Done s t = ListDid joins false s t
-Effect Action.Join NoMemory s t = SameWord s t × SameList s t
-Effect Action.Ask Yes s t = ListDid asks true s t
-Effect Action.Ask No s t = SameWord s t × SameList s t
-Effect Action.Leave Done s t = ListDid leaves false s t
-Effect Action.Notify Done s t = ListDid (notifies 1) false s t
-Effect _ _ s t = ⊥
+abbrev pub OnTally : Action → Found → Tally → Tally → Type 0
+OnTally Action.Nothing Done s t = SameWord s t × SameList s t
+OnTally Action.Take Free s t = (s.held ≡ 0) × (s.starved ≡ 0) × (t.held ≡ 1) × (t.starved ≡ s.starved) × (t.limit ≡ s.limit) × SameList s t
+OnTally Action.Take (Held starving) s t = (s.held ≡ 1) × (s.starved ≡ 0) × SameWord s t × SameList s t
+OnTally Action.Take SomeStarved s t = (0 < s.starved) × SameWord s t × SameList s t
+OnTally Action.TakeAlone Free s t = (s.held ≡ 0) × (s.starved ≡ 1) × (t.held ≡ 1) × (t.starved ≡ s.starved) × (t.limit ≡ s.limit) × SameList s t
+OnTally Action.TakeAlone (Held starving) s t = (s.held ≡ 1) × SameWord s t × SameList s t
+OnTally Action.TakeAlone SomeStarved s t = (s.held ≡ 0) × (s.starved ≢ 1) × SameWord s t × SameList s t
+OnTally Action.Set Free s t = (s.held ≡ 0) × (t.held ≡ 1) × (t.starved ≡ s.starved) × (t.limit ≡ s.limit) × SameList s t
+OnTally Action.Set (Held starving) s t = (s.held ≡ 1) × SameWord s t × SameList s t
+OnTally Action.Count Done s t = (s.starved < s.limit) × (t.held ≡ s.held) × (t.starved ≡ s.starved + 1) × (t.limit ≡ s.limit) × SameList s t
+OnTally Action.Count AtLimit s t = (s.starved ≡ s.limit) × SameWord s t × SameList s t
+OnTally Action.Uncount Done s t = (t.held ≡ s.held) × (t.starved + 1 ≡ s.starved) × (t.limit ≡ s.limit) × SameList s t
+OnTally Action.Clear Done s t = (s.held ≡ 1) × (t.held ≡ 0) × (t.starved ≡ s.starved) × (t.limit ≡ s.limit) × SameList s t
+OnTally Action.Join Done s t = ListDid joins false s t
+OnTally Action.Join NoMemory s t = SameWord s t × SameList s t
+OnTally Action.Ask Yes s t = ListDid asks true s t
+OnTally Action.Ask No s t = SameWord s t × SameList s t
+OnTally Action.Leave Done s t = ListDid leaves false s t
+OnTally Action.Notify Done s t = ListDid (notifies 1) false s t
+OnTally _ _ s t = ⊥
 
 -- what holds of the numbers because it holds of each place
 pub record IsCounted (a : Counts) : Type 0 where

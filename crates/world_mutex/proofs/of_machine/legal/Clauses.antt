@@ -1,5 +1,5 @@
 -- What a machine promises by its places, said of the mutex as those see it who build on one.
-use Rattle.world_mutex.proofs.Prelude.{◌≡◌, ℕ, suc, ◌<◌, ◌⊎◌, inl, inr, Bool, true, false, List, [], ◌∷◌, length, Option, Some, IsSome, refl, sym, ap, arith, subst, ◌∙◌, get_or-set_same, Entry, entries_of, Memory, Starved, Deed, nothing, changes, does, joins, asks, leaves, notifies, notifies_additionally, marked_count, Place, LockCall, Found, Free, Held, SomeStarved, End, Got, Pending, NotFree, GivenBack, Refused, Next, start_of, action_of, next_of, place_after, step_of, Acts, Finds, Lock, SameRoles, place_at, Change, takes, releases, starves, recovers, ListName, Course, Begins, may_begin, is_called, is_releasing, reveal, conceal, revealed, Mutex, course_at, TakesAtOnce, CountsNobody, HandsOn, BeginsToHandOn, course_of, is_kept, AreKept, seen, IsDone}
+use Rattle.world_mutex.proofs.Prelude.{◌≡◌, ℕ, suc, ◌<◌, ◌⊎◌, inl, inr, Bool, true, false, List, [], ◌∷◌, length, Option, Some, IsSome, refl, sym, ap, arith, subst, ◌∙◌, get_or-set_same, Entry, entries_of, Memory, Starved, Effect, nothing, changes, does, joins, asks, leaves, notifies, notifies_additionally, marked_count, Place, LockCall, Found, Free, Held, SomeStarved, End, Got, Pending, NotFree, GivenBack, Refused, Next, start_of, action_of, next_of, place_after, step_of, Acts, Finds, Lock, SameRoles, place_at, Change, takes, releases, starves, recovers, ListName, Course, Begins, may_begin, is_called, is_releasing, reveal, conceal, revealed, Mutex, course_at, TakesAtOnce, CountsNobody, HandsOn, BeginsToHandOn, course_of, is_kept, AreKept, seen, IsDone}
 use Rattle.lock_program.specs.MutexRoles as by
 use Rattle.world_mutex.specs.machine.Courses as way
 use Rattle.world_mutex.specs.machine.Acts as acts
@@ -87,7 +87,7 @@ module _ (l : Lock) where
     starved_listed = λ rest p own. m.starved_listed (rest_all l.places rest) p (counted_here p ∙ own);
   }
 
-  allowed : (p : ℕ) (d : Deed Change ListName) → legal.IsAllowed p d l → IsAllowed p d (seen l)
+  allowed : (p : ℕ) (d : Effect Change ListName) → legal.IsAllowed p d l → IsAllowed p d (seen l)
   allowed p (changes takes) h = (holders_seen l.places ∙ h.0, elim h.1 as (λ _. (starved (seen l) ≡ 0) ⊎ (counted (course_at (seen l).courses p) ≡ 1)) [ inl none ↦ inl (starved_seen l.places ∙ none) | inr own ↦ inr (counted_here p ∙ own) ])
   allowed p (changes releases) h = holds_here p ∙ h
   allowed p (changes starves) h = (counted_here p ∙ h.0, rw (starved_seen l.places) h.1)
@@ -115,10 +115,10 @@ module _ (l k : Lock) where
 
     pub is_legal : (memory : Bool) (decided : Option End) → legal.IsLegal memory p decided n l k → IsLegal memory p decided (step_of n) (seen l) (seen k)
     is_legal memory decided g = record {
-      deed = g.deed;
-      allowed = allowed l p g.deed g.allowed;
-      holder = holder_seen 0 k.places ∙ (g.holder ∙ ap (Rattle.world_mutex.specs.machine.Deeds.holder_after p g.deed) (sym (holder_seen 0 l.places)));
-      starved = roster_seen k.places ∙ (g.starved ∙ ap (Rattle.world_mutex.specs.machine.Deeds.starved_after p g.deed) (sym (roster_seen l.places)));
+      effect = g.effect;
+      allowed = allowed l p g.effect g.allowed;
+      holder = holder_seen 0 k.places ∙ (g.holder ∙ ap (Rattle.world_mutex.specs.machine.Effects.holder_after p g.effect) (sym (holder_seen 0 l.places)));
+      starved = roster_seen k.places ∙ (g.starved ∙ ap (Rattle.world_mutex.specs.machine.Effects.starved_after p g.effect) (sym (roster_seen l.places)));
       entries = g.entries;
       found_memory = g.found_memory;
       limit = g.limit;

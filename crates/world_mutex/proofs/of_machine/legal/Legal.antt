@@ -1,14 +1,14 @@
 -- An action of one party is a legal step of the mutex.
-use Rattle.world_mutex.proofs.Prelude.{◌≡◌, ℕ, ◌+◌, ◌<◌, ◌≤◌, ◌⊎◌, ◌==◌, ◌↔◌, inl, inr, Bool, true, false, List, map, length, Option, Some, None, refl, arith, ap, sym, ◌∙◌, subst, get_or-set_same, get_or-set_other, length-set, set, nat_tests, map-set_same, sum_by-set, sum_by, Entry, Waiting, mark_at, is_marked_at, without, is_party, entries_of, Deed, nothing, changes, does, joins, notifies, notifies_additionally, some_eq, none_some, some_none, chosen, Place, Out, Holding, Enter, Try, Ask, AskStarved, LockCall, Action, Found, Done, Free, Held, SomeStarved, AtLimit, NoMemory, Yes, No, Next, End, Got, Pending, NotFree, GivenBack, Refused, start_of, action_of, next_of, bit, holds, counted, listed, OnParties, Lock, SameRoles, place_at, Acts, Finds, holders, starved, is_holder, is_counted, holder_of, starved_of, decision, decided_then, IsReason, IsAllowed, IsLegal, Change, ListName, takes, releases, starves, recovers, holder_after, starved_after, entries_after, gives_back, gives_up, is_release, decided_by, is_fresh, Refusal, for_the_lock}
+use Rattle.world_mutex.proofs.Prelude.{◌≡◌, ℕ, ◌+◌, ◌<◌, ◌≤◌, ◌⊎◌, ◌==◌, ◌↔◌, inl, inr, Bool, true, false, List, map, length, Option, Some, None, refl, arith, ap, sym, ◌∙◌, subst, get_or-set_same, get_or-set_other, length-set, set, nat_tests, map-set_same, sum_by-set, sum_by, Entry, Waiting, mark_at, is_marked_at, without, is_party, entries_of, Effect, nothing, changes, does, joins, notifies, notifies_additionally, some_eq, none_some, some_none, chosen, Place, Out, Holding, Enter, Try, Ask, AskStarved, LockCall, Action, Found, Done, Free, Held, SomeStarved, AtLimit, NoMemory, Yes, No, Next, End, Got, Pending, NotFree, GivenBack, Refused, start_of, action_of, next_of, bit, holds, counted, listed, OnParties, Lock, SameRoles, place_at, Acts, Finds, holders, starved, is_holder, is_counted, holder_of, starved_of, decision, decided_then, IsReason, IsAllowed, IsLegal, Change, ListName, takes, releases, starves, recovers, holder_after, starved_after, entries_after, gives_back, gives_up, is_release, decided_by, is_fresh, Refusal, for_the_lock}
 use Rattle.std.proofs.lemmas.List.{map-set}
 use Rattle.world_base.proofs.of_queue.Told.{waits_at}
 use Rattle.world_mutex.proofs.of_machine.laws.Kept.{after}
-use Rattle.world_mutex.proofs.of_machine.legal.Rows.{Row, row, deed_of, decision_by, Holds, Starves, Finding, Room, HoldsOn, Reason, Judged}
+use Rattle.world_mutex.proofs.of_machine.legal.Rows.{Row, row, effect_of, decision_by, Holds, Starves, Finding, Room, HoldsOn, Reason, Judged}
 use Rattle.world_mutex.proofs.of_machine.laws.Seen as sees
 use Rattle.world_mutex.specs.machine.Courses.{is_releasing}
 
--- what an action does to the list is what its deed does
-pub list_is : (memory : Bool) (lock : Lock) (p : ℕ) (a : Action) (f : Found) (l m : List (Entry ℕ)) → Finds memory a f lock → OnParties p a f l m → m ≡ entries_after p (deed_of a f) l
+-- what an action does to the list is what its effect does
+pub list_is : (memory : Bool) (lock : Lock) (p : ℕ) (a : Action) (f : Found) (l m : List (Entry ℕ)) → Finds memory a f lock → OnParties p a f l m → m ≡ entries_after p (effect_of a f) l
 list_is memory lock p Action.Nothing Done l m e o = o
 list_is memory lock p Action.Take Free l m e o = o
 list_is memory lock p Action.Take (Held b) l m e o = o
@@ -45,7 +45,7 @@ asked : (p : ℕ) (a : Action) (f : Found) (l m : List (Entry ℕ)) → OnPartie
 asked p a f l m o ea ef = let P : Action → Found → Type 0 = λ b g. OnParties p b g l m in let o2 : P Action.Ask f = subst (λ (b : Action). P b f) ea o in subst (P Action.Ask) ef o2
 
 -- an action keeps what was decided, and what it decides has a reason
-keep : (memory : Bool) (l : Lock) (from : Place) (f : Found) (w o : Option End) (e : End) → Judged memory l from f w o → w ≡ Some e → (o ≡ Some e) × (gives_back (deed_of (action_of from) f) ≡ true)
+keep : (memory : Bool) (l : Lock) (from : Place) (f : Found) (w o : Option End) (e : End) → Judged memory l from f w o → w ≡ Some e → (o ≡ Some e) × (gives_back (effect_of (action_of from) f) ≡ true)
 keep memory l from f (Some c) o e j is = (j.0 ∙ is, j.1)
 keep memory l from f None o e j is = absurd (none_some is)
 
@@ -55,14 +55,14 @@ judge memory l from f None None e j none is = absurd (none_some is)
 judge memory l from f None (Some c) e j none is = let P : End → Type 0 = λ a. Reason memory l from f a in subst P (some_eq is) j
 
 -- a join found memory, and until its call is decided a party gives nothing up
-found_room : (memory : Bool) (d : Deed Change ListName) (list : ListName) → Room memory d → d ≡ does list joins → memory ≡ true
-found_room memory d list r e = let P : Deed Change ListName → Type 0 = Room memory in subst P e r
+found_room : (memory : Bool) (d : Effect Change ListName) (list : ListName) → Room memory d → d ≡ does list joins → memory ≡ true
+found_room memory d list r e = let P : Effect Change ListName → Type 0 = Room memory in subst P e r
 
-held_on : (o : Option End) (d : Deed Change ListName) → HoldsOn o d → o ≡ None → gives_up d ≡ false
+held_on : (o : Option End) (d : Effect Change ListName) → HoldsOn o d → o ≡ None → gives_up d ≡ false
 held_on None d h e = h
 held_on (Some c) d h e = absurd (some_none e)
 
-kept_lock : (o : Option End) (d : Deed Change ListName) → HoldsOn o d → o ≡ Some Got → is_release d ≡ false
+kept_lock : (o : Option End) (d : Effect Change ListName) → HoldsOn o d → o ≡ Some Got → is_release d ≡ false
 kept_lock None d h e = absurd (none_some e)
 kept_lock (Some Got) d h e = h
 kept_lock (Some Pending) d h e = absurd (cc)
@@ -91,8 +91,8 @@ module _ (memory : Bool) (p : ℕ) (from : Place) (f : Found) (l : Lock) (es : L
   abbrev new : Lock
   new = record { places = set l.places p to; entries = es; limit = l.limit }
 
-  abbrev deed : Deed Change ListName
-  deed = deed_of (action_of from) f
+  abbrev effect : Effect Change ListName
+  effect = effect_of (action_of from) f
 
   pub record Known : Type 0 where
     pub there : p < length l.places
@@ -135,7 +135,7 @@ module _ (memory : Bool) (p : ℕ) (from : Place) (f : Found) (l : Lock) (es : L
         let has : holds to ≡ 0 = sym (sees.holds_bit to) ∙ ap bit n in
         sees.none_held 0 new.places (omega (arith, k.one))
 
-    holder_is : (d : Deed Change ListName) → Holds d (is_holder from) (is_holder to) → holder_of new ≡ holder_after p d (holder_of l)
+    holder_is : (d : Effect Change ListName) → Holds d (is_holder from) (is_holder to) → holder_of new ≡ holder_after p d (holder_of l)
     holder_is nothing h = same_holder h
     holder_is (changes takes) h = has_it h.1
     holder_is (changes releases) h = gone h.0 h.1
@@ -146,7 +146,7 @@ module _ (memory : Bool) (p : ℕ) (from : Place) (f : Found) (l : Lock) (es : L
     same_starved : is_counted to ≡ is_counted from → starved_of new ≡ starved_of l
     same_starved h = map-set_same is_counted l.places p to Out (h ∙ counts_from)
 
-    starved_is : (d : Deed Change ListName) → Starves d (is_counted from) (is_counted to) → starved_of new ≡ starved_after p d (starved_of l)
+    starved_is : (d : Effect Change ListName) → Starves d (is_counted from) (is_counted to) → starved_of new ≡ starved_after p d (starved_of l)
     starved_is nothing s = same_starved s
     starved_is (changes takes) s = same_starved s
     starved_is (changes releases) s = same_starved s
@@ -157,7 +157,7 @@ module _ (memory : Bool) (p : ℕ) (from : Place) (f : Found) (l : Lock) (es : L
     counts_there : is_counted here ≡ true → counted here ≡ 1
     counts_there h = sym (sees.counted_bit here) ∙ ap bit h
 
-    allowed_so : (d : Deed Change ListName) → Holds d (is_holder from) (is_holder to) → Starves d (is_counted from) (is_counted to) → Finding d l from → IsAllowed p d l
+    allowed_so : (d : Effect Change ListName) → Holds d (is_holder from) (is_holder to) → Starves d (is_counted from) (is_counted to) → Finding d l from → IsAllowed p d l
     allowed_so nothing h s i = tt
     allowed_so (changes takes) h s i = (i.0, elim i.1 as (λ _. (starved l ≡ 0) ⊎ (counted here ≡ 1)) [ inl e ↦ inl e | inr e ↦ inr (sym k.same.starving ∙ e) ])
     allowed_so (changes releases) h s i = is_there (sym holds_from ∙ h.0)
@@ -167,7 +167,7 @@ module _ (memory : Bool) (p : ℕ) (from : Place) (f : Found) (l : Lock) (es : L
     allowed_so (does list (notifies_additionally n)) h s i = i
     allowed_so (does list g) h s i = tt
 
-    list_so : es ≡ entries_after p deed l.entries
+    list_so : es ≡ entries_after p effect l.entries
     list_so = list_is memory l p (action_of from) f l.entries es k.finds k.list
 
     waits_there : action_of from ≡ Action.Ask → f ≡ No → listed from ≡ 1 → mark_at (is_party p) es ≡ Some Waiting
@@ -175,11 +175,11 @@ module _ (memory : Bool) (p : ℕ) (from : Place) (f : Found) (l : Lock) (es : L
         let o = asked p (action_of from) f l.entries es k.list a g in
         rw o.1 (waits_at p l.entries (stands_listed ∙ one) o.0)
 
-    unchanged : deed ≡ nothing → (es ≡ l.entries) × (holder_of new ≡ holder_of l) × (starved_of new ≡ starved_of l)
+    unchanged : effect ≡ nothing → (es ≡ l.entries) × (holder_of new ≡ holder_of l) × (starved_of new ≡ starved_of l)
     unchanged e = (
-      list_so ∙ ap (λ (d : Deed Change ListName). entries_after p d l.entries) e,
-      holder_is deed r.holds ∙ ap (λ (d : Deed Change ListName). holder_after p d (holder_of l)) e,
-      starved_is deed r.starves ∙ ap (λ (d : Deed Change ListName). starved_after p d (starved_of l)) e,
+      list_so ∙ ap (λ (d : Effect Change ListName). entries_after p d l.entries) e,
+      holder_is effect r.holds ∙ ap (λ (d : Effect Change ListName). holder_after p d (holder_of l)) e,
+      starved_is effect r.starves ∙ ap (λ (d : Effect Change ListName). starved_after p d (starved_of l)) e,
     )
 
     reason_is : (e : End) → Reason memory l from f e → IsReason memory p l new e
@@ -191,17 +191,17 @@ module _ (memory : Bool) (p : ℕ) (from : Place) (f : Found) (l : Lock) (es : L
     reason_is (Refused Refusal.Starved) y = let same = unchanged y.2 in (y.0, sym k.same.starving ∙ y.1, same.0, same.1, same.2, sym k.same.counting ∙ y.3)
     reason_is _ y = absurd y
 
-    idle_by : (why : Refusal) → Reason memory l from f (Refused why) → deed ≡ nothing
+    idle_by : (why : Refusal) → Reason memory l from f (Refused why) → effect ≡ nothing
     idle_by Refusal.Memory y = y.2
     idle_by Refusal.Starved y = y.2
     idle_by _ y = absurd y
 
-    released : (x : Place) (g : Found) → Finds memory (action_of x) g l → is_releasing x ≡ true → deed_of (action_of x) g ≡ does for_the_lock (notifies 1)
+    released : (x : Place) (g : Found) → Finds memory (action_of x) g l → is_releasing x ≡ true → effect_of (action_of x) g ≡ does for_the_lock (notifies 1)
     released Place.ReleaseNotify Done e h = refl
     released Place.ReleaseNotify _ e h = absurd e
     released _ g e h = absurd (cc h)
 
-    refused_at : (x : Place) (g : Found) (why : Refusal) → Finds memory (action_of x) g l → decision x ≡ Some (Refused why) → listed x ≡ 0 → counted x ≡ 0 → (deed_of (action_of x) g ≡ does for_the_lock (notifies 1)) × (next_of x g ≡ Next.End (Refused why))
+    refused_at : (x : Place) (g : Found) (why : Refusal) → Finds memory (action_of x) g l → decision x ≡ Some (Refused why) → listed x ≡ 0 → counted x ≡ 0 → (effect_of (action_of x) g ≡ does for_the_lock (notifies 1)) × (next_of x g ≡ Next.End (Refused why))
     refused_at Place.RefuseNotifyMemory Done why e d none plain = (refl, ap Next.End (some_eq d))
     refused_at Place.RefuseNotifyMemory _ why e d none plain = absurd e
     refused_at Place.RefuseNotifyStarved Done why e d none plain = (refl, ap Next.End (some_eq d))
@@ -222,18 +222,18 @@ module _ (memory : Bool) (p : ℕ) (from : Place) (f : Found) (l : Lock) (es : L
 
     pub legal : IsLegal memory p (decision from) (next_of from f) l new
     legal = record {
-      deed = deed;
-      allowed = allowed_so deed r.holds r.starves r.finding;
-      holder = holder_is deed r.holds;
-      starved = starved_is deed r.starves;
+      effect = effect;
+      allowed = allowed_so effect r.holds r.starves r.finding;
+      holder = holder_is effect r.holds;
+      starved = starved_is effect r.starves;
       entries = list_so;
-      found_memory = λ list e. found_room memory deed list r.room e;
+      found_memory = λ list e. found_room memory effect list r.room e;
       limit = refl;
       parties = length-set l.places p to;
       others = λ q apart. get_or-set_other l.places p q to Out apart;
       kept = λ e is. let j = keep memory l from f (decision from) (decision_by (next_of from f)) e r.judged is in (decided ∙ j.0, j.1);
-      holds_on = λ none. held_on (decision from) deed r.holds_on none;
-      keeps_lock = λ got. kept_lock (decision from) deed r.holds_on got;
+      holds_on = λ none. held_on (decision from) effect r.holds_on none;
+      keeps_lock = λ got. kept_lock (decision from) effect r.holds_on got;
       refused_idly = λ why none is. idle_by why (judge memory l from f (decision from) (decision_by (next_of from f)) (Refused why) r.judged none (sym decided ∙ is));
       releases = λ is. released from f k.finds (k.same.releasing ∙ is);
       refuses = λ why d none plain. refused_at from f why k.finds d (k.same.standing ∙ none) (k.same.starving ∙ plain);

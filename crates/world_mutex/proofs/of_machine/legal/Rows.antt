@@ -1,34 +1,34 @@
--- Each action of a party, place by place: what it changes, and what it decides. Written by generators/mutex_rows.py.
-use Rattle.world_mutex.proofs.Prelude.{◌≡◌, ◌<◌, ◌⊎◌, inl, inr, Bool, true, false, Option, Some, None, refl, Memory, Starved, Deed, nothing, changes, does, joins, asks, leaves, notifies, notifies_additionally, Place, Out, Holding, Enter, Try, Clear, CancelUncount, CancelLeave, Join, Look, Ask, Retry, PassOn, Count, JoinStarved, LookAlone, PassOnListed, AskStarved, Seize, Uncount, Leave, RefuseUncount, RefuseLeave, RefuseNotifyMemory, RefuseNotifyStarved, ReleaseNotify, Action, Next, End, Got, Pending, NotFree, GivenBack, Refused, Found, Done, Free, Held, SomeStarved, AtLimit, NoMemory, Yes, No, action_of, next_of, counted, listed, Lock, Finds, holders, starved, is_holder, is_counted, decision, Change, ListName, takes, releases, starves, recovers, for_the_lock, gives_back, gives_up, is_release, is_counting, may_tell}
+-- Each action of a party, place by place: what it changes, and what it decides.
+use Rattle.world_mutex.proofs.Prelude.{◌≡◌, ◌<◌, ◌⊎◌, inl, inr, Bool, true, false, Option, Some, None, refl, Memory, Starved, Effect, nothing, changes, does, joins, asks, leaves, notifies, notifies_additionally, Place, Out, Holding, Enter, Try, Clear, CancelUncount, CancelLeave, Join, Look, Ask, Retry, PassOn, Count, JoinStarved, LookAlone, PassOnListed, AskStarved, Seize, Uncount, Leave, RefuseUncount, RefuseLeave, RefuseNotifyMemory, RefuseNotifyStarved, ReleaseNotify, Action, Next, End, Got, Pending, NotFree, GivenBack, Refused, Found, Done, Free, Held, SomeStarved, AtLimit, NoMemory, Yes, No, action_of, next_of, counted, listed, Lock, Finds, holders, starved, is_holder, is_counted, decision, Change, ListName, takes, releases, starves, recovers, for_the_lock, gives_back, gives_up, is_release, is_counting, may_tell}
 use Rattle.world_mutex.proofs.of_machine.laws.Kept.{after}
 
 -- what an action changes that found this
-abbrev pub deed_of : Action → Found → Deed Change ListName
-deed_of Action.Take Free = changes takes
-deed_of Action.TakeAlone Free = changes takes
-deed_of Action.Set Free = changes takes
-deed_of Action.Count Done = changes starves
-deed_of Action.Uncount Done = changes recovers
-deed_of Action.Clear Done = changes releases
-deed_of Action.Join Done = does for_the_lock joins
-deed_of Action.Ask Yes = does for_the_lock asks
-deed_of Action.Leave Done = does for_the_lock leaves
-deed_of Action.Notify Done = does for_the_lock (notifies 1)
-deed_of _ _ = nothing
+abbrev pub effect_of : Action → Found → Effect Change ListName
+effect_of Action.Take Free = changes takes
+effect_of Action.TakeAlone Free = changes takes
+effect_of Action.Set Free = changes takes
+effect_of Action.Count Done = changes starves
+effect_of Action.Uncount Done = changes recovers
+effect_of Action.Clear Done = changes releases
+effect_of Action.Join Done = does for_the_lock joins
+effect_of Action.Ask Yes = does for_the_lock asks
+effect_of Action.Leave Done = does for_the_lock leaves
+effect_of Action.Notify Done = does for_the_lock (notifies 1)
+effect_of _ _ = nothing
 
--- how a deed turns whether its party holds the lock, and whether it is starved
-abbrev pub Holds : Deed Change ListName → Bool → Bool → Type 0
+-- how an effect turns whether its party holds the lock, and whether it is starved
+abbrev pub Holds : Effect Change ListName → Bool → Bool → Type 0
 Holds (changes takes) b c = (b ≡ false) × (c ≡ true)
 Holds (changes releases) b c = (b ≡ true) × (c ≡ false)
 Holds _ b c = c ≡ b
 
-abbrev pub Starves : Deed Change ListName → Bool → Bool → Type 0
+abbrev pub Starves : Effect Change ListName → Bool → Bool → Type 0
 Starves (changes starves) b c = (b ≡ false) × (c ≡ true)
 Starves (changes recovers) b c = (b ≡ true) × (c ≡ false)
 Starves _ b c = c ≡ b
 
--- what a deed found
-abbrev pub Finding : Deed Change ListName → Lock → Place → Type 0
+-- what an effect found
+abbrev pub Finding : Effect Change ListName → Lock → Place → Type 0
 Finding (changes takes) l from = (holders l ≡ 0) × ((starved l ≡ 0) ⊎ (counted from ≡ 1))
 Finding (changes starves) l from = starved l < l.limit
 Finding (does list (notifies n)) l from = (n ≡ 1) × (may_tell from ≡ true)
@@ -45,32 +45,32 @@ Reason memory l from f Got = is_holder (after from f) ≡ true
 Reason memory l from f Pending = (action_of from ≡ Action.Ask) × (f ≡ No) × (listed from ≡ 1)
 Reason memory l from f NotFree = (holders l ≡ 1) ⊎ (0 < starved l)
 Reason memory l from f GivenBack = Unit {0}
-Reason memory l from f (Refused Memory) = (memory ≡ false) × (listed from ≡ 0) × (deed_of (action_of from) f ≡ nothing)
-Reason memory l from f (Refused Starved) = (starved l ≡ l.limit) × (counted from ≡ 0) × (deed_of (action_of from) f ≡ nothing) × (is_counting from ≡ true)
+Reason memory l from f (Refused Memory) = (memory ≡ false) × (listed from ≡ 0) × (effect_of (action_of from) f ≡ nothing)
+Reason memory l from f (Refused Starved) = (starved l ≡ l.limit) × (counted from ≡ 0) × (effect_of (action_of from) f ≡ nothing) × (is_counting from ≡ true)
 Reason memory l from f _ = ⊥
 
 abbrev pub Judged : Bool → Lock → Place → Found → Option End → Option End → Type 0
-Judged memory l from f (Some e) o = (o ≡ Some e) × (gives_back (deed_of (action_of from) f) ≡ true)
+Judged memory l from f (Some e) o = (o ≡ Some e) × (gives_back (effect_of (action_of from) f) ≡ true)
 Judged memory l from f None None = Unit {0}
 Judged memory l from f None (Some e) = Reason memory l from f e
 
 -- whether a join found memory, and that a party gives nothing up until its call is decided, and keeps the lock that it got
-abbrev pub Room : Bool → Deed Change ListName → Type 0
+abbrev pub Room : Bool → Effect Change ListName → Type 0
 Room memory (does list joins) = memory ≡ true
 Room memory _ = Unit {0}
 
-abbrev pub HoldsOn : Option End → Deed Change ListName → Type 0
+abbrev pub HoldsOn : Option End → Effect Change ListName → Type 0
 HoldsOn None d = gives_up d ≡ false
 HoldsOn (Some Got) d = is_release d ≡ false
 HoldsOn (Some e) d = Unit {0}
 
 pub record Row (memory : Bool) (l : Lock) (from : Place) (f : Found) : Type 0 where
-  pub holds : Holds (deed_of (action_of from) f) (is_holder from) (is_holder (after from f))
-  pub starves : Starves (deed_of (action_of from) f) (is_counted from) (is_counted (after from f))
-  pub finding : Finding (deed_of (action_of from) f) l from
+  pub holds : Holds (effect_of (action_of from) f) (is_holder from) (is_holder (after from f))
+  pub starves : Starves (effect_of (action_of from) f) (is_counted from) (is_counted (after from f))
+  pub finding : Finding (effect_of (action_of from) f) l from
   pub judged : Judged memory l from f (decision from) (decision_by (next_of from f))
-  pub room : Room memory (deed_of (action_of from) f)
-  pub holds_on : HoldsOn (decision from) (deed_of (action_of from) f)
+  pub room : Room memory (effect_of (action_of from) f)
+  pub holds_on : HoldsOn (decision from) (effect_of (action_of from) f)
 
 module _ (memory : Bool) (l : Lock) where
   pub row : (from : Place) (f : Found) → Finds memory (action_of from) f l → Row memory l from f

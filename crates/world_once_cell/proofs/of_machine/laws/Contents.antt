@@ -1,5 +1,5 @@
 -- What an action does to what is in the cell, and to what parties know of it.
-use Rattle.world_once_cell.proofs.Prelude.{◌≡◌, ◌≢◌, ℕ, ◌==◌, ◌⊎◌, inl, inr, true, false, List, Some, refl, arith, ap, sym, ◌∙◌, Entry, Inputs, some_eq, none_some, Found, ListName, Active, Passive, Place, Claim, ClaimListed, JoinActive, AskActive, LeaveToMake, Make, Fill, NotifyActive, NotifyPassive, Fail, FailNotify, LeaveFull, RefuseActive, Look, JoinPassive, LookListed, AskPassive, LeavePassive, RefusePassive, Try, TryFill, TryNotifyActive, TryNotifyPassive, CancelMake, CancelNotify, CancelLeave, Abandon, At, Content, action_of, makes_at, value_known, will_tell, Finds, deed_of, content_after, is_maker}
+use Rattle.world_once_cell.proofs.Prelude.{◌≡◌, ◌≢◌, ℕ, ◌==◌, ◌⊎◌, inl, inr, true, false, List, Some, refl, arith, ap, sym, ◌∙◌, Entry, Inputs, some_eq, none_some, Found, ListName, Active, Passive, Place, Claim, ClaimListed, JoinActive, AskActive, LeaveToMake, Make, Fill, NotifyActive, NotifyPassive, Fail, FailNotify, LeaveFull, RefuseActive, Look, JoinPassive, LookListed, AskPassive, LeavePassive, RefusePassive, Try, TryFill, TryNotifyActive, TryNotifyPassive, CancelMake, CancelNotify, CancelLeave, Abandon, At, Content, action_of, makes_at, value_known, will_tell, Finds, effect_of, content_after, is_maker}
 use Rattle.std.proofs.lemmas.Bool.Decides.{nat_tests}
 use Rattle.sync_program.specs.declared.once_cell.Found.TheVariants as found
 use Rattle.world_once_cell.proofs.of_machine.laws.Kept.{after}
@@ -26,7 +26,7 @@ not_its c p j h apart = ap (λ c. is_maker c j) (maker_is c p h) ∙ another p j
 
 module _ (i : Inputs) (p : ℕ) (c : Content) (q r : List (Entry ℕ)) where
   abbrev then : Place → Found → Content
-  then x f = content_after p (deed_of (action_of x) f) c
+  then x f = content_after p (effect_of (action_of x) f) c
 
   empty_full : (v : ℕ) → c ≡ Content.Empty → c ≡ Content.Full v → ⊥
   empty_full v e full = let never : Content.Empty ≡ Content.Full v = sym e ∙ full in cc never

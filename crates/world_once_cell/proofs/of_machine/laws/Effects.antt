@@ -1,8 +1,8 @@
 -- What an action does, in numbers.
-use Rattle.world_once_cell.proofs.Prelude.{ℕ, ◌<◌, Bool, true, false, List, length, refl, arith, ap, Entry, Additional, is_marked_at, marked_count, mark_waiting, is_party, Queue, Inputs, joins, asks, leaves, notifies, notifies_additionally, counted, mark_some, Action, Found, Active, Passive, Content, CanDo, Finds, deed_of, content_after, active_after, everyone, tally_of, free_of}
+use Rattle.world_once_cell.proofs.Prelude.{ℕ, ◌<◌, Bool, true, false, List, length, refl, arith, ap, Entry, Additional, is_marked_at, marked_count, mark_waiting, is_party, Queue, Inputs, joins, asks, leaves, notifies, notifies_additionally, counted, mark_some, Action, Found, Active, Passive, Content, CanDo, Finds, effect_of, content_after, active_after, everyone, tally_of, free_of}
 use Rattle.sync_program.specs.declared.once_cell.Action.TheVariants as act
 use Rattle.sync_program.specs.declared.once_cell.Found.TheVariants as found
-use Rattle.world_once_cell.proofs.of_machine.laws.Steps.{Effect}
+use Rattle.world_once_cell.proofs.of_machine.laws.Steps.{OnTally}
 
 -- where a list isn't empty, telling all marks some entry
 tell_some : (l : List (Entry ℕ)) → 0 < length l → 0 < marked_count (mark_waiting Additional everyone l)
@@ -12,7 +12,7 @@ module _ (p : ℕ) (c : Content) (q r : Queue) (i : Inputs) where
   abbrev told : Bool
   told = is_marked_at (is_party p) q.entries
 
-  pub numbers : (a : Action) (f : Found) → Finds i p a f c q.entries r.entries → CanDo p a q r → Effect a f (tally_of c q.entries) (tally_of (content_after p (deed_of a f) c) (active_after p (deed_of a f) q.entries))
+  pub numbers : (a : Action) (f : Found) → Finds i p a f c q.entries r.entries → CanDo p a q r → OnTally a f (tally_of c q.entries) (tally_of (content_after p (effect_of a f) c) (active_after p (effect_of a f) q.entries))
   numbers act.Claim found.Empty e k = (ap free_of e, refl, (refl, refl))
   numbers act.Claim found.BeingMade e k = (ap free_of e.1, (refl, (refl, refl)))
   numbers act.Claim (found.Full v) e k = (ap free_of e, (refl, (refl, refl)))

@@ -3,7 +3,7 @@ use Rattle.world_once_cell.proofs.Prelude.{◌≡◌, ◌+◌, ◌<◌, ◌≤�
 use Rattle.world_base.proofs.of_queue.Debts.{still_owed}
 use Rattle.sync_program.specs.declared.once_cell.Found.TheVariants as found
 use Rattle.world_once_cell.specs.machine.Tally.{IsSound}
-use Rattle.world_once_cell.proofs.of_machine.laws.Steps.{Effect, Goes}
+use Rattle.world_once_cell.proofs.of_machine.laws.Steps.{OnTally, Goes}
 
 abbrev pub after : Place → Found → Position
 after x f = position_after (next_of x f)
@@ -16,7 +16,7 @@ still s t a b size passed all few same some owed =
 
 module _ (s t : Tally) (a b : Counts) where
   -- rows: place, finding
-  pub kept : (x : Place) (f : Found) → Effect (action_of x) f s t → IsSound s a → b.waiting ≤ b.listed → Goes (At x) (after x f) a b → IsSound t b
+  pub kept : (x : Place) (f : Found) → OnTally (action_of x) f s t → IsSound s a → b.waiting ≤ b.listed → Goes (At x) (after x f) a b → IsSound t b
   kept (Claim k true) found.Empty e i c m = record { in_list = omega arith; owed = λ h w. omega arith }
   kept (Claim k true) found.BeingMade e i c m = record { in_list = omega arith; owed = λ h w. omega arith }
   kept (Claim k true) (found.Full u) e i c m = record { in_list = omega arith; owed = λ h w. omega arith }

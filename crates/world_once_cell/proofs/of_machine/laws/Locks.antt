@@ -1,12 +1,12 @@
 -- An action of one party keeps what always holds of a cell.
-use Rattle.world_once_cell.proofs.Prelude.{◌≡◌, ◌≢◌, ℕ, ◌+◌, ◌*◌, ◌<◌, ◌≤◌, true, false, List, length, get_or, Some, refl, arith, ap, sym, subst, ◌∙◌, length-set, get_or-set_same, get_or-set_other, set, ℕ_discrete, sum_by, sum_by-set, sum_by-le, sum_by-le-sum_by, get_or-le-sum_by, Entry, entries_of, Inputs, Deed, nothing, changes, does, some_eq, Queue, queue, What, Rest, Stage, Within, call_at, polls_again, stage_after, Keeps, CanList, joined_own, asked_own, asked_not, left_own, notified_own, notified_additionally_own, Action, Found, ListName, Active, Passive, Place, Claim, ClaimListed, JoinActive, AskActive, LeaveToMake, Make, Fill, NotifyActive, NotifyPassive, Fail, FailNotify, LeaveFull, RefuseActive, Look, JoinPassive, LookListed, AskPassive, LeavePassive, RefusePassive, Try, TryFill, TryNotifyActive, TryNotifyPassive, CancelMake, CancelNotify, CancelLeave, Abandon, Position, Out, WaitingToMake, Waiting, At, Content, place_for, action_of, next_of, Seat, seat_of, seated, makes_at, in_active, in_passive_at, waits, owes, value_known, Change, CanDo, Finds, deed_of, content_after, active_after, passive_after, everyone, Tally, tally_of, counts_of, OnceCell, IsKept, knows, goes_with, answer_by, position_at, is_maker}
+use Rattle.world_once_cell.proofs.Prelude.{◌≡◌, ◌≢◌, ℕ, ◌+◌, ◌*◌, ◌<◌, ◌≤◌, true, false, List, length, get_or, Some, refl, arith, ap, sym, subst, ◌∙◌, length-set, get_or-set_same, get_or-set_other, set, ℕ_discrete, sum_by, sum_by-set, sum_by-le, sum_by-le-sum_by, get_or-le-sum_by, Entry, entries_of, Inputs, Effect, nothing, changes, does, some_eq, Queue, queue, What, Rest, Stage, Within, call_at, polls_again, stage_after, Keeps, CanList, joined_own, asked_own, asked_not, left_own, notified_own, notified_additionally_own, Action, Found, ListName, Active, Passive, Place, Claim, ClaimListed, JoinActive, AskActive, LeaveToMake, Make, Fill, NotifyActive, NotifyPassive, Fail, FailNotify, LeaveFull, RefuseActive, Look, JoinPassive, LookListed, AskPassive, LeavePassive, RefusePassive, Try, TryFill, TryNotifyActive, TryNotifyPassive, CancelMake, CancelNotify, CancelLeave, Abandon, Position, Out, WaitingToMake, Waiting, At, Content, place_for, action_of, next_of, Seat, seat_of, seated, makes_at, in_active, in_passive_at, waits, owes, value_known, Change, CanDo, Finds, effect_of, content_after, active_after, passive_after, everyone, Tally, tally_of, counts_of, OnceCell, IsKept, knows, goes_with, answer_by, position_at, is_maker}
 use Rattle.std.proofs.lemmas.List.{get_or_default}
 use Rattle.world_base.proofs.Lists as lists
 use Rattle.sync_program.specs.declared.once_cell.Action.TheVariants as act
 use Rattle.sync_program.specs.declared.once_cell.Found.TheVariants as found
 use Rattle.world_once_cell.specs.machine.Tally.{IsSound}
 use Rattle.world_once_cell.specs.machine.Machine.{Stands}
-use Rattle.world_once_cell.proofs.of_machine.laws.Steps.{Effect, Goes}
+use Rattle.world_once_cell.proofs.of_machine.laws.Steps.{OnTally, Goes}
 use Rattle.world_once_cell.proofs.of_machine.laws.Effects.{numbers}
 use Rattle.world_once_cell.proofs.of_machine.laws.Kept.{after, kept}
 use Rattle.world_once_cell.proofs.of_machine.laws.CanDo.{can_do}
@@ -43,19 +43,19 @@ module _ (xs : List Position) (p : ℕ) (x : Place) (to : Position) where
       }
 
 -- whose the entries are, after what an action does
-abbrev CanOf : ListName → ℕ → List (Entry ℕ) → Deed Change ListName → Type 0
+abbrev CanOf : ListName → ℕ → List (Entry ℕ) → Effect Change ListName → Type 0
 CanOf Active p l (does Active f) = CanList p l f
 CanOf Passive p l (does Passive f) = CanList p l f
 CanOf list p l _ = Unit {0}
 
 module _ (p : ℕ) (l : List (Entry ℕ)) where
-  others_active : (d : Deed Change ListName) (j : ℕ) → j ≢ p → entries_of j (active_after p d l) ≡ entries_of j l
+  others_active : (d : Effect Change ListName) (j : ℕ) → j ≢ p → entries_of j (active_after p d l) ≡ entries_of j l
   others_active nothing j apart = refl
   others_active (changes c) j apart = refl
   others_active (does Active f) j apart = lists.others p l f j apart
   others_active (does Passive f) j apart = refl
 
-  others_passive : (d : Deed Change ListName) (j : ℕ) → j ≢ p → entries_of j (passive_after p d l) ≡ entries_of j l
+  others_passive : (d : Effect Change ListName) (j : ℕ) → j ≢ p → entries_of j (passive_after p d l) ≡ entries_of j l
   others_passive nothing j apart = refl
   others_passive (changes c) j apart = refl
   others_passive (does Passive f) j apart = lists.others p l f j apart
@@ -63,13 +63,13 @@ module _ (p : ℕ) (l : List (Entry ℕ)) where
 
 -- a list grows and shrinks by the party's own entry
 module _ (p : ℕ) (l : List (Entry ℕ)) where
-  own_active : (d : Deed Change ListName) → CanOf Active p l d → entries_of p (active_after p d l) + length l ≡ entries_of p l + length (active_after p d l)
+  own_active : (d : Effect Change ListName) → CanOf Active p l d → entries_of p (active_after p d l) + length l ≡ entries_of p l + length (active_after p d l)
   own_active nothing can = refl
   own_active (changes c) can = refl
   own_active (does Active f) can = lists.own p l f can
   own_active (does Passive f) can = refl
 
-  own_passive : (d : Deed Change ListName) → CanOf Passive p l d → entries_of p (passive_after p d l) + length l ≡ entries_of p l + length (passive_after p d l)
+  own_passive : (d : Effect Change ListName) → CanOf Passive p l d → entries_of p (passive_after p d l) + length l ≡ entries_of p l + length (passive_after p d l)
   own_passive nothing can = refl
   own_passive (changes c) can = refl
   own_passive (does Passive f) can = lists.own p l f can
@@ -77,7 +77,7 @@ module _ (p : ℕ) (l : List (Entry ℕ)) where
 
 module _ (i : Inputs) (p : ℕ) (c : Content) (q r : List (Entry ℕ)) where
   -- the party's entries are told by where it then stands
-  active_then : (x : Place) (f : Found) → Finds i p (action_of x) f c q r → entries_of p q ≡ in_active (At x) → entries_of p (active_after p (deed_of (action_of x) f) q) ≡ in_active (after x f)
+  active_then : (x : Place) (f : Found) → Finds i p (action_of x) f c q r → entries_of p q ≡ in_active (At x) → entries_of p (active_after p (effect_of (action_of x) f) q) ≡ in_active (after x f)
   active_then (Claim k told) found.Empty e h = h
   active_then (Claim k told) (found.Full u) e h = h
   active_then (Claim k told) _ e h = h
@@ -146,7 +146,7 @@ module _ (i : Inputs) (p : ℕ) (c : Content) (q r : List (Entry ℕ)) where
   active_then (CancelLeave Passive) _ e h = absurd e
   active_then Abandon f e h = h
 
-  passive_then : (x : Place) (f : Found) → Finds i p (action_of x) f c q r → entries_of p r ≡ in_passive_at (At x) → entries_of p (passive_after p (deed_of (action_of x) f) r) ≡ in_passive_at (after x f)
+  passive_then : (x : Place) (f : Found) → Finds i p (action_of x) f c q r → entries_of p r ≡ in_passive_at (At x) → entries_of p (passive_after p (effect_of (action_of x) f) r) ≡ in_passive_at (after x f)
   passive_then (Claim k told) found.Empty e h = h
   passive_then (Claim k told) (found.Full u) e h = h
   passive_then (Claim k told) _ e h = h
@@ -215,7 +215,7 @@ module _ (i : Inputs) (p : ℕ) (c : Content) (q r : List (Entry ℕ)) where
   passive_then (CancelLeave Passive) _ e h = absurd e
   passive_then Abandon f e h = h
 
-can_active : (p : ℕ) (q r : Queue) (a : Action) (f : Found) → CanDo p a q r → CanOf Active p q.entries (deed_of a f)
+can_active : (p : ℕ) (q r : Queue) (a : Action) (f : Found) → CanDo p a q r → CanOf Active p q.entries (effect_of a f)
 can_active p q r (act.Join Active) found.Done k = tt
 can_active p q r (act.Join Active) _ k = tt
 can_active p q r (act.Join Passive) found.Done k = tt
@@ -248,7 +248,7 @@ can_active p q r act.Empty found.Done k = tt
 can_active p q r act.Empty _ k = tt
 can_active p q r act.Nothing f k = tt
 
-can_passive : (p : ℕ) (q r : Queue) (a : Action) (f : Found) → CanDo p a q r → CanOf Passive p r.entries (deed_of a f)
+can_passive : (p : ℕ) (q r : Queue) (a : Action) (f : Found) → CanDo p a q r → CanOf Passive p r.entries (effect_of a f)
 can_passive p q r (act.Join Passive) found.Done k = tt
 can_passive p q r (act.Join Passive) _ k = tt
 can_passive p q r (act.Join Active) found.Done k = tt
@@ -310,17 +310,17 @@ fits_all g xs n most e few =
 
 module _ (p : ℕ) (c : Content) (xs : List Position) (q r : Queue) (i : Inputs) where
   pub locked : (w : Within) (x : Place) (f : Found) → IsKept c xs q r → p < length xs → Fits w (position_at xs p) x → Finds i p (action_of x) f c q.entries r.entries
-      → IsKept (content_after p (deed_of (action_of x) f) c) (set xs p (after x f)) (queue q.parties (active_after p (deed_of (action_of x) f) q.entries)) (queue r.parties (passive_after p (deed_of (action_of x) f) r.entries))
+      → IsKept (content_after p (effect_of (action_of x) f) c) (set xs p (after x f)) (queue q.parties (active_after p (effect_of (action_of x) f) q.entries)) (queue r.parties (passive_after p (effect_of (action_of x) f) r.entries))
   locked w x f lock known fit finds =
       let to : Position = after x f in
-      let d : Deed Change ListName = deed_of (action_of x) f in
+      let d : Effect Change ListName = effect_of (action_of x) f in
       let can : CanDo p (action_of x) q r = can_do p c xs q r lock known x fit.same in
       let s : Tally = tally_of c q.entries in
       let t : Tally = tally_of (content_after p d c) (active_after p d q.entries) in
-      let effect : Effect (action_of x) f s t = numbers p c q r i (action_of x) f finds can in
+      let on_tally : OnTally (action_of x) f s t = numbers p c q r i (action_of x) f finds can in
       let go : Goes (At x) to (counts_of xs) (counts_of (set xs p to)) = goes xs p x to known fit.same in
       let few : sum_by waits (set xs p to) ≤ sum_by in_active (set xs p to) = sum_by-le-sum_by waits in_active (set xs p to) waits_there in
-      let sound : IsSound t (counts_of (set xs p to)) = kept s t (counts_of xs) (counts_of (set xs p to)) x f effect lock.sound few go in
+      let sound : IsSound t (counts_of (set xs p to)) = kept s t (counts_of xs) (counts_of (set xs p to)) x f on_tally lock.sound few go in
       let was : entries_of p q.entries ≡ in_active (At x) = lock.active_owners p ∙ ap (λ (z : Seat). z.active) (sym fit.same) in
       let now : entries_of p (active_after p d q.entries) ≡ in_active to = active_then i p c q.entries r.entries x f finds was in
       let was_passive : entries_of p r.entries ≡ in_passive_at (At x) = lock.passive_owners p ∙ ap (λ (z : Seat). z.passive) (sym fit.same) in
@@ -375,7 +375,7 @@ pub never_lost : (xs : List Position) (p : ℕ) (w : Within) (what : What) (s : 
 never_lost xs p w what s stands call first = let t = fits s what w (position_at xs p) stands call first in (t.from, t.starts)
 
 pub keeps : (x y : OnceCell) (p : ℕ) (i : Inputs) (w : Within) (from : Place) (f : Found) (s : Stage) → p < length x.positions → Fits w (position_at x.positions p) from → Stands x p s → ((q : ℕ) → makes_at (position_at x.positions q) ≡ is_maker x.content q)
-    → Finds i p (action_of from) f x.content x.active x.passive → y.positions ≡ set x.positions p (after from f) → y.content ≡ content_after p (deed_of (action_of from) f) x.content
+    → Finds i p (action_of from) f x.content x.active x.passive → y.positions ≡ set x.positions p (after from f) → y.content ≡ content_after p (effect_of (action_of from) f) x.content
     → Keeps (λ (s : OnceCell). length s.positions) Stands x p (stage_after Rest.Finished w (answer_by (next_of from f))) y
 keeps x y p i w from f s known fit stood makers finds to content = (
     let P : List Position → Type 0 = λ ps. goes_with (stage_after Rest.Finished w (answer_by (next_of from f))) (position_at ps p) ≡ true in

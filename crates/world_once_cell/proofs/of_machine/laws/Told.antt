@@ -1,5 +1,5 @@
 -- Whom a full cell has told.
-use Rattle.world_once_cell.proofs.Prelude.{◌≡◌, ◌≢◌, ℕ, ◌<◌, ◌≤◌, inl, inr, Bool, true, false, List, length, refl, ap, sym, ◌∙◌, subst, get_or-set_same, get_or-set_other, set, ℕ_discrete, Entry, entries_of, is_unmarked, never_unlisted, all_marked, unmarked_before, Inputs, Deed, nothing, changes, does, Found, ListName, Active, Passive, Place, Claim, ClaimListed, JoinActive, AskActive, LeaveToMake, Make, Fill, NotifyActive, NotifyPassive, Fail, FailNotify, LeaveFull, RefuseActive, Look, JoinPassive, LookListed, AskPassive, LeavePassive, RefusePassive, Try, TryFill, TryNotifyActive, TryNotifyPassive, CancelMake, CancelNotify, CancelLeave, Abandon, Position, Out, At, Content, action_of, in_active, in_passive_at, is_late, will_tell, Finds, deed_of, content_after, active_after, passive_after, list_of, everyone, Change, position_at, AllTold}
+use Rattle.world_once_cell.proofs.Prelude.{◌≡◌, ◌≢◌, ℕ, ◌<◌, ◌≤◌, inl, inr, Bool, true, false, List, length, refl, ap, sym, ◌∙◌, subst, get_or-set_same, get_or-set_other, set, ℕ_discrete, Entry, entries_of, is_unmarked, never_unlisted, all_marked, unmarked_before, Inputs, Effect, nothing, changes, does, Found, ListName, Active, Passive, Place, Claim, ClaimListed, JoinActive, AskActive, LeaveToMake, Make, Fill, NotifyActive, NotifyPassive, Fail, FailNotify, LeaveFull, RefuseActive, Look, JoinPassive, LookListed, AskPassive, LeavePassive, RefusePassive, Try, TryFill, TryNotifyActive, TryNotifyPassive, CancelMake, CancelNotify, CancelLeave, Abandon, Position, Out, At, Content, action_of, in_active, in_passive_at, is_late, will_tell, Finds, effect_of, content_after, active_after, passive_after, list_of, everyone, Change, position_at, AllTold}
 use Rattle.lock_event.specs.declared.event.Mark.{Mark}
 use Rattle.sync_program.specs.declared.once_cell.Found.TheVariants as found
 use Rattle.world_once_cell.proofs.of_machine.laws.Kept.{after}
@@ -9,12 +9,12 @@ abbrev pub in_list : ListName → Position → ℕ
 in_list Active x = in_active x
 in_list Passive x = in_passive_at x
 
--- a list after a deed
-abbrev pub entries_after : ListName → ℕ → Deed Change ListName → List (Entry ℕ) → List (Entry ℕ)
+-- a list after an effect
+abbrev pub entries_after : ListName → ℕ → Effect Change ListName → List (Entry ℕ) → List (Entry ℕ)
 entries_after Active p d l = active_after p d l
 entries_after Passive p d l = passive_after p d l
 
-others_unmarked : (list : ListName) (p : ℕ) (d : Deed Change ListName) (l : List (Entry ℕ)) (j : ℕ) → j ≢ p → is_unmarked j (entries_after list p d l) ≡ true → is_unmarked j l ≡ true
+others_unmarked : (list : ListName) (p : ℕ) (d : Effect Change ListName) (l : List (Entry ℕ)) (j : ℕ) → j ≢ p → is_unmarked j (entries_after list p d l) ≡ true → is_unmarked j l ≡ true
 others_unmarked Active p (does Active f) l j apart h = unmarked_before p f l j apart h
 others_unmarked Active p (does Passive f) l j apart h = h
 others_unmarked Active p nothing l j apart h = h
@@ -26,10 +26,10 @@ others_unmarked Passive p (changes c) l j apart h = h
 
 module _ (i : Inputs) (p : ℕ) (c : Content) (q r : List (Entry ℕ)) where
   abbrev then : Place → Found → Content
-  then x f = content_after p (deed_of (action_of x) f) c
+  then x f = content_after p (effect_of (action_of x) f) c
 
   abbrev list_then : ListName → Place → Found → List (Entry ℕ)
-  list_then list x f = entries_after list p (deed_of (action_of x) f) (list_of list q r)
+  list_then list x f = entries_after list p (effect_of (action_of x) f) (list_of list q r)
 
   -- who has just told all has left nobody unmarked
   told_all : (list : ListName) (x : Place) (f : Found) → Finds i p (action_of x) f c q r → will_tell list (At x) ≡ true → will_tell list (after x f) ≡ false → length (list_of list q r) ≤ everyone → (j : ℕ) → is_unmarked j (list_then list x f) ≡ true → ⊥
@@ -184,5 +184,5 @@ module _ (i : Inputs) (p : ℕ) (c : Content) (q r : List (Entry ℕ)) where
         | yes e ↦ (let P : ℕ → Type 0 = λ k. is_unmarked k (list_then list x f) ≡ true in
             let mine : is_late list to ≡ true = own_told list x f finds v full own (subst P e u) (λ h unmarked. sym late ∙ was v h (nobody is none) p unmarked) in
             ap (λ k. is_late list (position_at ys k)) e ∙ (ap (is_late list) landed ∙ mine))
-        | no apart ↦ ap (is_late list) (get_or-set_other xs p j to Out apart) ∙ was v before (nobody is none) j (others_unmarked list p (deed_of (action_of x) f) (list_of list q r) j apart u)
+        | no apart ↦ ap (is_late list) (get_or-set_other xs p j to Out apart) ∙ was v before (nobody is none) j (others_unmarked list p (effect_of (action_of x) f) (list_of list q r) j apart u)
       ]

@@ -1,5 +1,5 @@
 -- What calls do that are carried out alone.
-use Rattle.world_semaphore.proofs.Prelude.{◌≡◌, ℕ, ◌<◌, ◌≤◌, ◌⊎◌, inl, inr, Bool, true, false, Option, Some, None, refl, arith, ap, sym, ◌∙◌, subst, ℕ_discrete, some_eq, none_some, marked_count, fitted, entries_of, is_refusal, is_stepped, Plain, Refusal, Action, Next, Place, Take, Join, Ask, Remove, Load, HandOn, PassOn, RefuseFit, GiveAdded, FitAdded, CancelLoad, FitGivenBack, Abandon, Position, Out, At, Words, action_of, next_of, position_after, Debt, a_look, a_fit, seat_of, size_at, listed, deed_of, Finds, words_after, entries_after, Semaphore, position_at, sizes_of, is_begun, answer_by}
+use Rattle.world_semaphore.proofs.Prelude.{◌≡◌, ℕ, ◌<◌, ◌≤◌, ◌⊎◌, inl, inr, Bool, true, false, Option, Some, None, refl, arith, ap, sym, ◌∙◌, subst, ℕ_discrete, some_eq, none_some, marked_count, fitted, entries_of, is_refusal, is_stepped, Plain, Refusal, Action, Next, Place, Take, Join, Ask, Remove, Load, HandOn, PassOn, RefuseFit, GiveAdded, FitAdded, CancelLoad, FitGivenBack, Abandon, Position, Out, At, Words, action_of, next_of, position_after, Debt, a_look, a_fit, seat_of, size_at, listed, effect_of, Finds, words_after, entries_after, Semaphore, position_at, sizes_of, is_begun, answer_by}
 use Rattle.lock_program.specs.declared.end.End.{End}
 use Rattle.lock_program.specs.declared.end.End.TheVariants.{Got, Granted, Pending, GivenBack, Refused}
 use Rattle.lock_program.specs.declared.end.Next.TheVariants as comes
@@ -262,16 +262,16 @@ module _ (memory : Bool) (p : ℕ) where
     pub next_step : s ≡ step_of n
     next_step = h.step ∙ ap step_of h.did.acts.next_is
 
-    covered_so : IsCovered old → CoversBy h.from (marked_count (entries_after sizes p (deed_of (action_of h.from) h.did.acts.found) S.entries)) (words_after (deed_of (action_of h.from) h.did.acts.found) S.words).available n
+    covered_so : IsCovered old → CoversBy h.from (marked_count (entries_after sizes p (effect_of (action_of h.from) h.did.acts.found) S.entries)) (words_after (effect_of (action_of h.from) h.did.acts.found) S.words).available n
     covered_so c =
         let P : Permits → Type 0 = λ z. IsCovered z in
         let Q : Debt → Type 0 = λ d. Covered d (marked_count S.entries) S.words.available in
         covers memory p S.words S.entries sizes h.from h.did.acts.found finds own (subst Q (clauses.debt_old memory p h.from h.next S T h.did) (subst P h.old_is c))
 
-    marks_are : marked_count T.entries ≡ marked_count (entries_after sizes p (deed_of (action_of h.from) h.did.acts.found) S.entries)
+    marks_are : marked_count T.entries ≡ marked_count (entries_after sizes p (effect_of (action_of h.from) h.did.acts.found) S.entries)
     marks_are = ap marked_count h.did.acts.acts.entries
 
-    available_is : T.words.available ≡ (words_after (deed_of (action_of h.from) h.did.acts.found) S.words).available
+    available_is : T.words.available ≡ (words_after (effect_of (action_of h.from) h.did.acts.found) S.words).available
     available_is = ap (λ (v : Words). v.available) h.did.acts.acts.words
 
     course_then : (z : Place) → position_after n ≡ At z → course_at (seen T).courses p ≡ course_in z
@@ -280,7 +280,7 @@ module _ (memory : Bool) (p : ℕ) where
     on_then : IsCovered old → (z : Place) → position_after n ≡ At z → IsCovered (seen T)
     on_then c z e =
         let so = (covered_so c).0 z e in
-        let A : ℕ → Type 0 = λ b. Covered (seat_of z).debt b (words_after (deed_of (action_of h.from) h.did.acts.found) S.words).available in
+        let A : ℕ → Type 0 = λ b. Covered (seat_of z).debt b (words_after (effect_of (action_of h.from) h.did.acts.found) S.words).available in
         let B : ℕ → Type 0 = λ b. Covered (seat_of z).debt (marked_count T.entries) b in
         let C : Debt → Type 0 = λ d. Covered d (marked_count T.entries) T.words.available in
         subst C (sym (ap course.debt (course_then z e) ∙ debt_seen (At z))) (subst B (sym available_is) (subst A (sym marks_are) so))
@@ -295,7 +295,7 @@ module _ (memory : Bool) (p : ℕ) where
 
     pub told_then : (c : ℕ) → action_of h.from ≡ Action.Fit c → T.entries ≡ fitted sizes c S.entries
     told_then c e =
-        let F : Action → Type 0 = λ b. Finds memory p b h.did.acts.found S.words S.entries × (T.entries ≡ entries_after sizes p (deed_of b h.did.acts.found) S.entries) in
+        let F : Action → Type 0 = λ b. Finds memory p b h.did.acts.found S.words S.entries × (T.entries ≡ entries_after sizes p (effect_of b h.did.acts.found) S.entries) in
         let so : F (Action.Fit c) = subst F e (finds, h.did.acts.acts.entries) in
         fit_done memory p c h.did.acts.found S.words sizes S.entries T.entries so.0 so.1
 
@@ -315,7 +315,7 @@ module _ (memory : Bool) (p : ℕ) where
     marks_then : IsCovered old → (e : End) → s ≡ step.End e → MarksWanted (seen T)
     marks_then c e is =
         let over : is_stepped (answer_by n) ≡ false = ap is_stepped (ended_so n e (sym next_step ∙ is)) ∙ unstepped e in
-        let A : ℕ → Type 0 = λ b. EndsCovered h.from b (words_after (deed_of (action_of h.from) h.did.acts.found) S.words).available in
+        let A : ℕ → Type 0 = λ b. EndsCovered h.from b (words_after (effect_of (action_of h.from) h.did.acts.found) S.words).available in
         let B : ℕ → Type 0 = λ b. EndsCovered h.from (marked_count T.entries) b in
         by_end (subst B (sym available_is) (subst A (sym marks_are) ((covered_so c).1 over)))
 

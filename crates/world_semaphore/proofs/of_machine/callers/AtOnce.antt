@@ -1,5 +1,5 @@
 -- What a call's first step does at once, and what is told in turn.
-use Rattle.world_semaphore.proofs.Prelude.{none_some, ◌≡◌, ℕ, ◌+◌, ◌<◌, ◌≤◌, ◌⊎◌, inl, inr, ◌↔◌, Bool, true, false, List, Some, refl, arith, ap, sym, ◌∙◌, subst, get_or, get_or-le-sum_by, sum_by, Entry, without, fitted, is_party, entries_of, Found, Done, Left, Short, Available, PastLimit, Yes, No, Next, Place, Take, Retake, Remove, Load, HandOn, PassOn, RefuseFit, Try, Lower, GiveBack, Raise, GiveAdded, FitAdded, CancelLoad, FitGivenBack, Position, Out, At, Words, action_of, next_of, Share, guard_of, nothing_had, permits_of, permits_at, a_look, a_fit, seat_of, share_of, listed, deed_of, Finds, FindsPermits, words_after, entries_after, Semaphore, is_begun, position_at}
+use Rattle.world_semaphore.proofs.Prelude.{none_some, ◌≡◌, ℕ, ◌+◌, ◌<◌, ◌≤◌, ◌⊎◌, inl, inr, ◌↔◌, Bool, true, false, List, Some, refl, arith, ap, sym, ◌∙◌, subst, get_or, get_or-le-sum_by, sum_by, Entry, without, fitted, is_party, entries_of, Found, Done, Left, Short, Available, PastLimit, Yes, No, Next, Place, Take, Retake, Remove, Load, HandOn, PassOn, RefuseFit, Try, Lower, GiveBack, Raise, GiveAdded, FitAdded, CancelLoad, FitGivenBack, Position, Out, At, Words, action_of, next_of, Share, guard_of, nothing_had, permits_of, permits_at, a_look, a_fit, seat_of, share_of, listed, effect_of, Finds, FindsPermits, words_after, entries_after, Semaphore, is_begun, position_at}
 use Rattle.lock_program.specs.declared.end.End.{End}
 use Rattle.lock_program.specs.declared.end.End.TheVariants.{Got, Granted, Pending, GivenBack}
 use Rattle.lock_program.specs.declared.mutex.Step.TheVariants as step
@@ -20,7 +20,7 @@ use Rattle.world_semaphore.specs.machine.Seen.{course_in, course_of, seen}
 -- where so many are available
 record Looked (n available : ℕ) (y : Place) (f : Found) : Type 0 where
   pub shares : (share_of (after y f) ≡ guard_of n) ↔ (n ≤ available)
-  pub same : (size : ℕ → ℕ) (p : ℕ) (l : List (Entry ℕ)) → entries_after size p (deed_of (action_of y) f) l ≡ l
+  pub same : (size : ℕ → ℕ) (p : ℕ) (l : List (Entry ℕ)) → entries_after size p (effect_of (action_of y) f) l ≡ l
   pub decides : n ≤ available → (decided_then (step_of (next_of y f)) (course_of (after y f)) ≡ Some Got) ⊎ ((y ≡ Try n) × (step_of (next_of y f) ≡ step.End Granted))
   pub ends : n ≤ available → (y ≡ Take n false false) ⊎ (y ≡ Try n) → ((y ≡ Take n false false) × (step_of (next_of y f) ≡ step.End Got)) ⊎ ((y ≡ Try n) × (step_of (next_of y f) ≡ step.End Granted))
 
@@ -59,11 +59,11 @@ raised memory p n w l Done e fits = refl
 raised memory p n w l PastLimit e fits = absurd (omega (arith, e, fits))
 raised memory p n w l _ e fits = absurd e
 
-lowered : (memory : Bool) (p n : ℕ) (w : Words) (l : List (Entry ℕ)) (f : Found) → Finds memory p (action_of (Lower n)) f w l → n ≤ w.limit → (words_after (deed_of (action_of (Lower n)) f) w).limit + n ≡ w.limit
+lowered : (memory : Bool) (p n : ℕ) (w : Words) (l : List (Entry ℕ)) (f : Found) → Finds memory p (action_of (Lower n)) f w l → n ≤ w.limit → (words_after (effect_of (action_of (Lower n)) f) w).limit + n ≡ w.limit
 lowered memory p n w l Done e few = omega (arith, few)
 lowered memory p n w l _ e few = absurd e
 
-returned : (memory : Bool) (p n : ℕ) (w : Words) (l : List (Entry ℕ)) (f : Found) → Finds memory p (action_of (GiveBack n)) f w l → ((words_after (deed_of (action_of (GiveBack n)) f) w).available ≡ w.available + n) × (course_of (after (GiveBack n) f) ≡ decided GivenBack 0 false (a_fit (words_after (deed_of (action_of (GiveBack n)) f) w).available))
+returned : (memory : Bool) (p n : ℕ) (w : Words) (l : List (Entry ℕ)) (f : Found) → Finds memory p (action_of (GiveBack n)) f w l → ((words_after (effect_of (action_of (GiveBack n)) f) w).available ≡ w.available + n) × (course_of (after (GiveBack n) f) ≡ decided GivenBack 0 false (a_fit (words_after (effect_of (action_of (GiveBack n)) f) w).available))
 returned memory p n w l (Available a) e = (refl, ap (λ c. decided GivenBack 0 false (a_fit c)) e)
 returned memory p n w l _ e = absurd e
 
@@ -110,11 +110,11 @@ module _ (memory : Bool) (p : ℕ) (from : Place) (next : Next) (s t : Semaphore
       by_place : (P : Place → Type 0) (y : Place) → from ≡ y → (Finds memory p (action_of y) found s.words s.entries → P y) → P from
       by_place P y e h = let Q : Place → Type 0 = λ z. Finds memory p (action_of z) found s.words s.entries in subst P (sym e) (h (subst Q e finds))
 
-      lowered_at : from ≡ Lower k → (words_after (deed_of (action_of from) found) s.words).limit + k ≡ s.words.limit
-      lowered_at e = by_place (λ y. (words_after (deed_of (action_of y) found) s.words).limit + k ≡ s.words.limit) (Lower k) e (λ f. lowered memory p k s.words s.entries found f (has_few k e))
+      lowered_at : from ≡ Lower k → (words_after (effect_of (action_of from) found) s.words).limit + k ≡ s.words.limit
+      lowered_at e = by_place (λ y. (words_after (effect_of (action_of y) found) s.words).limit + k ≡ s.words.limit) (Lower k) e (λ f. lowered memory p k s.words s.entries found f (has_few k e))
 
-      returned_at : from ≡ GiveBack k → ((words_after (deed_of (action_of from) found) s.words).available ≡ s.words.available + k) × (course_of (after from found) ≡ decided GivenBack 0 false (a_fit (words_after (deed_of (action_of from) found) s.words).available))
-      returned_at e = by_place (λ y. ((words_after (deed_of (action_of y) found) s.words).available ≡ s.words.available + k) × (course_of (after y found) ≡ decided GivenBack 0 false (a_fit (words_after (deed_of (action_of y) found) s.words).available))) (GiveBack k) e (λ f. returned memory p k s.words s.entries found f)
+      returned_at : from ≡ GiveBack k → ((words_after (effect_of (action_of from) found) s.words).available ≡ s.words.available + k) × (course_of (after from found) ≡ decided GivenBack 0 false (a_fit (words_after (effect_of (action_of from) found) s.words).available))
+      returned_at e = by_place (λ y. ((words_after (effect_of (action_of y) found) s.words).available ≡ s.words.available + k) × (course_of (after y found) ≡ decided GivenBack 0 false (a_fit (words_after (effect_of (action_of y) found) s.words).available))) (GiveBack k) e (λ f. returned memory p k s.words s.entries found f)
 
       decided_as : is_take c ≡ true → k ≤ s.words.available → decided_then (step_of (next_of from found)) (course_of (after from found)) ≡ Some (taken_by c)
       decided_as h few = let so = look h in elim (so.2.decides (omega (arith, few, so.1))) as (λ _. decided_then (step_of (next_of from found)) (course_of (after from found)) ≡ Some (taken_by c)) [
@@ -145,14 +145,14 @@ module _ (memory : Bool) (p : ℕ) (from : Place) (next : Next) (s t : Semaphore
 -- ---- what is told in turn
 
 module _ (memory : Bool) (p : ℕ) (w : Words) (es : List (Entry ℕ)) (size : ℕ → ℕ) where
-  gives : (y : Place) (f : Found) (n : ℕ) → is_begun y ≡ true → course_in y ≡ adding n → Finds memory p (action_of y) f w es → ((words_after (deed_of (action_of y) f) w).available ≡ w.available + n) × (course_of (after y f) ≡ decided Granted 0 false (a_fit (words_after (deed_of (action_of y) f) w).available))
+  gives : (y : Place) (f : Found) (n : ℕ) → is_begun y ≡ true → course_in y ≡ adding n → Finds memory p (action_of y) f w es → ((words_after (effect_of (action_of y) f) w).available ≡ w.available + n) × (course_of (after y f) ≡ decided Granted 0 false (a_fit (words_after (effect_of (action_of y) f) w).available))
   gives (GiveAdded m) (Available a) n b e h = let same : m ≡ n = cc e in (ap (λ c. w.available + c) same, ap (λ c. decided Granted 0 false (a_fit c)) h)
   gives (GiveAdded m) _ n b e h = absurd h
   gives (Take k false told) f n b e h = absurd (cc e)
   gives (Take k true told) f n b e h = absurd (cc e)
   gives _ f n b e h = absurd (cc e)
 
-  leaves : (y : Place) (f : Found) → is_begun y ≡ true → course.decision (course_in y) ≡ Some Got → 0 < (seat_of y).listed → Finds memory p (action_of y) f w es → entries_after size p (deed_of (action_of y) f) es ≡ without (is_party p) es
+  leaves : (y : Place) (f : Found) → is_begun y ≡ true → course.decision (course_in y) ≡ Some Got → 0 < (seat_of y).listed → Finds memory p (action_of y) f w es → entries_after size p (effect_of (action_of y) f) es ≡ without (is_party p) es
   leaves (Remove k more) Yes b e l h = refl
   leaves (Remove k more) No b e l h = refl
   leaves (Remove k more) _ b e l h = absurd h
@@ -162,7 +162,7 @@ module _ (memory : Bool) (p : ℕ) (w : Words) (es : List (Entry ℕ)) (size : �
   leaves (Take k true told) f b e l h = absurd (cc e)
   leaves _ f b e l h = absurd (cc e)
 
-  looks : (y : Place) (f : Found) (d : End) (k : ℕ) → is_begun y ≡ true → course_in y ≡ decided d k false a_look → Finds memory p (action_of y) f w es → (words_after (deed_of (action_of y) f) w ≡ w) × (entries_after size p (deed_of (action_of y) f) es ≡ es) × (course_of (after y f) ≡ decided d k false (a_fit w.available))
+  looks : (y : Place) (f : Found) (d : End) (k : ℕ) → is_begun y ≡ true → course_in y ≡ decided d k false a_look → Finds memory p (action_of y) f w es → (words_after (effect_of (action_of y) f) w ≡ w) × (entries_after size p (effect_of (action_of y) f) es ≡ es) × (course_of (after y f) ≡ decided d k false (a_fit w.available))
   looks (Load n) (Available a) d k b e h = (refl, refl, (let same : decided Got n false (a_fit w.available) ≡ decided d k false (a_fit w.available) = cc e in ap (λ c. decided Got n false (a_fit c)) h ∙ same))
   looks (Load n) _ d k b e h = absurd h
   looks CancelLoad (Available a) d k b e h = (refl, refl, (let same : decided GivenBack 0 false (a_fit w.available) ≡ decided d k false (a_fit w.available) = cc e in ap (λ c. decided GivenBack 0 false (a_fit c)) h ∙ same))
@@ -175,7 +175,7 @@ module _ (memory : Bool) (p : ℕ) (w : Words) (es : List (Entry ℕ)) (size : �
   got_pending d l got listed (inl e) = cc (listed, e)
   got_pending d l got listed (inr e) = cc (got, e)
 
-  tells : (y : Place) (f : Found) (d : End) (k a : ℕ) (l : Bool) → is_begun y ≡ true → course_in y ≡ decided d k l (a_fit a) → (l ≡ false) ⊎ (d ≡ Pending) → Finds memory p (action_of y) f w es → (step_of (next_of y f) ≡ step.End d) × (entries_after size p (deed_of (action_of y) f) es ≡ fitted size a es)
+  tells : (y : Place) (f : Found) (d : End) (k a : ℕ) (l : Bool) → is_begun y ≡ true → course_in y ≡ decided d k l (a_fit a) → (l ≡ false) ⊎ (d ≡ Pending) → Finds memory p (action_of y) f w es → (step_of (next_of y f) ≡ step.End d) × (entries_after size p (effect_of (action_of y) f) es ≡ fitted size a es)
   tells (HandOn n c) Done d k a l b e q h = (ap step.End (cc e), ap (λ m. fitted size m es) (cc e))
   tells (HandOn n c) _ d k a l b e q h = absurd h
   tells (PassOn n c) Done d k a l b e q h = (ap step.End (cc e), ap (λ m. fitted size m es) (cc e))
@@ -198,7 +198,7 @@ module _ (memory : Bool) (p : ℕ) (from : Place) (next : Next) (s t : Semaphore
   abbrev f : Found
   f = did.acts.found
 
-  words_are : t.words ≡ words_after (deed_of (action_of from) f) s.words
+  words_are : t.words ≡ words_after (effect_of (action_of from) f) s.words
   words_are = did.acts.acts.words
 
   pub in_turn : TellsInTurn p (step_of next) (seen s) (seen t)

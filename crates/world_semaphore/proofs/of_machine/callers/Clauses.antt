@@ -1,5 +1,5 @@
 -- What an action of a party is, as those see it who build on a semaphore.
-use Rattle.world_semaphore.proofs.Prelude.{◌≡◌, ◌≢◌, ℕ, ◌<◌, Bool, true, false, List, length, Option, Some, None, is_some, refl, arith, ap, sym, ◌∙◌, subst, none_some, some_eq, get_or-set_same, get_or-set_other, length-set, Entry, mark_at, is_party, entries_of, Refusal, Found, No, Next, Place, Ask, Position, Out, Words, action_of, next_of, Seat, seat_of, share_of, debt_at, Deed, nothing, changes, does, joins, asks, removes, fits, takes, gives_back, forgets, raises, gives, deed_of, Finds, words_after, entries_after, gives_something_back, gives_up, Semaphore, IsSemaphore, Acts, position_at, sizes_of, ℕ_discrete, guard_of}
+use Rattle.world_semaphore.proofs.Prelude.{◌≡◌, ◌≢◌, ℕ, ◌<◌, Bool, true, false, List, length, Option, Some, None, is_some, refl, arith, ap, sym, ◌∙◌, subst, none_some, some_eq, get_or-set_same, get_or-set_other, length-set, Entry, mark_at, is_party, entries_of, Refusal, Found, No, Next, Place, Ask, Position, Out, Words, action_of, next_of, Seat, seat_of, share_of, debt_at, Effect, nothing, changes, does, joins, asks, removes, fits, takes, gives_back, forgets, raises, gives, effect_of, Finds, words_after, entries_after, gives_something_back, gives_up, Semaphore, IsSemaphore, Acts, position_at, sizes_of, ℕ_discrete, guard_of}
 use Rattle.lock_event.specs.declared.event.Mark.TheVariants.{Waiting}
 use Rattle.lock_program.specs.declared.end.End.{End}
 use Rattle.lock_program.specs.declared.end.End.TheVariants.{Got, Granted, Pending, NotFree, Refused}
@@ -14,7 +14,7 @@ use Rattle.world_semaphore.proofs.step.Rows.{AllowedAt, SharesSo, is_ask, row}
 use Rattle.world_semaphore.specs.machine.Conduct.{IsLegal, IsAllowed, IsReason, decided_then}
 use Rattle.world_semaphore.specs.machine.Course as course
 use Rattle.world_semaphore.specs.machine.Course.{Course}
-use Rattle.world_semaphore.specs.machine.Deeds.{share_then}
+use Rattle.world_semaphore.specs.machine.Effects.{share_then}
 use Rattle.world_semaphore.specs.machine.Done.{step_of}
 use Rattle.world_semaphore.specs.machine.Machine.{ActsSo, StandsAt}
 use Rattle.world_semaphore.specs.machine.Permits.{course_at, size_of}
@@ -30,7 +30,7 @@ pub record Did (memory : Bool) (p : ℕ) (from : Place) (next : Next) (s t : Sem
   pub stands : StandsAt from (position_at s.positions p)
 
 module _ (memory : Bool) (w : Words) (x : Place) (f : Found) (n : Next) where
-  pub kept_on : (v o : Option End) (e : End) → Judged memory w x f n v o → v ≡ Some e → (o ≡ Some e) × (gives_something_back (deed_of (action_of x) f) ≡ true)
+  pub kept_on : (v o : Option End) (e : End) → Judged memory w x f n v o → v ≡ Some e → (o ≡ Some e) × (gives_something_back (effect_of (action_of x) f) ≡ true)
   kept_on (Some d) o e j is = (j.0 ∙ is, j.1)
   kept_on None o e j is = absurd (none_some is)
 
@@ -40,14 +40,14 @@ module _ (memory : Bool) (w : Words) (x : Place) (f : Found) (n : Next) where
   why None (Some d) e j none is = let P : End → Type 0 = Why memory w x f n in subst P (some_eq is) j
 
 -- who asked in vain waits
-pended : (memory : Bool) (p : ℕ) (w : Words) (l es : List (Entry ℕ)) (size : ℕ → ℕ) (y : Place) (f : Found) → is_ask y ≡ true → f ≡ No → Finds memory p (action_of y) f w l → es ≡ entries_after size p (deed_of (action_of y) f) l → entries_of p l ≡ (seat_of y).listed → mark_at (is_party p) es ≡ Some Waiting
+pended : (memory : Bool) (p : ℕ) (w : Words) (l es : List (Entry ℕ)) (size : ℕ → ℕ) (y : Place) (f : Found) → is_ask y ≡ true → f ≡ No → Finds memory p (action_of y) f w l → es ≡ entries_after size p (effect_of (action_of y) f) l → entries_of p l ≡ (seat_of y).listed → mark_at (is_party p) es ≡ Some Waiting
 pended memory p w l es size (Ask n told) f is_so ef finds is own =
-    let P : Found → Type 0 = λ f. Finds memory p (action_of (Ask n told)) f w l → es ≡ entries_after size p (deed_of (action_of (Ask n told)) f) l → mark_at (is_party p) es ≡ Some Waiting in
+    let P : Found → Type 0 = λ f. Finds memory p (action_of (Ask n told)) f w l → es ≡ entries_after size p (effect_of (action_of (Ask n told)) f) l → mark_at (is_party p) es ≡ Some Waiting in
     let base : P No = λ marked same. (let kept : es ≡ l = same ∙ rw marked refl in rw kept (waits_at p l own marked)) in
     subst P (sym ef) base finds is
 pended memory p w l es size _ f is_so ef finds is own = absurd (cc is_so)
 
-not_up : (d : Deed) (v : Option End) → (gives_up d ≡ true → is_some v ≡ true) → v ≡ None → gives_up d ≡ false
+not_up : (d : Effect) (v : Option End) → (gives_up d ≡ true → is_some v ≡ true) → v ≡ None → gives_up d ≡ false
 not_up d v h none = by_case (gives_up d) refl where
   by_case : (b : Bool) → gives_up d ≡ b → b ≡ false
   by_case false is = refl
@@ -66,8 +66,8 @@ module _ (memory : Bool) (p : ℕ) (from : Place) (next : Next) (s t : Semaphore
   abbrev to : Position
   to = after from found
 
-  abbrev deed : Deed
-  deed = deed_of (action_of from) found
+  abbrev effect : Effect
+  effect = effect_of (action_of from) found
 
   acts : Acts memory p from found s t
   acts = did.acts.acts
@@ -108,9 +108,9 @@ module _ (memory : Bool) (p : ℕ) (from : Place) (next : Next) (s t : Semaphore
   pub own : entries_of p s.entries ≡ (seat_of from).listed
   own = did.laws.owners p ∙ ap (λ (z : Seat). z.listed) (sym did.stands.same)
 
-  pub entries_seen : t.entries ≡ entries_after (size_of (seen s)) p deed s.entries
-  entries_seen = acts.entries ∙ same_sizes deed where
-    same_sizes : (d : Deed) → entries_after (sizes_of xs) p d s.entries ≡ entries_after (size_of (seen s)) p d s.entries
+  pub entries_seen : t.entries ≡ entries_after (size_of (seen s)) p effect s.entries
+  entries_seen = acts.entries ∙ same_sizes effect where
+    same_sizes : (d : Effect) → entries_after (sizes_of xs) p d s.entries ≡ entries_after (size_of (seen s)) p d s.entries
     same_sizes nothing = refl
     same_sizes (changes c) = refl
     same_sizes (does joins) = refl
@@ -118,7 +118,7 @@ module _ (memory : Bool) (p : ℕ) (from : Place) (next : Next) (s t : Semaphore
     same_sizes (does removes) = refl
     same_sizes (does (fits c)) = fitted-agree (sizes_of xs) (size_of (seen s)) c s.entries (λ q some. sym (size_old q))
 
-  share_so : (d : Deed) → SharesSo d (seat_of from).share (share_of to) → share_of to ≡ share_then d (seat_of from).share
+  share_so : (d : Effect) → SharesSo d (seat_of from).share (share_of to) → share_of to ≡ share_then d (seat_of from).share
   share_so (changes c) h = h
   share_so nothing h = h
   share_so (does f) h = h
@@ -127,7 +127,7 @@ module _ (memory : Bool) (p : ℕ) (from : Place) (next : Next) (s t : Semaphore
   then_decided = ap (λ n. decided_then (step_of n) (course_at (seen t).courses p)) did.acts.next_is ∙ ap (decided_then (step_of (next_of from found))) course_new
 
   module _ (k : ℕ) (d : Option End) (ends : end_of from ≡ d) (size : end_of from ≡ None → size_for from ≡ k) where
-    allowed_so : (c : Deed) → c ≡ deed → AllowedAt c from s.words → IsAllowed p k d c (seen s)
+    allowed_so : (c : Effect) → c ≡ effect → AllowedAt c from s.words → IsAllowed p k d c (seen s)
     allowed_so nothing is h = tt
     allowed_so (changes (takes n)) is h = let so = wants from n h.0 in (so.0 ∙ size so.1, h.1, share_old ∙ h.2)
     allowed_so (changes (gives_back n)) is h = (share_old ∙ ap (λ y. (seat_of y).share) h, sym ends ∙ ap end_of h)
@@ -144,8 +144,8 @@ module _ (memory : Bool) (p : ℕ) (from : Place) (next : Next) (s t : Semaphore
     reason_so Granted none y = tt
     reason_so Pending none y = pended memory p s.words s.entries t.entries (sizes_of xs) from found y.0 y.1 acts.finds acts.entries own
     reason_so NotFree none y = omega (arith, y, size none)
-    reason_so (Refused Refusal.Memory) none y = (y.0, own ∙ join_unlisted from y.1, acts.entries ∙ ap (λ (c : Deed). entries_after (sizes_of xs) p c s.entries) y.2, acts.words ∙ ap (λ (c : Deed). words_after c s.words) y.2)
-    reason_so (Refused Refusal.Permits) none y = (omega (arith, y.0, size none), acts.entries ∙ ap (λ (c : Deed). entries_after (sizes_of xs) p c s.entries) y.1, acts.words ∙ ap (λ (c : Deed). words_after c s.words) y.1)
+    reason_so (Refused Refusal.Memory) none y = (y.0, own ∙ join_unlisted from y.1, acts.entries ∙ ap (λ (c : Effect). entries_after (sizes_of xs) p c s.entries) y.2, acts.words ∙ ap (λ (c : Effect). words_after c s.words) y.2)
+    reason_so (Refused Refusal.Permits) none y = (omega (arith, y.0, size none), acts.entries ∙ ap (λ (c : Effect). entries_after (sizes_of xs) p c s.entries) y.1, acts.words ∙ ap (λ (c : Effect). words_after c s.words) y.1)
     reason_so (Refused _) none y = absurd y
     reason_so _ none y = tt
 
@@ -154,16 +154,16 @@ module _ (memory : Bool) (p : ℕ) (from : Place) (next : Next) (s t : Semaphore
         let r = row memory p s.words s.entries from found acts.finds in
         let j = judged memory p s.words s.entries from found acts.finds in
         record {
-          deed = deed;
-          allowed = allowed_so deed refl r.allowed;
+          effect = effect;
+          allowed = allowed_so effect refl r.allowed;
           words = acts.words;
-          share = share_new ∙ (share_so deed r.shares ∙ ap (share_then deed) (sym share_old));
+          share = share_new ∙ (share_so effect r.shares ∙ ap (share_then effect) (sym share_old));
           entries = entries_seen;
-          found_memory = λ e. room_found memory deed r.room e;
+          found_memory = λ e. room_found memory effect r.room e;
           parties = length_seen t.positions ∙ (ap length acts.positions ∙ (length-set xs p to ∙ sym (length_seen xs)));
           others = λ q apart. seen_at t.positions q ∙ (ap course_of (stays q apart) ∙ sym (seen_at xs q));
           kept = λ e is. (let so = kept_on memory s.words from found (next_of from found) (end_of from) (decided_then (step_of (next_of from found)) (course_of to)) e j (ends ∙ is) in (then_decided ∙ so.0, so.1));
-          holds_on = λ none. not_up deed (end_of from) (λ up. sym (ends_so from) ∙ r.held_on up) (ends ∙ none);
+          holds_on = λ none. not_up effect (end_of from) (λ up. sym (ends_so from) ∙ r.held_on up) (ends ∙ none);
           reason = λ e none is. reason_so e (ends ∙ none) (why memory s.words from found (next_of from found) (end_of from) (decided_then (step_of (next_of from found)) (course_of to)) e j (ends ∙ none) (sym then_decided ∙ is));
-          debts = owes_so p (seat_of from).debt (debt_at to) s.entries (entries_after (size_of (seen s)) p deed s.entries) (words_after deed s.words).available (size_of (seen s)) (sym debt_old) (sym debt_new) (sym entries_seen) (ap (λ (v : Words). v.available) (sym acts.words)) (owed memory p s.words s.entries (size_of (seen s)) from found acts.finds own);
+          debts = owes_so p (seat_of from).debt (debt_at to) s.entries (entries_after (size_of (seen s)) p effect s.entries) (words_after effect s.words).available (size_of (seen s)) (sym debt_old) (sym debt_new) (sym entries_seen) (ap (λ (v : Words). v.available) (sym acts.words)) (owed memory p s.words s.entries (size_of (seen s)) from found acts.finds own);
         }

@@ -1,5 +1,5 @@
 -- A party that was told in vain hands over, and polls that are carried out one after the other.
-use Rattle.world_semaphore.proofs.Prelude.{◌≡◌, ◌≢◌, ℕ, zero, suc, ◌<◌, ◌≤◌, ◌⊎◌, inl, inr, true, false, List, length, Some, refl, arith, ap, sym, ◌∙◌, subst, Entry, is_marked_at, marked_count, is_party, entries_of, marked_listed, Answer, is_stepped, Plain, Action, Next, Place, Take, Retake, Join, Ask, PassOn, Position, Words, action_of, next_of, Deed, nothing, changes, does, deed_of, words_after, entries_after, Semaphore, position_at, sizes_of, Deed}
+use Rattle.world_semaphore.proofs.Prelude.{◌≡◌, ◌≢◌, ℕ, zero, suc, ◌<◌, ◌≤◌, ◌⊎◌, inl, inr, true, false, List, length, Some, refl, arith, ap, sym, ◌∙◌, subst, Entry, is_marked_at, marked_count, is_party, entries_of, marked_listed, Answer, is_stepped, Plain, Action, Next, Place, Take, Retake, Join, Ask, PassOn, Position, Words, action_of, next_of, Effect, nothing, changes, does, effect_of, words_after, entries_after, Semaphore, position_at, sizes_of, Effect}
 use Rattle.lock_program.specs.declared.end.End.{End}
 use Rattle.lock_program.specs.declared.end.End.TheVariants.{Got, Granted, Pending, GivenBack, Refused}
 use Rattle.lock_program.specs.declared.mutex.Step.{Step}
@@ -49,7 +49,7 @@ module _ (k a size : ℕ) (short : a < k) (p : ℕ) where
   tells_vain (Ask n told) l e h = absurd (cc e)
   tells_vain _ l e h = absurd h
 
-  same_words : (w : Words) (d : Deed) → is_change d ≡ false → words_after d w ≡ w
+  same_words : (w : Words) (d : Effect) → is_change d ≡ false → words_after d w ≡ w
   same_words w nothing h = refl
   same_words w (changes c) h = absurd (cc h)
   same_words w (does f) h = refl
@@ -76,11 +76,11 @@ module _ (k a size : ℕ) (short : a < k) (p : ℕ) where
     here : IsHandingOver h.from (seen S)
     here = let P : Permits → Type 0 = IsHandingOver h.from in subst P h.old_is g
 
-    row : Vain k a size h.from h.did.acts.found (length (entries_after (sizes_of S.positions) p (deed_of (action_of h.from) h.did.acts.found) S.entries)) (marked_count (entries_after (sizes_of S.positions) p (deed_of (action_of h.from) h.did.acts.found) S.entries)) (is_marked_at (is_party p) (entries_after (sizes_of S.positions) p (deed_of (action_of h.from) h.did.acts.found) S.entries))
+    row : Vain k a size h.from h.did.acts.found (length (entries_after (sizes_of S.positions) p (effect_of (action_of h.from) h.did.acts.found) S.entries)) (marked_count (entries_after (sizes_of S.positions) p (effect_of (action_of h.from) h.did.acts.found) S.entries)) (is_marked_at (is_party p) (entries_after (sizes_of S.positions) p (effect_of (action_of h.from) h.did.acts.found) S.entries))
     row = vain k a size p S.words S.entries (sizes_of S.positions) here.few short h.from h.did.acts.found h.did.acts.acts.finds (clauses.own true p h.from h.next S T h.did) here.vain
 
     words_so : T.words ≡ S.words
-    words_so = h.did.acts.acts.words ∙ same_words S.words (deed_of (action_of h.from) h.did.acts.found) row.unchanged
+    words_so = h.did.acts.acts.words ∙ same_words S.words (effect_of (action_of h.from) h.did.acts.found) row.unchanged
 
     words_then : T.words ≡ w
     words_then = words_so ∙ (ap (λ (m : Permits). m.words) (sym h.old_is) ∙ same)

@@ -1,5 +1,5 @@
 -- Where each place's action leads, as those see it who build on a semaphore, and why its call is decided there.
-use Rattle.world_semaphore.proofs.Prelude.{◌≡◌, ℕ, ◌+◌, ◌<◌, Bool, true, false, List, Option, Some, None, refl, arith, sym, Entry, Refusal, Action, Found, Done, Left, Short, Available, PastLimit, NoMemory, Yes, No, Next, Place, Take, Retake, Join, Ask, Remove, Load, HandOn, PassOn, RefuseFit, Try, Lower, GiveBack, Raise, GiveAdded, FitAdded, CancelRemove, CancelLoad, FitGivenBack, Abandon, At, Words, action_of, next_of, position_after, share_of, guard_of, nothing, deed_of, Finds, gives_something_back, is_polling, is_adding, is_begun, is_some, verdict_of}
+use Rattle.world_semaphore.proofs.Prelude.{◌≡◌, ℕ, ◌+◌, ◌<◌, Bool, true, false, List, Option, Some, None, refl, arith, sym, Entry, Refusal, Action, Found, Done, Left, Short, Available, PastLimit, NoMemory, Yes, No, Next, Place, Take, Retake, Join, Ask, Remove, Load, HandOn, PassOn, RefuseFit, Try, Lower, GiveBack, Raise, GiveAdded, FitAdded, CancelRemove, CancelLoad, FitGivenBack, Abandon, At, Words, action_of, next_of, position_after, share_of, guard_of, nothing, effect_of, Finds, gives_something_back, is_polling, is_adding, is_begun, is_some, verdict_of}
 use Rattle.lock_program.specs.declared.end.End.{End}
 use Rattle.lock_program.specs.declared.end.End.TheVariants.{Got, Pending, NotFree, Refused}
 use Rattle.world_semaphore.proofs.of_machine.callers.Sights.{end_of}
@@ -183,14 +183,14 @@ abbrev pub Why : Bool → Words → Place → Found → Next → End → Type 0
 Why memory w x f n Got = share_of (position_after n) ≡ guard_of (size_for x)
 Why memory w x f n Pending = (is_ask x ≡ true) × (f ≡ No)
 Why memory w x f n NotFree = w.available < size_for x
-Why memory w x f n (Refused Refusal.Memory) = (memory ≡ false) × (is_join x ≡ true) × (deed_of (action_of x) f ≡ nothing)
-Why memory w x f n (Refused Refusal.Permits) = (w.most < w.limit + size_for x) × (deed_of (action_of x) f ≡ nothing)
+Why memory w x f n (Refused Refusal.Memory) = (memory ≡ false) × (is_join x ≡ true) × (effect_of (action_of x) f ≡ nothing)
+Why memory w x f n (Refused Refusal.Permits) = (w.most < w.limit + size_for x) × (effect_of (action_of x) f ≡ nothing)
 Why memory w x f n (Refused _) = ⊥
 Why memory w x f n _ = Unit {0}
 
 -- what was decided is kept, and its party only gives back; what is decided now has its reason
 abbrev pub Judged : Bool → Words → Place → Found → Next → Option End → Option End → Type 0
-Judged memory w x f n (Some e) o = (o ≡ Some e) × (gives_something_back (deed_of (action_of x) f) ≡ true)
+Judged memory w x f n (Some e) o = (o ≡ Some e) × (gives_something_back (effect_of (action_of x) f) ≡ true)
 Judged memory w x f n None None = Unit {0}
 Judged memory w x f n None (Some e) = Why memory w x f n e
 

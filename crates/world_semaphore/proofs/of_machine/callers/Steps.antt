@@ -1,5 +1,5 @@
 -- A step of a party's call, and all that those may know of it who build on a semaphore.
-use Rattle.world_semaphore.proofs.Prelude.{◌≡◌, ℕ, ◌<◌, Bool, true, Some, refl, arith, ap, sym, ◌∙◌, subst, length, is_marked_at, is_party, Next, Place, Position, At, position_after, next_of, action_of, deed_of, entries_after, Semaphore, IsSemaphore, position_at, sizes_of, is_begun, Option, is_polling}
+use Rattle.world_semaphore.proofs.Prelude.{◌≡◌, ℕ, ◌<◌, Bool, true, Some, refl, arith, ap, sym, ◌∙◌, subst, length, is_marked_at, is_party, Next, Place, Position, At, position_after, next_of, action_of, effect_of, entries_after, Semaphore, IsSemaphore, position_at, sizes_of, is_begun, Option, is_polling}
 use Rattle.lock_program.specs.declared.end.Next.TheVariants as comes
 use Rattle.lock_program.specs.declared.mutex.Step.{Step}
 use Rattle.lock_program.specs.declared.end.End.{End}
@@ -52,7 +52,7 @@ module _ (memory : Bool) (p : ℕ) (from : Place) (next : Next) (s t : Semaphore
   less : left_after (step_of next) (seen t) p < left from (is_marked_at (is_party p) s.entries)
   less =
       let n : Next = next_of from did.acts.found in
-      let b : Bool = is_marked_at (is_party p) (entries_after (sizes_of s.positions) p (deed_of (action_of from) did.acts.found) s.entries) in
+      let b : Bool = is_marked_at (is_party p) (entries_after (sizes_of s.positions) p (effect_of (action_of from) did.acts.found) s.entries) in
       let few : LeftBy n b < left from (is_marked_at (is_party p) s.entries) = fewer memory (sizes_of s.positions) p s.words s.entries from did.acts.found did.acts.acts.finds (clauses.own memory p from next s t did) in
       let same : left_after (step_of n) (seen t) p ≡ LeftBy n b = left_so n b (seen t) (kept_after from did.acts.found) (clauses.course_new memory p from next s t did) (ap (is_marked_at (is_party p)) did.acts.acts.entries) in
       omega (arith, few, same, ap (λ z. left_after (step_of z) (seen t) p) did.acts.next_is)

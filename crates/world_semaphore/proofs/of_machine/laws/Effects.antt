@@ -1,10 +1,10 @@
 -- What an action does, in numbers.
-use Rattle.world_semaphore.proofs.Prelude.{◌≡◌, ℕ, ◌<◌, ◌≤◌, Bool, true, refl, arith, is_wanted, length-joined, length-without, marked_count-without_marked, marked_count-without_waiting, marked_count-joined, is_party, WeightedQueue, is_there, Action, Found, Done, Left, Short, Available, PastLimit, NoMemory, Yes, No, Words, CanDo, Finds, deed_of, words_after, entries_after, tally_of}
-use Rattle.world_semaphore.proofs.of_machine.laws.Steps.{Effect}
+use Rattle.world_semaphore.proofs.Prelude.{◌≡◌, ℕ, ◌<◌, ◌≤◌, Bool, true, refl, arith, is_wanted, length-joined, length-without, marked_count-without_marked, marked_count-without_waiting, marked_count-joined, is_party, WeightedQueue, is_there, Action, Found, Done, Left, Short, Available, PastLimit, NoMemory, Yes, No, Words, CanDo, Finds, effect_of, words_after, entries_after, tally_of}
+use Rattle.world_semaphore.proofs.of_machine.laws.Steps.{OnTally}
 use Rattle.world_semaphore.proofs.of_machine.laws.Entries.{length-fitted, marked_count-fitted, fitted_marks}
 
 module _ (p : ℕ) (w : Words) (q : WeightedQueue) (memory : Bool) (size : ℕ → ℕ) (s n : ℕ) (wanted : (c : ℕ) → s ≤ c → 0 < n → is_wanted size c q.entries ≡ true) where
-  pub numbers : (a : Action) (f : Found) → Finds memory p a f w q.entries → CanDo p a w q → Effect s n a f (tally_of w q.entries) (tally_of (words_after (deed_of a f) w) (entries_after size p (deed_of a f) q.entries))
+  pub numbers : (a : Action) (f : Found) → Finds memory p a f w q.entries → CanDo p a w q → OnTally s n a f (tally_of w q.entries) (tally_of (words_after (effect_of a f) w) (entries_after size p (effect_of a f) q.entries))
   numbers (Action.Take k) (Left a) e c = (omega arith, e, refl, refl, (refl, refl))
   numbers (Action.Take k) (Short a) e c = (omega (arith, e.0), e.1, (refl, refl, refl), (refl, refl))
   numbers (Action.Take k) _ e c = absurd e

@@ -1,5 +1,5 @@
 -- What a list function does to the list, in numbers and party by party.
-use Rattle.world_semaphore.proofs.Prelude.{◌≡◌, ◌≢◌, ℕ, ◌+◌, ◌<◌, ◌≤◌, ◌==◌, if◌then◌else◌, Bool, true, false, List, [], ◌∷◌, length, nat_le, refl, arith, ◌∙◌, le-leb, leb-true, nat_tests, Entry, entry, is_marked_at, marked_count, without, is_enough, fit_first, fitted, is_wanted, length-joined, length-without, is_party, entries_of, is_there, Deed, ListFunction, nothing, changes, does, joins, asks, removes, fits, list_after, entries_after}
+use Rattle.world_semaphore.proofs.Prelude.{◌≡◌, ◌≢◌, ℕ, ◌+◌, ◌<◌, ◌≤◌, ◌==◌, if◌then◌else◌, Bool, true, false, List, [], ◌∷◌, length, nat_le, refl, arith, ◌∙◌, le-leb, leb-true, nat_tests, Entry, entry, is_marked_at, marked_count, without, is_enough, fit_first, fitted, is_wanted, length-joined, length-without, is_party, entries_of, is_there, Effect, ListFunction, nothing, changes, does, joins, asks, removes, fits, list_after, entries_after}
 use Rattle.lock_event.specs.declared.event.Mark.TheVariants.{Waiting}
 use Rattle.world_base.proofs.of_queue.Queues.{own_one, other_one}
 use Rattle.world_base.proofs.of_queue.Rekeyed.{entries_of-joined, entries_of-without_own, entries_of-without_other}
@@ -75,7 +75,7 @@ CanList p l asks = 0 < entries_of p l
 CanList p l removes = 0 < entries_of p l
 CanList p l (fits a) = Unit {0}
 
-abbrev pub CanOf : ℕ → List (Entry ℕ) → Deed → Type 0
+abbrev pub CanOf : ℕ → List (Entry ℕ) → Effect → Type 0
 CanOf p l (does f) = CanList p l f
 CanOf p l _ = Unit {0}
 
@@ -92,7 +92,7 @@ module _ (size : ℕ → ℕ) (p : ℕ) (l : List (Entry ℕ)) where
   own_list removes can = omega (arith, entries_of-without_own p l can, length-without (is_party p) l (is_there p l can))
   own_list (fits a) can = omega (arith, entries_of-fitted size a p l, length-fitted size a l)
 
-  pub own : (d : Deed) → CanOf p l d → entries_of p (entries_after size p d l) + length l ≡ entries_of p l + length (entries_after size p d l)
+  pub own : (d : Effect) → CanOf p l d → entries_of p (entries_after size p d l) + length l ≡ entries_of p l + length (entries_after size p d l)
   own nothing can = refl
   own (changes c) can = refl
   own (does f) can = own_list f can
@@ -107,7 +107,7 @@ module _ (size : ℕ → ℕ) (p : ℕ) (l : List (Entry ℕ)) where
   others_list removes j apart = entries_of-without_other j p l apart
   others_list (fits a) j apart = entries_of-fitted size a j l
 
-  pub others : (d : Deed) (j : ℕ) → j ≢ p → entries_of j (entries_after size p d l) ≡ entries_of j l
+  pub others : (d : Effect) (j : ℕ) → j ≢ p → entries_of j (entries_after size p d l) ≡ entries_of j l
   others nothing j apart = refl
   others (changes c) j apart = refl
   others (does f) j apart = others_list f j apart

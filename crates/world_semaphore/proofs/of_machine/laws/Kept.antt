@@ -1,7 +1,7 @@
 -- Each step keeps what always holds of the numbers.
 use Rattle.world_semaphore.proofs.Prelude.{◌≡◌, ℕ, ◌+◌, ◌<◌, ◌≤◌, ◌⊎◌, inl, inr, true, false, Option, Some, None, nat_le, ◌==◌, refl, arith, le-leb, nat_tests, Action, Found, Done, Left, Short, Available, PastLimit, NoMemory, Yes, No, Place, Take, Retake, Join, Ask, Remove, Load, HandOn, PassOn, RefuseFit, Try, Lower, GiveBack, Raise, GiveAdded, FitAdded, CancelRemove, CancelLoad, FitGivenBack, Abandon, Position, told_more, after_taking_with, action_of, next_of, position_after, seat_of, seated, waits_for, waits, bit, pays, fit_if, Tally, Counts}
 use Rattle.world_semaphore.specs.machine.Tally.{IsSound}
-use Rattle.world_semaphore.proofs.of_machine.laws.Steps.{Effect, Goes}
+use Rattle.world_semaphore.proofs.of_machine.laws.Steps.{OnTally, Goes}
 
 abbrev pub after : Place → Found → Position
 after x f = position_after (next_of x f)
@@ -32,9 +32,9 @@ waits_else s k c few short = grind (arith, nat_tests)
 
 module _ (s : ℕ) (some : 0 < s) (t u : Tally) (a b : Counts) where
   -- rows: place, finding
-  pub kept : (x : Place) (f : Found) → Effect s a.waiting (action_of x) f t u → IsSound s t a → Goes s (seat_of x) (seated (after x f)) (waits_for s x) (waits s (after x f)) a b → IsSound s u b
+  pub kept : (x : Place) (f : Found) → OnTally s a.waiting (action_of x) f t u → IsSound s t a → Goes s (seat_of x) (seated (after x f)) (waits_for s x) (waits s (after x f)) a b → IsSound s u b
   kept (Take k false true) (Left c) e i g = by_more (told_more true c) refl e i g where
-    by_more : (o : Option ℕ) → told_more true c ≡ o → Effect s a.waiting (Action.Take k) (Left c) t u → IsSound s t a → Goes s (seat_of (Take k false true)) (seated (position_after (after_taking_with k false o))) 0 (waits s (position_after (after_taking_with k false o))) a b → IsSound s u b
+    by_more : (o : Option ℕ) → told_more true c ≡ o → OnTally s a.waiting (Action.Take k) (Left c) t u → IsSound s t a → Goes s (seat_of (Take k false true)) (seated (position_after (after_taking_with k false o))) 0 (waits s (position_after (after_taking_with k false o))) a b → IsSound s u b
     by_more (Some d) is e i g = let same = more_is c d is in record { balanced = omega arith; limited = omega arith; in_list = omega arith; owed = λ h w. let pays = enough s d (omega arith) in omega (arith, pays) }
     by_more None is e i g = let none = no_more c is in record { balanced = omega arith; limited = omega arith; in_list = omega arith; owed = λ h w. omega arith }
   kept (Take k false true) (Short c) e i g = record { balanced = omega arith; limited = omega arith; in_list = omega arith; owed = λ h w. let pays = enough s c (omega arith) in omega (arith, pays) }

@@ -1,5 +1,5 @@
 -- An action of one party keeps what always holds of a semaphore.
-use Rattle.world_semaphore.proofs.Prelude.{◌≡◌, ◌≢◌, ℕ, ◌+◌, ◌<◌, ◌≤◌, ◌⊎◌, inl, inr, Bool, true, false, List, length, get_or, Some, None, ◌==◌, refl, arith, ap, sym, subst, ◌∙◌, length-set, get_or-set_same, get_or-set_other, set, ℕ_discrete, sum_by, get_or_default, sum_by-set, get_or-le-sum_by, nat_tests, Entry, is_wanted, entries_of, WeightedQueue, weighted_queue, weight_in, What, Rest, Stage, Within, some_eq, call_at, polls_again, stage_after, Keeps, Action, Found, Done, Left, Short, Available, PastLimit, NoMemory, Yes, No, Place, Take, Retake, Join, Ask, Remove, Load, HandOn, PassOn, RefuseFit, Try, Lower, GiveBack, Raise, GiveAdded, FitAdded, CancelRemove, CancelLoad, FitGivenBack, Abandon, Position, Out, Waiting, At, Words, place_for, action_of, next_of, position_after, Seat, bit, pays, seat_of, seated, permits_of, permits_at, under_way_at, listed, waits_for, waits, owes, size_at, is_short_at, is_short, Deed, CanDo, Finds, deed_of, words_after, entries_after, weights_after, fits as fits_so, does, changes, nothing, joins, asks, removes, Tally, tally_of, counts_of, Semaphore, IsKept, knows, goes_with, answer_by, runs, position_at, sizes_of}
+use Rattle.world_semaphore.proofs.Prelude.{◌≡◌, ◌≢◌, ℕ, ◌+◌, ◌<◌, ◌≤◌, ◌⊎◌, inl, inr, Bool, true, false, List, length, get_or, Some, None, ◌==◌, refl, arith, ap, sym, subst, ◌∙◌, length-set, get_or-set_same, get_or-set_other, set, ℕ_discrete, sum_by, get_or_default, sum_by-set, get_or-le-sum_by, nat_tests, Entry, is_wanted, entries_of, WeightedQueue, weighted_queue, weight_in, What, Rest, Stage, Within, some_eq, call_at, polls_again, stage_after, Keeps, Action, Found, Done, Left, Short, Available, PastLimit, NoMemory, Yes, No, Place, Take, Retake, Join, Ask, Remove, Load, HandOn, PassOn, RefuseFit, Try, Lower, GiveBack, Raise, GiveAdded, FitAdded, CancelRemove, CancelLoad, FitGivenBack, Abandon, Position, Out, Waiting, At, Words, place_for, action_of, next_of, position_after, Seat, bit, pays, seat_of, seated, permits_of, permits_at, under_way_at, listed, waits_for, waits, owes, size_at, is_short_at, is_short, Effect, CanDo, Finds, effect_of, words_after, entries_after, weights_after, fits as fits_so, does, changes, nothing, joins, asks, removes, Tally, tally_of, counts_of, Semaphore, IsKept, knows, goes_with, answer_by, runs, position_at, sizes_of}
 use Rattle.world_base.proofs.Owing.{some_term}
 use Rattle.world_semaphore.specs.machine.Seats.{size_of}
 use Rattle.world_semaphore.specs.machine.Tally.{IsSound}
@@ -144,7 +144,7 @@ module _ (s : ℕ) (xs : List Position) (p : ℕ) (x : Place) (to : Position) wh
         owes_itself = itself';
       }
 
-can_of : (p : ℕ) (w : Words) (q : WeightedQueue) (a : Action) (f : Found) → CanDo p a w q → CanOf p q.entries (deed_of a f)
+can_of : (p : ℕ) (w : Words) (q : WeightedQueue) (a : Action) (f : Found) → CanDo p a w q → CanOf p q.entries (effect_of a f)
 can_of p w q (Action.Take n) (Left a) k = tt
 can_of p w q (Action.Take n) _ k = tt
 can_of p w q (Action.GiveBack n) (Available a) k = tt
@@ -182,7 +182,7 @@ module _ (p : ℕ) (w : Words) (xs : List Position) (q : WeightedQueue) (memory 
   agree : (j : ℕ) → 0 < entries_of j q.entries → weight_in q.weights j ≡ sizes_of xs j
   agree j some = let own = lock.owners j in lock.weighs j (omega (arith, some, own, one_listed (position_at xs j)))
 
-  pub alike : (d : Deed) → entries_after (weight_in q.weights) p d q.entries ≡ entries_after (sizes_of xs) p d q.entries
+  pub alike : (d : Effect) → entries_after (weight_in q.weights) p d q.entries ≡ entries_after (sizes_of xs) p d q.entries
   alike nothing = refl
   alike (changes c) = refl
   alike (does joins) = refl
@@ -191,10 +191,10 @@ module _ (p : ℕ) (w : Words) (xs : List Position) (q : WeightedQueue) (memory 
   alike (does (fits_so a)) = fitted-agree (weight_in q.weights) (sizes_of xs) a q.entries agree
 
   pub locked : (x : Place) (f : Found) → p < length xs → seat_of x ≡ seated (position_at xs p) → ((s : ℕ) → waits_for s x ≤ waits s (position_at xs p)) → (is_short_at x ≡ true → (is_short (position_at xs p) ≡ true) × (size_of x ≡ size_at (position_at xs p))) → Finds memory p (action_of x) f w q.entries
-      → IsKept (words_after (deed_of (action_of x) f) w) (set xs p (after x f)) (weighted_queue q.parties (entries_after (weight_in q.weights) p (deed_of (action_of x) f) q.entries) (weights_after p (action_of x) f q.weights))
+      → IsKept (words_after (effect_of (action_of x) f) w) (set xs p (after x f)) (weighted_queue q.parties (entries_after (weight_in q.weights) p (effect_of (action_of x) f) q.entries) (weights_after p (action_of x) f q.weights))
   locked x f known same waited short finds =
       let to : Position = after x f in
-      let d : Deed = deed_of (action_of x) f in
+      let d : Effect = effect_of (action_of x) f in
       let can : CanDo p (action_of x) w q = can_do p w xs q lock known x same in
       let t : Tally = tally_of w q.entries in
       let u : Tally = tally_of (words_after d w) (entries_after (weight_in q.weights) p d q.entries) in

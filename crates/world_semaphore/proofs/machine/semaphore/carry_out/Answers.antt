@@ -1,14 +1,14 @@
 -- What each action finds and does: all else stays as it was.
-use Rattle.world_semaphore.proofs.Prelude.{◌≡◌, ℕ, ◌+◌, true, false, Bool, List, refl, sym, ap, Entry, is_marked_at, without, Action, Found, is_party, WeightedQueue, weighted_queue, weight_in, Words, FindsSo, deed_of, entries_after, words, told_by}
+use Rattle.world_semaphore.proofs.Prelude.{◌≡◌, ℕ, ◌+◌, true, false, Bool, List, refl, sym, ap, Entry, is_marked_at, without, Action, Found, is_party, WeightedQueue, weighted_queue, weight_in, Words, FindsSo, effect_of, entries_after, words, told_by}
 use Rattle.world_semaphore.specs.machine.Carried.{Carried}
 use Rattle.world_semaphore.proofs.machine.semaphore.carry_out.Goals as goal
 
 -- neither a look at the permits nor a raised limit does anything to the list
-takes_alone : (size : ℕ → ℕ) (p k : ℕ) (f : Found) (l : List (Entry ℕ)) → entries_after size p (deed_of (Action.Take k) f) l ≡ l
+takes_alone : (size : ℕ → ℕ) (p k : ℕ) (f : Found) (l : List (Entry ℕ)) → entries_after size p (effect_of (Action.Take k) f) l ≡ l
 takes_alone size p k (Found.Left a) l = refl
 takes_alone size p k _ l = refl
 
-raises_alone : (size : ℕ → ℕ) (p n : ℕ) (f : Found) (l : List (Entry ℕ)) → entries_after size p (deed_of (Action.Raise n) f) l ≡ l
+raises_alone : (size : ℕ → ℕ) (p n : ℕ) (f : Found) (l : List (Entry ℕ)) → entries_after size p (effect_of (Action.Raise n) f) l ≡ l
 raises_alone size p n Found.Done l = refl
 raises_alone size p n _ l = refl
 

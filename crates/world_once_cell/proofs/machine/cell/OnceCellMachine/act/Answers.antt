@@ -1,5 +1,5 @@
 -- An action of one party is one of its program, and keeps what always holds of the cell.
-use Rattle.world_once_cell.proofs.Prelude.{◌≡◌, ◌<◌, length, ap, sym, ◌∙◌, set, queue, action_of, position_after, Finds, deed_of, content_after, active_after, passive_after, answer_by, IsKept, content_of}
+use Rattle.world_once_cell.proofs.Prelude.{◌≡◌, ◌<◌, length, ap, sym, ◌∙◌, set, queue, action_of, position_after, Finds, effect_of, content_after, active_after, passive_after, answer_by, IsKept, content_of}
 use Rattle.world_once_cell.specs.machine.Machine.{Stands}
 use Rattle.world_once_cell.proofs.of_machine.laws.Kept.{after}
 use Rattle.world_once_cell.proofs.of_machine.laws.Locks.{began, locked, keeps}
@@ -15,9 +15,9 @@ invariant_of-self c =
     stood.goes c.requires.called.call c.requires.called.first in
     let to : c.after.result ≡ after c.in-Some.from c.carry_out-found.result = c.after.ensures ∙ ap position_after c.decide-next.ensures in
     let settled_words : content_of c.settle.new.self ≡ content_of c.self.inside.words = c.settle.ensures.content in
-    let words : content_of c.carry_out-found.new.words ≡ content_after c.args.party (deed_of (action_of c.in-Some.from) c.carry_out-found.result) (content_of c.self.inside.words) = rw settled_words at (rw c.action_at.ensures at c.carry_out-found.ensures.words) in
-    let active : c.carry_out-found.new.active ≡ queue c.self.inside.active.parties (active_after c.args.party (deed_of (action_of c.in-Some.from) c.carry_out-found.result) c.self.inside.active.entries) = rw c.action_at.ensures at c.carry_out-found.ensures.active in
-    let passive : c.carry_out-found.new.passive ≡ queue c.self.inside.passive.parties (passive_after c.args.party (deed_of (action_of c.in-Some.from) c.carry_out-found.result) c.self.inside.passive.entries) = rw c.action_at.ensures at c.carry_out-found.ensures.passive in
+    let words : content_of c.carry_out-found.new.words ≡ content_after c.args.party (effect_of (action_of c.in-Some.from) c.carry_out-found.result) (content_of c.self.inside.words) = rw settled_words at (rw c.action_at.ensures at c.carry_out-found.ensures.words) in
+    let active : c.carry_out-found.new.active ≡ queue c.self.inside.active.parties (active_after c.args.party (effect_of (action_of c.in-Some.from) c.carry_out-found.result) c.self.inside.active.entries) = rw c.action_at.ensures at c.carry_out-found.ensures.active in
+    let passive : c.carry_out-found.new.passive ≡ queue c.self.inside.passive.parties (passive_after c.args.party (effect_of (action_of c.in-Some.from) c.carry_out-found.result) c.self.inside.passive.entries) = rw c.action_at.ensures at c.carry_out-found.ensures.passive in
     let finds : Finds c.inputs.result c.args.party (action_of c.in-Some.from) c.carry_out-found.result (content_of c.self.inside.words) c.self.inside.active.entries c.self.inside.passive.entries = rw settled_words at (rw c.action_at.ensures at c.carry_out-found.ensures.finds) in
     let kept : IsKept (content_of c.self.inside.words) xs c.self.inside.active c.self.inside.passive = settled xs c.self.inside.active c.self.inside.passive c.self.inside.words c.self.invariant in
     rw (c.carry_out-found.ensures.kept, to, words, active, passive)
@@ -32,9 +32,9 @@ returns-clause-acts c =
     stood.goes c.requires.called.call c.requires.called.first in
     let to : c.after.result ≡ after c.in-Some.from c.carry_out-found.result = c.after.ensures ∙ ap position_after c.decide-next.ensures in
     let settled_words : content_of c.settle.new.self ≡ content_of c.self.inside.words = c.settle.ensures.content in
-    let words : content_of c.carry_out-found.new.words ≡ content_after c.args.party (deed_of (action_of c.in-Some.from) c.carry_out-found.result) (content_of c.self.inside.words) = rw settled_words at (rw c.action_at.ensures at c.carry_out-found.ensures.words) in
-    let active : c.carry_out-found.new.active ≡ queue c.self.inside.active.parties (active_after c.args.party (deed_of (action_of c.in-Some.from) c.carry_out-found.result) c.self.inside.active.entries) = rw c.action_at.ensures at c.carry_out-found.ensures.active in
-    let passive : c.carry_out-found.new.passive ≡ queue c.self.inside.passive.parties (passive_after c.args.party (deed_of (action_of c.in-Some.from) c.carry_out-found.result) c.self.inside.passive.entries) = rw c.action_at.ensures at c.carry_out-found.ensures.passive in
+    let words : content_of c.carry_out-found.new.words ≡ content_after c.args.party (effect_of (action_of c.in-Some.from) c.carry_out-found.result) (content_of c.self.inside.words) = rw settled_words at (rw c.action_at.ensures at c.carry_out-found.ensures.words) in
+    let active : c.carry_out-found.new.active ≡ queue c.self.inside.active.parties (active_after c.args.party (effect_of (action_of c.in-Some.from) c.carry_out-found.result) c.self.inside.active.entries) = rw c.action_at.ensures at c.carry_out-found.ensures.active in
+    let passive : c.carry_out-found.new.passive ≡ queue c.self.inside.passive.parties (passive_after c.args.party (effect_of (action_of c.in-Some.from) c.carry_out-found.result) c.self.inside.passive.entries) = rw c.action_at.ensures at c.carry_out-found.ensures.passive in
     let finds : Finds c.inputs.result c.args.party (action_of c.in-Some.from) c.carry_out-found.result (content_of c.self.inside.words) c.self.inside.active.entries c.self.inside.passive.entries = rw settled_words at (rw c.action_at.ensures at c.carry_out-found.ensures.finds) in
     let kept : IsKept (content_of c.self.inside.words) xs c.self.inside.active c.self.inside.passive = settled xs c.self.inside.active c.self.inside.passive c.self.inside.words c.self.invariant in
     rw (← c.self.view_is)
@@ -62,9 +62,9 @@ returns-clause-keeps c =
     stood.goes c.requires.called.call c.requires.called.first in
     let to : c.after.result ≡ after c.in-Some.from c.carry_out-found.result = c.after.ensures ∙ ap position_after c.decide-next.ensures in
     let settled_words : content_of c.settle.new.self ≡ content_of c.self.inside.words = c.settle.ensures.content in
-    let words : content_of c.carry_out-found.new.words ≡ content_after c.args.party (deed_of (action_of c.in-Some.from) c.carry_out-found.result) (content_of c.self.inside.words) = rw settled_words at (rw c.action_at.ensures at c.carry_out-found.ensures.words) in
-    let active : c.carry_out-found.new.active ≡ queue c.self.inside.active.parties (active_after c.args.party (deed_of (action_of c.in-Some.from) c.carry_out-found.result) c.self.inside.active.entries) = rw c.action_at.ensures at c.carry_out-found.ensures.active in
-    let passive : c.carry_out-found.new.passive ≡ queue c.self.inside.passive.parties (passive_after c.args.party (deed_of (action_of c.in-Some.from) c.carry_out-found.result) c.self.inside.passive.entries) = rw c.action_at.ensures at c.carry_out-found.ensures.passive in
+    let words : content_of c.carry_out-found.new.words ≡ content_after c.args.party (effect_of (action_of c.in-Some.from) c.carry_out-found.result) (content_of c.self.inside.words) = rw settled_words at (rw c.action_at.ensures at c.carry_out-found.ensures.words) in
+    let active : c.carry_out-found.new.active ≡ queue c.self.inside.active.parties (active_after c.args.party (effect_of (action_of c.in-Some.from) c.carry_out-found.result) c.self.inside.active.entries) = rw c.action_at.ensures at c.carry_out-found.ensures.active in
+    let passive : c.carry_out-found.new.passive ≡ queue c.self.inside.passive.parties (passive_after c.args.party (effect_of (action_of c.in-Some.from) c.carry_out-found.result) c.self.inside.passive.entries) = rw c.action_at.ensures at c.carry_out-found.ensures.passive in
     let finds : Finds c.inputs.result c.args.party (action_of c.in-Some.from) c.carry_out-found.result (content_of c.self.inside.words) c.self.inside.active.entries c.self.inside.passive.entries = rw settled_words at (rw c.action_at.ensures at c.carry_out-found.ensures.finds) in
     let kept : IsKept (content_of c.self.inside.words) xs c.self.inside.active c.self.inside.passive = settled xs c.self.inside.active c.self.inside.passive c.self.inside.words c.self.invariant in
     let answered = c.answer_to.ensures ∙ ap answer_by c.decide-next.ensures in

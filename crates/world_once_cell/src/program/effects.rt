@@ -4,7 +4,7 @@ ghost use Rattle.std.specs.Prelude.{◌≡◌};
 ghost use Rattle.world_base.specs.queue.Queues.{queue};
 ghost use Rattle.sync_program.specs.declared.once_cell.Action.TheVariants as acts;
 ghost use Rattle.sync_program.specs.declared.once_cell.ListName.TheVariants as lists;
-ghost use Rattle.world_once_cell.specs.program.Deeds.{CanDo, CanList, Finds, FindsJoin, FindsAsk, FindsMade, deed_of, content_after, active_after, passive_after};
+ghost use Rattle.world_once_cell.specs.program.Effects.{CanDo, CanList, Finds, FindsJoin, FindsAsk, FindsMade, effect_of, content_after, active_after, passive_after};
 ghost use Rattle.world_once_cell.specs.program.Words.{content_of, kept_of};
 
 use crate::program::words::Words;
@@ -30,7 +30,7 @@ fn polled(maker: Maker<u64>, made: Made) -> Found<u64>
 fn join_in(list: &mut WaitQueue, party: u32, memory: bool) -> Found<u64>
     requires { CanList party (acts.Join lists.Active) list.old }
     ensures finds { FindsJoin memory result }
-    ensures list { list.new ≡ queue list.old.parties (active_after party (deed_of (acts.Join lists.Active) result) list.old.entries) }
+    ensures list { list.new ≡ queue list.old.parties (active_after party (effect_of (acts.Join lists.Active) result) list.old.entries) }
 {
     if memory {
         list.join(party);
@@ -44,7 +44,7 @@ fn join_in(list: &mut WaitQueue, party: u32, memory: bool) -> Found<u64>
 fn ask_in(list: &mut WaitQueue, party: u32) -> Found<u64>
     requires { CanList party (acts.Ask lists.Active) list.old }
     ensures finds { FindsAsk party result list.old.entries }
-    ensures list { list.new ≡ queue list.old.parties (active_after party (deed_of (acts.Ask lists.Active) result) list.old.entries) }
+    ensures list { list.new ≡ queue list.old.parties (active_after party (effect_of (acts.Ask lists.Active) result) list.old.entries) }
 {
     if list.ask(party) {
         Found::Yes
@@ -65,10 +65,10 @@ pub fn carry_out(
     requires can { CanDo party action active.old passive.old }
     requires kept { kept_of words.old ≡ content_of words.old }
     ensures finds { Finds inputs party action result (content_of words.old) active.old.entries passive.old.entries }
-    ensures words { content_of words.new ≡ content_after party (deed_of action result) (content_of words.old) }
+    ensures words { content_of words.new ≡ content_after party (effect_of action result) (content_of words.old) }
     ensures kept { kept_of words.new ≡ content_of words.new }
-    ensures active { active.new ≡ queue active.old.parties (active_after party (deed_of action result) active.old.entries) }
-    ensures passive { passive.new ≡ queue passive.old.parties (passive_after party (deed_of action result) passive.old.entries) }
+    ensures active { active.new ≡ queue active.old.parties (active_after party (effect_of action result) active.old.entries) }
+    ensures passive { passive.new ≡ queue passive.old.parties (passive_after party (effect_of action result) passive.old.entries) }
 {
     match action {
         Action::Look => return words.look(),

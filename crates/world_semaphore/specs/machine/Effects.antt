@@ -28,10 +28,10 @@ pub data ListFunction : Type 0 where
   fits : ℕ → ListFunction
 
 -- A step does nothing, or makes one change of the state, or does one list function: never two of these.
-pub data Deed : Type 0 where
-  nothing : Deed
-  changes : Change → Deed
-  does : ListFunction → Deed
+pub data Effect : Type 0 where
+  nothing : Effect
+  changes : Change → Effect
+  does : ListFunction → Effect
 
 -- what the party has after a change
 abbrev pub share_after : Change → Share → Share
@@ -53,7 +53,7 @@ available_after (gives_back k) a = a + k
 available_after (gives n) a = a + n
 available_after _ a = a
 
-abbrev pub share_then : Deed → Share → Share
+abbrev pub share_then : Effect → Share → Share
 share_then (changes c) s = share_after c s
 share_then _ s = s
 
@@ -64,7 +64,7 @@ is_parting asks = false
 is_parting _ = true
 
 -- Once its call is decided, a party only gives back: its permits, those that are under way, its entry, a notification.
-abbrev pub gives_something_back : Deed → Bool
+abbrev pub gives_something_back : Effect → Bool
 gives_something_back nothing = true
 gives_something_back (changes (takes k)) = false
 gives_something_back (changes (raises n)) = false
@@ -72,7 +72,7 @@ gives_something_back (changes _) = true
 gives_something_back (does f) = is_parting f
 
 -- What gives something up: permits, or a place in the list without asking there.
-abbrev pub gives_up : Deed → Bool
+abbrev pub gives_up : Effect → Bool
 gives_up (changes (gives_back k)) = true
 gives_up (changes (forgets k)) = true
 gives_up (does removes) = true
@@ -81,7 +81,7 @@ gives_up _ = false
 abbrev pub words : ℕ → ℕ → ℕ → Words
 words available limit most = record { available = available; limit = limit; most = most }
 
-abbrev pub words_after : Deed → Words → Words
+abbrev pub words_after : Effect → Words → Words
 words_after (changes c) w = words (available_after c w.available) (limit_after c w.limit) w.most
 words_after _ w = w
 
@@ -92,24 +92,24 @@ list_after size p asks l = if is_marked_at (is_party p) l then without (is_party
 list_after size p removes l = without (is_party p) l
 list_after size p (fits a) l = fitted size a l
 
-abbrev pub entries_after : (ℕ → ℕ) → ℕ → Deed → List (Entry ℕ) → List (Entry ℕ)
+abbrev pub entries_after : (ℕ → ℕ) → ℕ → Effect → List (Entry ℕ) → List (Entry ℕ)
 entries_after size p (does f) l = list_after size p f l
 entries_after size p _ l = l
 
 -- what an action is that found this
-abbrev pub deed_of : Action → Found → Deed
-deed_of (act.Take k) (Left a) = changes (takes k)
-deed_of (act.GiveBack k) (Available a) = changes (gives_back k)
-deed_of (act.Give n) (Available a) = changes (gives n)
-deed_of (act.Raise n) Done = changes (raises n)
-deed_of (act.Lower k) Done = changes (forgets k)
-deed_of (act.Join k) Done = does joins
-deed_of act.Ask Yes = does asks
-deed_of act.Ask No = does asks
-deed_of act.Remove Yes = does removes
-deed_of act.Remove No = does removes
-deed_of (act.Fit a) Done = does (fits a)
-deed_of _ _ = nothing
+abbrev pub effect_of : Action → Found → Effect
+effect_of (act.Take k) (Left a) = changes (takes k)
+effect_of (act.GiveBack k) (Available a) = changes (gives_back k)
+effect_of (act.Give n) (Available a) = changes (gives n)
+effect_of (act.Raise n) Done = changes (raises n)
+effect_of (act.Lower k) Done = changes (forgets k)
+effect_of (act.Join k) Done = does joins
+effect_of act.Ask Yes = does asks
+effect_of act.Ask No = does asks
+effect_of act.Remove Yes = does removes
+effect_of act.Remove No = does removes
+effect_of (act.Fit a) Done = does (fits a)
+effect_of _ _ = nothing
 
 -- the weights of the list after an action: a party joins with its own
 abbrev pub weights_after : ℕ → Action → Found → List ℕ → List ℕ
@@ -123,7 +123,7 @@ FindsPermits k (Short a) available = (a ≡ available) × (a < k)
 FindsPermits k _ available = ⊥
 
 abbrev pub taken_after : ℕ → Found → Words → Words
-taken_after k found w = words_after (deed_of (act.Take k) found) w
+taken_after k found w = words_after (effect_of (act.Take k) found) w
 
 -- so many are available
 abbrev pub FindsSo : ℕ → Found → Type 0
@@ -142,7 +142,7 @@ FindsRoom n PastLimit w = w.most < w.limit + n
 FindsRoom n _ w = ⊥
 
 abbrev pub raised_after : ℕ → Found → Words → Words
-raised_after n found w = words_after (deed_of (act.Raise n) found) w
+raised_after n found w = words_after (effect_of (act.Raise n) found) w
 
 -- what an action's finding says of the words and of the list
 abbrev pub Finds : Bool → ℕ → Action → Found → Words → List (Entry ℕ) → Type 0

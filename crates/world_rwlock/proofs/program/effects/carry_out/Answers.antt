@@ -1,6 +1,6 @@
 -- What each action does: all else stays as it was.
 use Rattle.std.proofs.Common.{refl, ap}
-use Rattle.world_rwlock.proofs.program.deeds.carry_out.Goals as goal
+use Rattle.world_rwlock.proofs.program.effects.carry_out.Goals as goal
 
 pub returns-in-Nothing : goal.returns-in-Nothing
 returns-in-Nothing c = rw c.in-Nothing.is (record { word = refl; no_writer = refl; no_readers = refl; parties_w = refl; parties_r = refl; turn = refl; memory = _ })

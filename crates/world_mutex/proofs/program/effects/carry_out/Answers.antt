@@ -1,6 +1,6 @@
 -- What each action does: all else stays as it was.
 use Rattle.world_mutex.proofs.Prelude.{◌≡◌, Bool, true, false, refl, sym, ap, ◌∙◌, false≢true, Action}
-use Rattle.world_mutex.proofs.program.deeds.carry_out.Goals as goal
+use Rattle.world_mutex.proofs.program.effects.carry_out.Goals as goal
 
 abbrev is_take : Action → Bool
 is_take Action.Take = true

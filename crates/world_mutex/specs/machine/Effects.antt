@@ -1,7 +1,7 @@
--- The changes of a mutex, its one list, and what a deed on either leaves; and its calls.
+-- The changes of a mutex, its one list, and what an effect on either leaves; and its calls.
 use Rattle.std.specs.Prelude.{ℕ, ◌==◌, Bool, true, false, List, Option, Some, None, slice_set}
 use Rattle.lock_event.specs.declared.event.Entry.{Entry}
-use Rattle.world_base.specs.Steps.{Deed, nothing, changes, does, leaves, list_after, is_parting}
+use Rattle.world_base.specs.Steps.{Effect, nothing, changes, does, leaves, list_after, is_parting}
 use Rattle.lock_program.specs.declared.mutex.LockCall.{LockCall}
 use Rattle.lock_program.specs.declared.mutex.LockCall.TheVariants as call
 use Rattle.lock_program.specs.declared.end.End.{End}
@@ -18,22 +18,22 @@ pub data Change : Type 0 where
 pub data ListName : Type 0 where
   for_the_lock : ListName
 
-abbrev pub holder_after : ℕ → Deed Change ListName → Option ℕ → Option ℕ
+abbrev pub holder_after : ℕ → Effect Change ListName → Option ℕ → Option ℕ
 holder_after p (changes takes) h = Some p
 holder_after p (changes releases) h = None
 holder_after p _ h = h
 
-abbrev pub starved_after : ℕ → Deed Change ListName → List Bool → List Bool
+abbrev pub starved_after : ℕ → Effect Change ListName → List Bool → List Bool
 starved_after p (changes starves) s = slice_set s p true
 starved_after p (changes recovers) s = slice_set s p false
 starved_after p _ s = s
 
-abbrev pub entries_after : ℕ → Deed Change ListName → List (Entry ℕ) → List (Entry ℕ)
+abbrev pub entries_after : ℕ → Effect Change ListName → List (Entry ℕ) → List (Entry ℕ)
 entries_after p (does for_the_lock f) l = list_after p f l
 entries_after p _ l = l
 
 -- Once its call is decided, a party only gives back: the lock, its starved count, its entry, a notification.
-abbrev pub gives_back : Deed Change ListName → Bool
+abbrev pub gives_back : Effect Change ListName → Bool
 gives_back nothing = true
 gives_back (changes releases) = true
 gives_back (changes recovers) = true
@@ -41,14 +41,14 @@ gives_back (changes _) = false
 gives_back (does list f) = is_parting f
 
 -- What gives something up: the lock, the starved count, or a place in the list without asking there.
-abbrev pub gives_up : Deed Change ListName → Bool
+abbrev pub gives_up : Effect Change ListName → Bool
 gives_up (changes releases) = true
 gives_up (changes recovers) = true
 gives_up (does list leaves) = true
 gives_up _ = false
 
 -- The lock is given up.
-abbrev pub is_release : Deed Change ListName → Bool
+abbrev pub is_release : Effect Change ListName → Bool
 is_release (changes releases) = true
 is_release _ = false
 

@@ -1,5 +1,5 @@
 -- There is no join without memory.
-use Rattle.world_barrier.proofs.program.deeds.join_in.Goals as goal
+use Rattle.world_barrier.proofs.program.effects.join_in.Goals as goal
 
 pub returns-else-memory-clause-finds : goal.returns-else-memory-clause-finds
 returns-else-memory-clause-finds c = c.if-memory.false

@@ -4,7 +4,7 @@ ghost use Rattle.std.specs.Prelude.{◌≡◌, ◌<◌};
 ghost use Rattle.world_base.specs.queue.Queues.{queue};
 ghost use Rattle.world_base.specs.queue.Parties.{entries_of};
 ghost use Rattle.sync_program.specs.declared.barrier.Action.TheVariants as acts;
-ghost use Rattle.world_barrier.specs.program.Deeds.{CanDo, Finds, FindsJoin, FindsAsk, words_after, arrival_after, entries_after};
+ghost use Rattle.world_barrier.specs.program.Effects.{CanDo, Finds, FindsJoin, FindsAsk, words_after, arrival_after, entries_after};
 ghost use Rattle.world_barrier.specs.program.Locks.{OnLock};
 
 use crate::program::words::{Progress, Words};

@@ -7,7 +7,7 @@ use Rattle.world_base.specs.queue.Queues.{Queue}
 use Rattle.world_base.specs.declared.moves.Inputs.{Inputs}
 use Rattle.world_base.specs.declared.moves.Made.{Made}
 use Rattle.world_base.specs.declared.moves.Made.TheVariants as made
-use Rattle.world_base.specs.Steps.{Deed, nothing, changes, does, joins, asks, leaves, notifies, notifies_additionally, list_after}
+use Rattle.world_base.specs.Steps.{Effect, nothing, changes, does, joins, asks, leaves, notifies, notifies_additionally, list_after}
 use Rattle.world_once_cell.specs.declared.program.words.Content.{Content}
 use Rattle.world_once_cell.specs.declared.program.words.Content.TheVariants as content
 use Rattle.world_once_cell.specs.program.Program.{Action}
@@ -31,17 +31,17 @@ changed p begins = content.BeingMade p
 changed p (fills v) = content.Full v
 changed p empties = content.Empty
 
-abbrev pub content_after : ℕ → Deed Change ListName → Content → Content
+abbrev pub content_after : ℕ → Effect Change ListName → Content → Content
 content_after p (changes c) was = changed p c
 content_after p nothing was = was
 content_after p (does list f) was = was
 
--- a list after a deed that may be on it
-abbrev pub active_after : ℕ → Deed Change ListName → List (Entry ℕ) → List (Entry ℕ)
+-- a list after an effect that may be on it
+abbrev pub active_after : ℕ → Effect Change ListName → List (Entry ℕ) → List (Entry ℕ)
 active_after p (does Active f) l = list_after p f l
 active_after p _ l = l
 
-abbrev pub passive_after : ℕ → Deed Change ListName → List (Entry ℕ) → List (Entry ℕ)
+abbrev pub passive_after : ℕ → Effect Change ListName → List (Entry ℕ) → List (Entry ℕ)
 passive_after p (does Passive f) l = list_after p f l
 passive_after p _ l = l
 
@@ -50,17 +50,17 @@ abbrev pub everyone : ℕ
 everyone = 18446744073709551615
 
 -- what an action is that found this
-abbrev pub deed_of : Action → Found → Deed Change ListName
-deed_of act.Claim found.Empty = changes begins
-deed_of (act.Fill v) found.Done = changes (fills v)
-deed_of act.Empty found.Done = changes empties
-deed_of (act.Join list) found.Done = does list joins
-deed_of (act.Ask list) found.Yes = does list asks
-deed_of (act.Ask list) found.No = does list asks
-deed_of (act.Leave list) found.Done = does list leaves
-deed_of (act.Notify list) found.Done = does list (notifies 1)
-deed_of (act.NotifyAll list) found.Done = does list (notifies_additionally everyone)
-deed_of _ _ = nothing
+abbrev pub effect_of : Action → Found → Effect Change ListName
+effect_of act.Claim found.Empty = changes begins
+effect_of (act.Fill v) found.Done = changes (fills v)
+effect_of act.Empty found.Done = changes empties
+effect_of (act.Join list) found.Done = does list joins
+effect_of (act.Ask list) found.Yes = does list asks
+effect_of (act.Ask list) found.No = does list asks
+effect_of (act.Leave list) found.Done = does list leaves
+effect_of (act.Notify list) found.Done = does list (notifies 1)
+effect_of (act.NotifyAll list) found.Done = does list (notifies_additionally everyone)
+effect_of _ _ = nothing
 
 -- what a look at the cell finds
 abbrev pub FindsContent : Found → Content → Type 0
@@ -70,7 +70,7 @@ FindsContent (found.Full v) c = c ≡ content.Full v
 FindsContent _ c = ⊥
 
 abbrev pub claimed_after : ℕ → Found → Content → Content
-claimed_after p f c = content_after p (deed_of act.Claim f) c
+claimed_after p f c = content_after p (effect_of act.Claim f) c
 
 -- what the maker of an initialisation gives: a set has its value, and another maker gives what the move's input says
 abbrev pub FindsMade : Maker → Made → Found → Type 0
