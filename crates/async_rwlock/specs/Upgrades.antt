@@ -15,7 +15,7 @@ use Rattle.async_rwlock.specs.Guards.{Held}
 use Rattle.async_rwlock.specs.Stages.{Listed, At, HasReceiptAt, WaitsAt, upgrades_entry}
 use Rattle.async_rwlock.specs.declared.noted.NotedTurn.{NotedTurn}
 use Rattle.async_rwlock.specs.declared.rwlock.RwLock.{RwLock}
-use Rattle.async_rwlock.specs.declared.stage.Stage.{Stage}
+use Rattle.async_driver.specs.declared.stage.Stage.{Stage}
 
 abbrev pub OnUpgraded : {O T R : Type 0} → (O → RwLock T R) → Stage O → Context → Upgraded → Type 0
 OnUpgraded lock_of stage cx (Got w) = At lock_of stage (λ raw. AreSeatsOf raw w.seat w.turn)

@@ -5,7 +5,7 @@ use Rattle.bounded_pool.specs.declared.take.Taking.{Taking}
 use Rattle.bounded_pool.specs.declared.take.Taking.TheVariants as taking
 use Rattle.async_driver.specs.declared.turn.Turn.{Turn}
 use Rattle.async_driver.specs.declared.turn.Turn.TheVariants as turns
-use Rattle.async_semaphore.specs.Stages.{IsOf}
+use Rattle.async_driver.specs.Stages.{IsOf}
 use Rattle.lock_program.specs.declared.refusal.Refusal.TheVariants.{Memory}
 
 -- an item, and the pool that lent it

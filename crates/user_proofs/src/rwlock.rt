@@ -6,7 +6,7 @@
 
 ghost use Rattle.std.specs.Prelude.{◌≡◌, true, false, IfOk, IfSome};
 ghost use Rattle.std.specs.Arc.{arc_value};
-ghost use Rattle.async_rwlock.specs.Stages.{IsFor};
+ghost use Rattle.async_driver.specs.Stages.{IsFor};
 
 use async_lock::lock_futures::ReadArc;
 use async_lock::{
