@@ -8,17 +8,16 @@ ghost use Rattle.mutex_core.specs.Locks.{IsAt, IsOf, goes, with_joined, with_tol
 ghost use Rattle.lock_queue.specs.Receipts.{IsReceipt};
 
 use crate::cell::MOST;
-use crate::list_steps::{
-    ask_again_in, ask_in, give_asked, join_in, join_waking_in, leave_in, notify_in,
-};
 use crate::seat::Seat;
 use crate::words::Words;
 use futures::task::Context;
 use lock_event::{EntryId, Memory};
 use lock_program::mutex::{Found, Place};
-use lock_queue::{Joining, Whose};
+use lock_queue::{Heard, Joining, Whose};
 use std::sync::Wait;
-use words_mutex::steps::{LIST, NOTIFICATION, give_gone, give_joined, give_paid, give_same};
+use words_mutex::steps::{
+    LIST, LIST_SLOT, NOTIFICATION, give_gone, give_joined, give_paid, give_same, give_told,
+};
 use words_mutex::{take_out, wake_next};
 
 /// An entry that has joined with a waker of its task, and the word that its list had then.
@@ -41,7 +40,9 @@ impl<T> Words<T> {
     {
         let shared = &self.table.shared;
         let found = take_out(shared, rt, &mut seat.inner);
-        let (joined, word) = join_in(shared, &mut seat.inner, self.alloc, found);
+        let list = seat.inner.slot_mut(shared, LIST_SLOT);
+        let joined = list.queue.join(self.alloc);
+        let word = list.says(found, false);
         match joined {
             Ok(id) => {
                 let found = give_joined(shared, &mut seat.inner, word, &Joining { id });
@@ -76,14 +77,9 @@ impl<T> Words<T> {
     {
         let shared = &self.table.shared;
         let found = take_out(shared, rt, &mut seat.inner);
-        let (joined, word) = join_waking_in(
-            shared,
-            &mut seat.inner,
-            self.alloc,
-            &self.source,
-            cx,
-            found,
-        );
+        let list = seat.inner.slot_mut(shared, LIST_SLOT);
+        let joined = list.queue.join_waking(self.alloc, &self.source, cx);
+        let word = list.says(found, false);
         match joined {
             Ok((id, whose)) => {
                 let found = give_joined(shared, &mut seat.inner, word, &Joining { id });
@@ -110,7 +106,9 @@ impl<T> Words<T> {
     {
         let shared = &self.table.shared;
         let found = take_out(shared, rt, &mut seat.inner);
-        let (due, word) = notify_in(shared, &mut seat.inner, found);
+        let list = seat.inner.slot_mut(shared, LIST_SLOT);
+        let due = list.queue.notify();
+        let word = list.says(found, true);
         let found = give_paid(shared, &mut seat.inner, word);
         wake_next(shared, found);
         seat.go(at, Found::Done);
@@ -128,7 +126,9 @@ impl<T> Words<T> {
     {
         let shared = &self.table.shared;
         let found = take_out(shared, rt, &mut seat.inner);
-        let (kept, due, word) = leave_in(shared, &mut seat.inner, id, found);
+        let list = seat.inner.slot_mut(shared, LIST_SLOT);
+        let (kept, due) = list.queue.leave(id);
+        let word = list.says(found, list.queue.is_notified());
         let found = give_gone(shared, &mut seat.inner, word);
         wake_next(shared, found);
         seat.go(at, Found::Done);
@@ -157,10 +157,24 @@ impl<T> Words<T> {
     {
         let shared = &self.table.shared;
         let found = take_out(shared, rt, &mut seat.inner);
-        let (heard, word) = ask_in(shared, &mut seat.inner, id, &self.source, cx, found);
-        let kept = give_asked(shared, &mut seat.inner, heard, word);
-        seat.go(at, answer(kept.is_some()));
-        kept
+        let list = seat.inner.slot_mut(shared, LIST_SLOT);
+        let heard = list.queue.ask(id, &self.source, cx);
+        let word = list.says(found, false);
+        match heard {
+            Heard::Waits(whose) => {
+                let found = give_same(shared, &mut seat.inner, word);
+                wake_next(shared, found);
+                seat.go(at, Found::No);
+                Some(whose)
+            }
+            Heard::Told(waker) => {
+                let found = give_told(shared, &mut seat.inner, word);
+                wake_next(shared, found);
+                seat.go(at, Found::Yes);
+                drop(waker);
+                None
+            }
+        }
     }
 
     // The same, of an entry that keeps the waker that it has: whether it waits.
@@ -176,10 +190,24 @@ impl<T> Words<T> {
     {
         let shared = &self.table.shared;
         let found = take_out(shared, rt, &mut seat.inner);
-        let (heard, word) = ask_again_in(shared, &mut seat.inner, id, found);
-        let waits = give_asked(shared, &mut seat.inner, heard, word).is_some();
-        seat.go(at, answer(waits));
-        waits
+        let list = seat.inner.slot_mut(shared, LIST_SLOT);
+        let heard = list.queue.ask_again(id);
+        let word = list.says(found, false);
+        match heard {
+            Heard::Waits(()) => {
+                let found = give_same(shared, &mut seat.inner, word);
+                wake_next(shared, found);
+                seat.go(at, Found::No);
+                true
+            }
+            Heard::Told(waker) => {
+                let found = give_told(shared, &mut seat.inner, word);
+                wake_next(shared, found);
+                seat.go(at, Found::Yes);
+                drop(waker);
+                false
+            }
+        }
     }
 
     /// Whether an entry waits that has joined with a waker: one load, where the list was not notified since. Else it asks for its
@@ -198,25 +226,11 @@ impl<T> Words<T> {
         ensures told { result ≡ false → seat.new ≡ goes at finds.Yes (with_told seat.old) }
         ensures waits { result ≡ true → seat.new ≡ goes at finds.No seat.old }
     {
-        if self.is_still(joined.word) {
+        let told = joined.word / NOTIFICATION;
+        if told < MOST && self.table.shared.peek(LIST) / NOTIFICATION == told {
             seat.go(at, Found::No);
             return true;
         }
         self.ask_again(rt, seat, joined.id, at)
     }
-
-    // Whether the list was not notified since its word was this.
-    fn is_still(&self, word: u64) -> bool {
-        let told = word / NOTIFICATION;
-        told < MOST && self.table.shared.peek(LIST) / NOTIFICATION == told
-    }
-}
-
-// What an entry that asks finds: whether it was notified.
-#[inline(always)]
-fn answer(waits: bool) -> Found
-    ensures told { waits ≡ false → result ≡ finds.Yes }
-    ensures waits { waits ≡ true → result ≡ finds.No }
-{
-    if waits { Found::No } else { Found::Yes }
 }

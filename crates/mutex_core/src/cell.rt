@@ -1,17 +1,24 @@
 //! What lies in a slot of a mutex's table.
 
-ghost use Rattle.std.specs.Prelude.{◌≡◌, ◌%◌, [], true};
+ghost use Rattle.std.specs.Prelude.{◌≡◌, ◌%◌, []};
 ghost use Rattle.mutex_core.specs.Cells.{entries_of, cell_entries};
 ghost use Rattle.words_mutex.specs.Rule.{SaysEmpty};
 
+use atomic_table::Seat as TableSeat;
 use lock_place::{Rested, Spare};
 use lock_queue::Queue;
 use std::mem;
-use words_mutex::Content;
-use words_mutex::steps::{ENTRIES, NOTIFICATION};
+use words_mutex::steps::{ENTRIES, NOTIFICATION, Ruled};
+use words_mutex::{Content, View};
 
 // How many notifications a list's word counts at most.
 pub(crate) const MOST: u64 = 2_305_843_009_213_693_951;
+
+// The tables of mutexes over a `T`.
+pub(crate) type Listing<T> = Ruled<T, Cell<T>>;
+
+// The seats of those tables.
+pub(crate) type Lister<T> = TableSeat<Cell<T>, View>;
 
 /// What lies in a slot of a mutex's table: its waiting list, or the right to its value. One of the two is nothing.
 pub struct Cell<T> {

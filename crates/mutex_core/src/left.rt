@@ -13,7 +13,7 @@ ghost use Rattle.words_mutex.specs.Seats.{cleared_of, paid_of, saw_held_of};
 ghost use Rattle.words_mutex.specs.Steps.{IsHeld};
 ghost use Rattle.words_base.specs.Tries.{OnAlone, OnTaking};
 
-use crate::list_steps::{Lister, Listing, notify_in};
+use crate::cell::{Lister, Listing};
 use crate::seat::Seat;
 use crate::words::{Words, take_right};
 use lock_place::{Hold, Place as ValuePlace, Spare};
@@ -21,7 +21,7 @@ use lock_program::mutex::{Found, Place};
 use std::alloc::Global;
 use std::sync::Wait;
 use words_base::{Taking, TakingAlone};
-use words_mutex::steps::{COUNT, HELD, RIGHT_SLOT, clear, give_paid, grab, lift, look};
+use words_mutex::steps::{COUNT, HELD, LIST_SLOT, RIGHT_SLOT, clear, give_paid, grab, lift, look};
 use words_mutex::wake_next;
 
 /// A lock is held for good: a step found it held where nobody is left who could give it back.
@@ -176,7 +176,9 @@ fn give_all_back<T>(shared: &Listing<T>, inner: &mut Lister<T>, found: u64)
 {
     inner.turn();
     clear(shared, inner);
-    let (due, word) = notify_in(shared, inner, found);
+    let list = inner.slot_mut(shared, LIST_SLOT);
+    let due = list.queue.notify();
+    let word = list.says(found, true);
     let found = give_paid(shared, inner, word);
     wake_next(shared, found);
     drop(due.pay());

@@ -10,7 +10,6 @@ mod calls;
 mod cell;
 mod course;
 mod left;
-mod list_steps;
 mod mutex;
 mod patience;
 mod seat;

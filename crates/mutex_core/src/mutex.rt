@@ -8,9 +8,9 @@ ghost use Rattle.lock_program.specs.Mutex.{next_of};
 ghost use Rattle.lock_program.specs.declared.end.Next.TheVariants.{Do};
 ghost use Rattle.lock_program.specs.declared.mutex.Found.TheVariants as finds;
 ghost use Rattle.lock_program.specs.declared.mutex.Place.TheVariants as at;
-ghost use Rattle.mutex_core.specs.Courses.{IsFirst, IsOutside, notifying_of, pending, refusing, striving_from, waiting_from};
+ghost use Rattle.mutex_core.specs.Courses.{IsFirst, refusing, striving_from, waiting_from};
 ghost use Rattle.mutex_core.specs.Locks.{IsOf, IsSameSeat};
-ghost use Rattle.mutex_core.specs.Outcomes.{IsBySeat, IsGivenUp, IsHeldOf, IsKept, IsOutcomeOf, IsRightOf, WaitsSince};
+ghost use Rattle.mutex_core.specs.Outcomes.{IsBySeat, IsGivenUp, IsHeldOf, IsOutcomeOf, IsRightOf, WaitsSince};
 ghost use Rattle.std.specs.declared.time.Instant.{Instant};
 
 use crate::patience::{first_of, now};
@@ -296,7 +296,13 @@ impl<T> Words<T> {
             return Outcome::Refused(self.refuse(rt, seat, told, Refusal::Starved));
         }
         if let Some(whose) = self.ask(rt, &mut seat, id, cx, Place::AskStarved) {
-            return Outcome::Waits(starves(seat, id, whose));
+            return Outcome::Waits(Waiting {
+                seat,
+                id,
+                whose,
+                since: None,
+                is_starved: true,
+            });
         }
         self.strive(rt, cx, seat, true)
     }
@@ -372,7 +378,13 @@ impl<T> Words<T> {
                 }
             }
             if let Some(whose) = self.ask(rt, &mut seat, id, cx, Place::AskStarved) {
-                return Outcome::Waits(starves(seat, id, whose));
+                return Outcome::Waits(Waiting {
+                    seat,
+                    id,
+                    whose,
+                    since: None,
+                    is_starved: true,
+                });
             }
             told = true;
         }
@@ -391,7 +403,11 @@ impl<T> Words<T> {
     {
         let mut seat = seat;
         if told {
-            self.notify(rt, &mut seat, notifying(refusal));
+            let at = match refusal {
+                Refusal::Memory => Place::RefuseNotifyMemory,
+                _ => Place::RefuseNotifyStarved,
+            };
+            self.notify(rt, &mut seat, at);
         }
         seat.give_up(refusal)
     }
@@ -409,29 +425,5 @@ impl<T> Words<T> {
         self.uncount(&mut seat, Place::RefuseUncount);
         self.notify(rt, &mut seat, Place::RefuseNotifyMemory);
         seat.give_up(Refusal::Memory)
-    }
-}
-
-// What is kept of a starved party that waits. It doesn't matter any more when it first waited.
-fn starves<T>(seat: Seat<T>, id: EntryId, whose: Whose) -> Waiting<T>
-    requires { (seat.holds ≡ false) × (seat.starved ≡ true) × (seat.owes ≡ false) × (seat.listed ≡ true) × (seat.fresh ≡ false) × (seat.entry ≡ id.number) × (seat.course ≡ pending true) }
-    ensures { (result.seat ≡ seat) × (result.whose ≡ whose) × (result.is_starved ≡ true) }
-{
-    Waiting {
-        seat,
-        id,
-        whose,
-        since: None,
-        is_starved: true,
-    }
-}
-
-// Where a party that gives up hands on what it was notified of.
-fn notifying(refusal: Refusal) -> Place
-    ensures { result ≡ notifying_of refusal }
-{
-    match refusal {
-        Refusal::Memory => Place::RefuseNotifyMemory,
-        _ => Place::RefuseNotifyStarved,
     }
 }

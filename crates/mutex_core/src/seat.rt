@@ -5,9 +5,8 @@ ghost use Rattle.mutex_core.specs.Courses.{IsOutside, IsStart, outside, refusing
 ghost use Rattle.mutex_core.specs.Locks.{HasSlots, goes, seated, with_begun};
 ghost use Rattle.words_mutex.specs.Rule.{first_view};
 
-use crate::cell::Cell;
+use crate::cell::{Cell, Listing};
 use crate::course::Course;
-use crate::list_steps::Listing;
 use atomic_table::Seat as TableSeat;
 use lock_program::mutex::{Found, LockCall, Place, decide};
 use lock_program::{End, Next, Refusal};

@@ -2,11 +2,10 @@
 
 ghost use Rattle.std.specs.Prelude.{◌≡◌};
 
-use crate::list_steps::entry_in;
 use crate::words::Words;
 use lock_event::{EntryId, Mark};
 use std::sync::Wait;
-use words_mutex::steps::{COUNT, ENTRIES, LIST, WORD, give_same};
+use words_mutex::steps::{COUNT, ENTRIES, LIST, LIST_SLOT, WORD, give_same};
 use words_mutex::{take_out, wake_next};
 
 impl<T> Words<T> {
@@ -25,7 +24,9 @@ impl<T> Words<T> {
         let mut seat = self.sit();
         let shared = &self.table.shared;
         let found = take_out(shared, rt, &mut seat.inner);
-        let (entry, word) = entry_in(shared, &mut seat.inner, index, found);
+        let list = seat.inner.slot_mut(shared, LIST_SLOT);
+        let entry = list.queue.entry(index);
+        let word = list.says(found, false);
         let found = give_same(shared, &mut seat.inner, word);
         wake_next(shared, found);
         seat.rise();

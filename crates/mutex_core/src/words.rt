@@ -1,18 +1,16 @@
 //! The words of a mutex, its list and the right to its value, and the tries on the words.
 
-ghost use Rattle.std.specs.Prelude.{◌≡◌, ℕ, ◌≤◌, ◌⊎◌, true, false, [], ◌∷◌, IfErr, IfOk, IsSome, OnOk, OnErr};
+ghost use Rattle.std.specs.Prelude.{◌≡◌, ◌≤◌, ◌⊎◌, true, false, [], ◌∷◌, IfErr, IfOk, IsSome, OnOk, OnErr};
 ghost use Rattle.atomic_table.specs.Table.{rest};
 ghost use Rattle.lock_place.specs.Rested.{IsRight};
 ghost use Rattle.lock_program.specs.declared.mutex.Action.TheVariants as act;
 ghost use Rattle.lock_program.specs.declared.mutex.Found.TheVariants as finds;
 ghost use Rattle.mutex_core.specs.Locks.{HasSlots, IsAt, IsOf, entering, goes, with_got, with_held, with_look, with_cleared, with_paid, with_count, with_count_owing, with_uncounted};
 ghost use Rattle.mutex_core.specs.Outcomes.{IsRightOf};
-ghost use Rattle.words_mutex.specs.Seats.{cleared_of};
 ghost use Rattle.words_base.specs.Tries.{OnTaking, OnAlone, OnSetting};
 
-use crate::cell::Cell;
+use crate::cell::{Cell, Lister, Listing};
 use crate::left::WasHeld;
-use crate::list_steps::{Lister, Listing};
 use crate::seat::Seat;
 use atomic_table::Table;
 use futures::task::Source;
@@ -265,9 +263,16 @@ impl<T> Words<T> {
         ensures not { OnErr result (seat.new ≡ goes at finds.AtLimit seat.old) }
         ensures limit { IfErr result (λ full. self.now.limit ≤ full.starved) }
     {
-        let counted = tally_listed(&self.table.shared, rt, &mut seat.inner, self.limit);
-        seat.go(at, counting(&counted));
-        counted
+        match tally_listed(&self.table.shared, rt, &mut seat.inner, self.limit) {
+            Ok(()) => {
+                seat.go(at, Found::Done);
+                Ok(())
+            }
+            Err(full) => {
+                seat.go(at, Found::AtLimit);
+                Err(full)
+            }
+        }
     }
 
     /// Counts a seat as starved, as [`Words::count_listed`]. The seat may have no entry, and owes a look then.
@@ -279,9 +284,16 @@ impl<T> Words<T> {
         ensures not { OnErr result (seat.new ≡ goes at finds.AtLimit seat.old) }
         ensures limit { IfErr result (λ full. self.now.limit ≤ full.starved) }
     {
-        let counted = tally(&self.table.shared, rt, &mut seat.inner, self.limit);
-        seat.go(at, counting(&counted));
-        counted
+        match tally(&self.table.shared, rt, &mut seat.inner, self.limit) {
+            Ok(()) => {
+                seat.go(at, Found::Done);
+                Ok(())
+            }
+            Err(full) => {
+                seat.go(at, Found::AtLimit);
+                Err(full)
+            }
+        }
     }
 
     /// Takes a seat's count off: one step.
@@ -304,7 +316,10 @@ impl<T> Words<T> {
         requires right { IsRightOf self.now hold }
         ensures { seat.new ≡ goes at finds.Done (with_cleared seat.old) }
     {
-        give_back(&self.table.shared, &mut seat.inner, hold.park().rest());
+        let shared = &self.table.shared;
+        let place = seat.inner.slot_mut(shared, RIGHT_SLOT);
+        drop(place.put_right(hold.park().rest()));
+        clear(shared, &mut seat.inner);
         seat.go(at, Found::Done);
     }
 
@@ -322,18 +337,6 @@ impl<T> Words<T> {
         }
         seat.go(at, Found::Done);
         false
-    }
-}
-
-// What a count finds.
-#[inline(always)]
-fn counting(counted: &Result<(), Full>) -> Found
-    ensures done { OnOk counted.now (result ≡ finds.Done) }
-    ensures full { OnErr counted.now (result ≡ finds.AtLimit) }
-{
-    match counted {
-        Ok(()) => Found::Done,
-        Err(_) => Found::AtLimit,
     }
 }
 
@@ -368,17 +371,4 @@ pub(crate) fn take_right<T>(shared: &Listing<T>, spare: &Spare<T>, inner: &mut L
 {
     let place = inner.slot_mut(shared, RIGHT_SLOT);
     place.put_right(Rested::nothing(spare)).into_hold(spare)
-}
-
-// Lays the right into its slot, and gives the lock back with it.
-#[inline]
-fn give_back<T>(shared: &Listing<T>, inner: &mut Lister<T>, right: Rested<T>)
-    requires table { (inner.old.table_id ≡ shared.now.table_id) × (shared.now.table_id.words ≡ 2) × (shared.now.table_id.slots ≡ 2) }
-    requires right { IsRight inner.old.me.0.room inner.old.me.0.deed right }
-    requires holds { (inner.old.me.0.holds ≡ true) × HasSlots true inner.old.me.1 }
-    ensures { (inner.new.table_id ≡ inner.old.table_id) × (inner.new.id ≡ inner.old.id) × (inner.new.me ≡ (cleared_of inner.old.me.0, [])) }
-{
-    let place = inner.slot_mut(shared, RIGHT_SLOT);
-    drop(place.put_right(right));
-    clear(shared, inner);
 }

@@ -1,9 +1,0 @@
-use Rattle.mutex_core.proofs.Returning.{lent, leaves}
-use Rattle.mutex_core.proofs.list_steps.leave_in.Goals as goal
-
-pub slot_mut-list-requires : goal.slot_mut-list-requires
-slot_mut-list-requires g c = (c.requires.table, lent c.args.inner.now.me c.requires.held)
-
-pub returns-clause-ready : goal.returns-clause-ready
-returns-clause-ready g c =
-    leaves c.args.inner.now.me c.requires.held c.slot_mut-list.result.now (record c.slot_mut-list.result.now { queue = c.leave-kept.new.self }) c.says-says.result c.slot_mut-list.ensures.value c.says-says.ensures c.args.id.number c.requires.own c.leave-kept.ensures
