@@ -11,18 +11,15 @@ ghost use Rattle.barrier_core.specs.Rejoining.{FindsAgain};
 ghost use Rattle.lock_queue.specs.Receipts.{IsReceipt};
 
 use crate::list::MOST;
-use crate::list_steps::{
-    ask_again_in, ask_in, give_asked, join_in, join_waking_in, leave_in, next_due_in, notify_all_in,
-};
 use crate::raw::RawBarrier;
 use crate::seat::Seat;
 use futures::task::Context;
 use lock_event::{EntryId, Memory};
-use lock_queue::{AllDue, Joining, Whose};
+use lock_queue::{AllDue, Due, Heard, Joining, Whose};
 use std::sync::Wait;
 use sync_program::barrier::{Found, Place};
 use words_barrier::steps::{
-    ENTRIES, LIST, NOTIFICATION, give_gone, give_joined, give_paid, give_same, peek,
+    ENTRIES, LIST, LIST_SLOT, NOTIFICATION, give_gone, give_joined, give_paid, give_same, peek,
 };
 use words_barrier::{take_out, wake_next};
 
@@ -56,7 +53,9 @@ impl RawBarrier {
     {
         let shared = &self.table.shared;
         let found = take_out(shared, rt, &mut seat.inner);
-        let (joined, word) = join_in(shared, &mut seat.inner, self.alloc, found);
+        let list = seat.inner.slot_mut(shared, LIST_SLOT);
+        let joined = list.queue.join(self.alloc);
+        let word = list.says(found, false);
         match joined {
             Ok(id) => {
                 let found = give_joined(shared, &mut seat.inner, word, &Joining { id });
@@ -91,14 +90,9 @@ impl RawBarrier {
     {
         let shared = &self.table.shared;
         let found = take_out(shared, rt, &mut seat.inner);
-        let (joined, word) = join_waking_in(
-            shared,
-            &mut seat.inner,
-            self.alloc,
-            self.inner.source(),
-            cx,
-            found,
-        );
+        let list = seat.inner.slot_mut(shared, LIST_SLOT);
+        let joined = list.queue.join_waking(self.alloc, self.inner.source(), cx);
+        let word = list.says(found, false);
         match joined {
             Ok((id, whose)) => {
                 let found = give_joined(shared, &mut seat.inner, word, &Joining { id });
@@ -165,7 +159,9 @@ impl RawBarrier {
     {
         let shared = &self.table.shared;
         let found = take_out(shared, rt, &mut seat.inner);
-        let (kept, due, word) = leave_in(shared, &mut seat.inner, id, found);
+        let list = seat.inner.slot_mut(shared, LIST_SLOT);
+        let (kept, due) = list.queue.leave(id);
+        let word = list.says(found, list.queue.is_notified());
         let found = give_gone(shared, &mut seat.inner, word);
         wake_next(shared, found);
         drop(kept);
@@ -191,10 +187,24 @@ impl RawBarrier {
     {
         let shared = &self.table.shared;
         let found = take_out(shared, rt, &mut seat.inner);
-        let (heard, word) = ask_in(shared, &mut seat.inner, id, self.inner.source(), cx, found);
-        let kept = give_asked(shared, &mut seat.inner, heard, word);
-        seat.go(at, answer(kept.is_some()));
-        kept
+        let list = seat.inner.slot_mut(shared, LIST_SLOT);
+        let heard = list.queue.ask(id, self.inner.source(), cx);
+        let word = list.says(found, false);
+        match heard {
+            Heard::Waits(whose) => {
+                let found = give_same(shared, &mut seat.inner, word);
+                wake_next(shared, found);
+                seat.go(at, Found::No);
+                Some(whose)
+            }
+            Heard::Told(waker) => {
+                let found = give_gone(shared, &mut seat.inner, word);
+                wake_next(shared, found);
+                seat.go(at, Found::Yes);
+                drop(waker);
+                None
+            }
+        }
     }
 
     // The same, of an entry that keeps the waker that it has: whether it waits.
@@ -209,10 +219,24 @@ impl RawBarrier {
     {
         let shared = &self.table.shared;
         let found = take_out(shared, rt, &mut seat.inner);
-        let (heard, word) = ask_again_in(shared, &mut seat.inner, id, found);
-        let waits = give_asked(shared, &mut seat.inner, heard, word).is_some();
-        seat.go(at, answer(waits));
-        waits
+        let list = seat.inner.slot_mut(shared, LIST_SLOT);
+        let heard = list.queue.ask_again(id);
+        let word = list.says(found, false);
+        match heard {
+            Heard::Waits(()) => {
+                let found = give_same(shared, &mut seat.inner, word);
+                wake_next(shared, found);
+                seat.go(at, Found::No);
+                true
+            }
+            Heard::Told(waker) => {
+                let found = give_gone(shared, &mut seat.inner, word);
+                wake_next(shared, found);
+                seat.go(at, Found::Yes);
+                drop(waker);
+                false
+            }
+        }
     }
 
     /// Whether an entry waits that has joined with a waker: one load, where the list was not notified since. Else it asks for its
@@ -224,17 +248,12 @@ impl RawBarrier {
         ensures told { result ≡ false → seat.new ≡ goes at finds.Yes (with_gone seat.old) }
         ensures waits { result ≡ true → seat.new ≡ goes at finds.No seat.old }
     {
-        if self.is_still(joined.word) {
+        let told = joined.word / NOTIFICATION;
+        if told < MOST && self.table.shared.peek(LIST) / NOTIFICATION == told {
             seat.go(at, Found::No);
             return true;
         }
         self.ask_again(rt, seat, joined.id, at)
-    }
-
-    // Whether the list was not notified since its word was this.
-    fn is_still(&self, word: u64) -> bool {
-        let told = word / NOTIFICATION;
-        told < MOST && self.table.shared.peek(LIST) / NOTIFICATION == told
     }
 
     /// Returns whether the list may have entries: one load. If not, there is nobody to notify, so that was done, and the seat owes nothing any
@@ -262,7 +281,9 @@ impl RawBarrier {
     {
         let shared = &self.table.shared;
         let found = take_out(shared, rt, &mut seat.inner);
-        let (due, word) = notify_all_in(shared, &mut seat.inner, self.alloc, found);
+        let list = seat.inner.slot_mut(shared, LIST_SLOT);
+        let due = list.queue.notify_each(self.alloc);
+        let word = list.says(found, true);
         let found = give_paid(shared, &mut seat.inner, word);
         wake_next(shared, found);
         seat.go(at, Found::Done);
@@ -300,18 +321,11 @@ impl RawBarrier {
     {
         let shared = &self.table.shared;
         let found = take_out(shared, rt, &mut seat.inner);
-        let (due, word) = next_due_in(shared, &mut seat.inner, found);
+        let list = seat.inner.slot_mut(shared, LIST_SLOT);
+        let due = Due::of(list.queue.next_due());
+        let word = list.says(found, false);
         let found = give_same(shared, &mut seat.inner, word);
         wake_next(shared, found);
         due.pay().is_some()
     }
-}
-
-// What an entry that asks finds: whether it was notified.
-#[inline(always)]
-fn answer(waits: bool) -> Found
-    ensures told { waits ≡ false → result ≡ finds.Yes }
-    ensures waits { waits ≡ true → result ≡ finds.No }
-{
-    if waits { Found::No } else { Found::Yes }
 }

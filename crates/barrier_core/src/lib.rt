@@ -11,7 +11,6 @@ mod arrivals;
 mod calls;
 mod ended_by;
 mod list;
-mod list_steps;
 mod locking;
 mod polls;
 mod raw;

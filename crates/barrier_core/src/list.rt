@@ -4,12 +4,19 @@ ghost use Rattle.std.specs.Prelude.{◌≡◌, []};
 ghost use Rattle.lock_queue.specs.Queues.{entries_of};
 ghost use Rattle.barrier_core.specs.Lists.{Says};
 
+use atomic_table::Seat as TableSeat;
 use lock_queue::Queue;
-use words_barrier::Content;
-use words_barrier::steps::{ENTRIES, NOTIFICATION};
+use words_barrier::steps::{ENTRIES, NOTIFICATION, Ruled};
+use words_barrier::{Content, View};
 
 // How many notifications a list's word counts at most.
 pub(crate) const MOST: u64 = 2_305_843_009_213_693_951;
+
+// The tables of barriers.
+pub(crate) type Listing = Ruled<Entries>;
+
+// The seats of those tables.
+pub(crate) type Lister = TableSeat<Entries, View>;
 
 /// The entries of those that wait at a barrier.
 pub struct Entries {

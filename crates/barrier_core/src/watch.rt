@@ -2,12 +2,11 @@
 
 ghost use Rattle.std.specs.Prelude.{◌≡◌};
 
-use crate::list_steps::entry_in;
 use crate::raw::RawBarrier;
 use crate::seat::Course;
 use lock_event::{EntryId, Mark};
 use std::sync::Wait;
-use words_barrier::steps::{ENTRIES, LIST, WORD, give_same};
+use words_barrier::steps::{ENTRIES, LIST, LIST_SLOT, WORD, give_same};
 use words_barrier::{take_out, wake_next};
 
 impl RawBarrier {
@@ -26,7 +25,9 @@ impl RawBarrier {
         let (mut seat, _) = self.sit(Course::new());
         let shared = &self.table.shared;
         let found = take_out(shared, rt, &mut seat.inner);
-        let (entry, word) = entry_in(shared, &mut seat.inner, index, found);
+        let list = seat.inner.slot_mut(shared, LIST_SLOT);
+        let entry = list.queue.entry(index);
+        let word = list.says(found, false);
         let found = give_same(shared, &mut seat.inner, word);
         wake_next(shared, found);
         seat.rise();

@@ -9,10 +9,7 @@ ghost use Rattle.sync_program.specs.declared.permits.Action.TheVariants as act;
 ghost use Rattle.sync_program.specs.declared.permits.Found.TheVariants as finds;
 ghost use Rattle.semaphore_core.specs.Semaphores.{IsAt, IsOf, goes, with_joined, with_told, with_gone, with_paid};
 
-use crate::list_steps::{
-    ask_again_in, ask_in, fit_in, give_asked, give_entered, give_left, join_in, join_waking_in,
-    remove_in, see_in,
-};
+use crate::giving_back::{give_asked, give_entered, give_left};
 use crate::queue::MOST;
 use crate::raw::RawSemaphore;
 use crate::seat::Seat;
@@ -21,7 +18,7 @@ use lock_event::{EntryId, Memory};
 use lock_queue::Whose;
 use std::sync::Wait;
 use sync_program::permits::{Found, Place};
-use words_permits::steps::{LIST, NOTIFICATION, give_paid, give_same};
+use words_permits::steps::{LIST, LIST_SLOT, NOTIFICATION, give_paid, give_same};
 use words_permits::{take_out, wake_next};
 
 /// An entry that has joined with a waker of its task, and the word that its list had then.
@@ -51,7 +48,9 @@ impl RawSemaphore {
     {
         let shared = &self.table.shared;
         let found = take_out(shared, rt, &mut seat.inner);
-        let (joined, word) = join_in(shared, &mut seat.inner, self.alloc, permits, found);
+        let list = seat.inner.slot_mut(shared, LIST_SLOT);
+        let joined = list.join(self.alloc, permits);
+        let word = list.says(found, false);
         match joined {
             Ok(id) => {
                 let found = give_entered(shared, &mut seat.inner, id, permits, word);
@@ -88,15 +87,9 @@ impl RawSemaphore {
     {
         let shared = &self.table.shared;
         let found = take_out(shared, rt, &mut seat.inner);
-        let (joined, word) = join_waking_in(
-            shared,
-            &mut seat.inner,
-            self.alloc,
-            permits,
-            &self.source,
-            cx,
-            found,
-        );
+        let list = seat.inner.slot_mut(shared, LIST_SLOT);
+        let joined = list.join_waking(self.alloc, permits, &self.source, cx);
+        let word = list.says(found, false);
         match joined {
             Ok((id, whose)) => {
                 let found = give_entered(shared, &mut seat.inner, id, permits, word);
@@ -123,10 +116,13 @@ impl RawSemaphore {
     {
         let shared = &self.table.shared;
         let found = take_out(shared, rt, &mut seat.inner);
-        let (was_notified, kept, word) = remove_in(shared, &mut seat.inner, id, found);
+        let list = seat.inner.slot_mut(shared, LIST_SLOT);
+        let (was_notified, kept) = list.remove(id);
+        let word = list.says(found, false);
         let found = give_left(shared, &mut seat.inner, id, was_notified, word);
         wake_next(shared, found);
-        seat.go(at, answer(was_notified));
+        let heard = if was_notified { Found::Yes } else { Found::No };
+        seat.go(at, heard);
         drop(kept);
         was_notified
     }
@@ -151,9 +147,16 @@ impl RawSemaphore {
     {
         let shared = &self.table.shared;
         let found = take_out(shared, rt, &mut seat.inner);
-        let (heard, word) = ask_in(shared, &mut seat.inner, id, &self.source, cx, found);
+        let list = seat.inner.slot_mut(shared, LIST_SLOT);
+        let heard = list.ask(id, &self.source, cx);
+        let word = list.says(found, false);
         let kept = give_asked(shared, &mut seat.inner, id, heard, word);
-        seat.go(at, answer(kept.is_none()));
+        let heard = if kept.is_none() {
+            Found::Yes
+        } else {
+            Found::No
+        };
+        seat.go(at, heard);
         kept
     }
 
@@ -169,9 +172,12 @@ impl RawSemaphore {
     {
         let shared = &self.table.shared;
         let found = take_out(shared, rt, &mut seat.inner);
-        let (heard, word) = ask_again_in(shared, &mut seat.inner, id, found);
+        let list = seat.inner.slot_mut(shared, LIST_SLOT);
+        let heard = list.ask_again(id);
+        let word = list.says(found, false);
         let waits = give_asked(shared, &mut seat.inner, id, heard, word).is_some();
-        seat.go(at, answer(!waits));
+        let heard = if waits { Found::No } else { Found::Yes };
+        seat.go(at, heard);
         waits
     }
 
@@ -184,17 +190,12 @@ impl RawSemaphore {
         ensures told { result ≡ false → seat.new ≡ goes at finds.Yes (with_told seat.old) }
         ensures waits { result ≡ true → seat.new ≡ goes at finds.No seat.old }
     {
-        if self.is_still(joined.word) {
+        let told = joined.word / NOTIFICATION;
+        if told < MOST && self.table.shared.peek(LIST) / NOTIFICATION == told {
             seat.go(at, Found::No);
             return true;
         }
         self.ask_again(rt, seat, joined.id, at)
-    }
-
-    // Whether the list was not notified since its word was this.
-    fn is_still(&self, word: u64) -> bool {
-        let told = word / NOTIFICATION;
-        told < MOST && self.table.shared.peek(LIST) / NOTIFICATION == told
     }
 
     /// Notifies the first waiter for whom as many permits are enough as the seat found last, if nobody is notified and there is such a
@@ -232,7 +233,13 @@ impl RawSemaphore {
         let mut seat = self.sit();
         let shared = &self.table.shared;
         let found = take_out(shared, rt, &mut seat.inner);
-        let (len, is_notified, word) = see_in(shared, &mut seat.inner, id, found);
+        let list = seat.inner.slot_mut(shared, LIST_SLOT);
+        let len = list.len();
+        let is_notified = match id {
+            Some(id) => list.is_notified(id),
+            None => false,
+        };
+        let word = list.says(found, false);
         let found = give_same(shared, &mut seat.inner, word);
         wake_next(shared, found);
         seat.rise();
@@ -259,19 +266,12 @@ impl RawSemaphore {
     {
         let shared = &self.table.shared;
         let found = take_out(shared, rt, &mut seat.inner);
-        let (due, word) = fit_in(shared, &mut seat.inner, available, found);
+        let list = seat.inner.slot_mut(shared, LIST_SLOT);
+        let due = list.fit(available);
+        let word = list.says(found, true);
         let found = give_paid(shared, &mut seat.inner, available, word);
         wake_next(shared, found);
         seat.go(at, Found::Done);
         drop(due.pay());
     }
-}
-
-// What an entry finds that leaves or asks: whether it was notified.
-#[inline(always)]
-fn answer(is_told: bool) -> Found
-    ensures told { is_told ≡ true → result ≡ finds.Yes }
-    ensures not { is_told ≡ false → result ≡ finds.No }
-{
-    if is_told { Found::Yes } else { Found::No }
 }

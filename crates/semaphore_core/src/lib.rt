@@ -9,8 +9,8 @@
 mod actions;
 mod calls;
 mod course;
+mod giving_back;
 mod list;
-mod list_steps;
 mod polls;
 mod queue;
 mod raw;

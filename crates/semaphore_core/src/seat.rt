@@ -5,7 +5,7 @@ ghost use Rattle.semaphore_core.specs.Courses.{IsOutside, IsStart, outside};
 ghost use Rattle.semaphore_core.specs.Semaphores.{entering, goes, seated, with_begun, with_look};
 
 use crate::course::Course;
-use crate::list_steps::Listing;
+use crate::giving_back::Listing;
 use crate::queue::Queue;
 use crate::raw::RawSemaphore;
 use atomic_table::Seat as TableSeat;

@@ -1,8 +1,0 @@
-use Rattle.barrier_core.proofs.Returning.{lent, leaves}
-use Rattle.barrier_core.proofs.list_steps.leave_in.Goals as goal
-
-pub slot_mut-list-requires : goal.slot_mut-list-requires
-slot_mut-list-requires c = (c.requires.table, lent c.args.inner.now.me c.requires.held)
-
-pub returns-clause-ready : goal.returns-clause-ready
-returns-clause-ready c = leaves c.args.inner.now.me c.requires.held c.slot_mut-list.result.now (record c.slot_mut-list.result.now { queue = c.leave-kept.new.self }) c.says-says.result c.slot_mut-list.ensures.value c.says-says.ensures c.args.id.number c.leave-kept.ensures c.requires.entry
