@@ -1,8 +1,10 @@
 -- What contracts see of a lock's state and lists, and of a seat there.
-use Rattle.std.specs.Prelude.{◌≡◌, ℕ, ◌/◌, ◌<◌, Bool, true, false, refl}
+use Rattle.std.specs.Prelude.{◌≡◌, ⊤, ℕ, ◌/◌, ◌<◌, Bool, true, false, refl}
 use Rattle.std.specs.Coded.{Coded, code_by, coded×, coded_ℕ, coded_bool}
 use Rattle.atomic_table.specs.Seated.{TableId, table_id_coded}
 use Rattle.words_access.specs.declared.view.View.{View}
+use Rattle.access_core.specs.declared.lists.Side.{Side}
+use Rattle.access_core.specs.declared.lists.Side.TheVariants as sides
 
 -- A state with its lists: its table, with which source its waiters register, and how many may read.
 pub record Lock : Type 0 where
@@ -100,29 +102,35 @@ with_relief s = record s { owes_readers = false }
 abbrev pub with_ease : Seated → Seated
 with_ease s = record s { owes_readers = false; owes_writer = false }
 
-abbrev pub with_joined_readers : ℕ → Seated → Seated
-with_joined_readers n s = record s { in_readers = true; fresh = true; entry = n }
+-- what the calls on the list of this name make of it: its entry n has joined; was notified, and has left; has left; and one of the list is notified
+abbrev pub with_joined : Side → ℕ → Seated → Seated
+with_joined sides.Readers n s = record s { in_readers = true; fresh = true; entry = n }
+with_joined sides.Writer n s = record s { in_writer = true; fresh = true; entry = n }
 
-abbrev pub with_joined_writer : ℕ → Seated → Seated
-with_joined_writer n s = record s { in_writer = true; fresh = true; entry = n }
+abbrev pub with_told : Side → Seated → Seated
+with_told sides.Readers s = record s { in_readers = false; owes_readers = true }
+with_told sides.Writer s = record s { in_writer = false; owes_writer = true }
 
-abbrev pub with_told_reader : Seated → Seated
-with_told_reader s = record s { in_readers = false; owes_readers = true }
+abbrev pub with_gone : Side → Seated → Seated
+with_gone sides.Readers s = record s { in_readers = false; fresh = false }
+with_gone sides.Writer s = record s { in_writer = false; fresh = false }
 
-abbrev pub with_told_writer : Seated → Seated
-with_told_writer s = record s { in_writer = false; owes_writer = true }
+abbrev pub with_paid : Side → Seated → Seated
+with_paid sides.Readers s = record s { owes_readers = false }
+with_paid sides.Writer s = record s { owes_writer = false }
 
-abbrev pub with_gone_reader : Seated → Seated
-with_gone_reader s = record s { in_readers = false; fresh = false }
+-- It may join the list of this name: the writer's, if it has set the writer's bit.
+abbrev pub MayJoin : Side → Seated → Type 0
+MayJoin sides.Readers s = ⊤
+MayJoin sides.Writer s = s.marks ≡ true
 
-abbrev pub with_gone_writer : Seated → Seated
-with_gone_writer s = record s { in_writer = false; fresh = false }
+-- It stands in the list of this name, and not in the other; and does so with the entry n.
+abbrev pub IsIn : Side → Seated → Type 0
+IsIn sides.Readers s = (s.in_readers ≡ true) × (s.in_writer ≡ false)
+IsIn sides.Writer s = (s.in_writer ≡ true) × (s.in_readers ≡ false)
 
-abbrev pub with_paid_readers : Seated → Seated
-with_paid_readers s = record s { owes_readers = false }
-
-abbrev pub with_paid_writer : Seated → Seated
-with_paid_writer s = record s { owes_writer = false }
+abbrev pub Stands : Side → ℕ → Seated → Type 0
+Stands side n s = IsIn side s × (s.entry ≡ n)
 
 -- it owes nothing, stands in no list, and isn't fresh
 abbrev pub IsCalm : Seated → Type 0

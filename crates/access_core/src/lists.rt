@@ -5,18 +5,33 @@ ghost use Rattle.futures.specs.Task.{Keeps};
 ghost use Rattle.words_base.specs.Lists.{nobody, Stays, Pays, Joins, Leaves, GoesOn};
 ghost use Rattle.lock_queue.specs.Asking.{ByHeard};
 ghost use Rattle.lock_queue.specs.Receipts.{IsReceipt};
-ghost use Rattle.access_core.specs.Contents.{readers_of, writer_of, Says};
+ghost use Rattle.access_core.specs.Contents.{readers_of, writer_of, Says, Changes};
 
-use crate::watch::Side;
+use atomic_table::Seat as TableSeat;
 use futures::task::{Context, Source, Waker};
 use lock_event::{EntryId, Mark, Memory};
 use lock_queue::{Due, Heard, Queue, Whose};
 use std::alloc::Global;
-use words_access::Content;
-use words_access::steps::{ENTRIES, NOTIFICATION};
+use words_access::steps::{ENTRIES, NOTIFICATION, Ruled};
+use words_access::{Content, View};
 
 // How many notifications the lists' word counts at most.
 pub(crate) const MOST: u64 = 2_305_843_009_213_693_951;
+
+// The tables of locks' states.
+pub(crate) type Listing = Ruled<Lists>;
+
+// The seats of those tables.
+pub(crate) type Lister = TableSeat<Lists, View>;
+
+/// One of a lock's two lists, by its name.
+#[derive(Clone, Copy, PartialEq, Eq)]
+pub enum Side {
+    /// That of those that wait until the writer's bit is clear.
+    Readers,
+    /// That of who waits until no reader is inside.
+    Writer,
+}
 
 /// A lock's two lists.
 pub struct Lists {
@@ -68,120 +83,76 @@ impl Lists {
         }
     }
 
-    pub(crate) fn join_readers(&mut self, alloc: Global) -> Result<EntryId, Memory>
-        ensures joined { IfOk result (λ id. Joins id.number (readers_of self.old) (readers_of self.new)) }
-        ensures refused { OnErr result (Stays (readers_of self.old) (readers_of self.new)) }
-        ensures other { writer_of self.new ≡ writer_of self.old }
+    pub(crate) fn join(&mut self, side: Side, alloc: Global) -> Result<EntryId, Memory>
+        ensures joined { IfOk result (λ id. Changes (Joins id.number) side self.old self.new) }
+        ensures refused { OnErr result (Changes Stays side self.old self.new) }
     {
-        self.readers.join(alloc)
+        match side {
+            Side::Readers => self.readers.join(alloc),
+            Side::Writer => self.writer.join(alloc),
+        }
     }
 
-    pub(crate) fn join_readers_waking(
+    pub(crate) fn join_waking(
         &mut self,
+        side: Side,
         alloc: Global,
         source: &Source,
         cx: &mut Context<'_>,
     ) -> Result<(EntryId, Whose), Memory>
-        ensures joined { IfOk result (λ joined. Joins joined.0.number (readers_of self.old) (readers_of self.new)) }
-        ensures refused { OnErr result (Stays (readers_of self.old) (readers_of self.new)) }
-        ensures other { writer_of self.new ≡ writer_of self.old }
+        ensures joined { IfOk result (λ joined. Changes (Joins joined.0.number) side self.old self.new) }
+        ensures refused { OnErr result (Changes Stays side self.old self.new) }
         ensures keeps { IfOk result (λ joined. IsReceipt source.now.id cx.new joined.1) }
         ensures kept { Keeps cx.old cx.new }
     {
-        self.readers.join_waking(alloc, source, cx)
+        match side {
+            Side::Readers => self.readers.join_waking(alloc, source, cx),
+            Side::Writer => self.writer.join_waking(alloc, source, cx),
+        }
     }
 
-    pub(crate) fn ask_readers(
+    pub(crate) fn ask(
         &mut self,
+        side: Side,
         id: EntryId,
         source: &Source,
         cx: &mut Context<'_>,
     ) -> Heard<Whose>
-        ensures asked { ByHeard result (Leaves id.number (readers_of self.old) (readers_of self.new)) (λ _. Stays (readers_of self.old) (readers_of self.new)) }
-        ensures other { writer_of self.new ≡ writer_of self.old }
+        ensures asked { ByHeard result (Changes (Leaves id.number) side self.old self.new) (λ _. Changes Stays side self.old self.new) }
         ensures waits { ByHeard result (cx.new ≡ cx.old) (IsReceipt source.now.id cx.new) }
         ensures kept { Keeps cx.old cx.new }
     {
-        self.readers.ask(id, source, cx)
+        match side {
+            Side::Readers => self.readers.ask(id, source, cx),
+            Side::Writer => self.writer.ask(id, source, cx),
+        }
     }
 
-    pub(crate) fn ask_readers_again(&mut self, id: EntryId) -> Heard<()>
-        ensures asked { ByHeard result (Leaves id.number (readers_of self.old) (readers_of self.new)) (λ _. Stays (readers_of self.old) (readers_of self.new)) }
-        ensures other { writer_of self.new ≡ writer_of self.old }
+    pub(crate) fn ask_again(&mut self, side: Side, id: EntryId) -> Heard<()>
+        ensures { ByHeard result (Changes (Leaves id.number) side self.old self.new) (λ _. Changes Stays side self.old self.new) }
     {
-        self.readers.ask_again(id)
+        match side {
+            Side::Readers => self.readers.ask_again(id),
+            Side::Writer => self.writer.ask_again(id),
+        }
     }
 
-    pub(crate) fn leave_readers(&mut self, id: EntryId) -> (Option<Waker>, Due)
-        ensures left { GoesOn id.number (readers_of self.old) (readers_of self.new) }
-        ensures other { writer_of self.new ≡ writer_of self.old }
+    pub(crate) fn leave(&mut self, side: Side, id: EntryId) -> (Option<Waker>, Due)
+        ensures { Changes (GoesOn id.number) side self.old self.new }
     {
-        self.readers.leave(id)
+        match side {
+            Side::Readers => self.readers.leave(id),
+            Side::Writer => self.writer.leave(id),
+        }
     }
 
-    pub(crate) fn notify_readers(&mut self) -> Due
-        ensures told { Pays (readers_of self.old) (readers_of self.new) }
-        ensures other { writer_of self.new ≡ writer_of self.old }
+    pub(crate) fn notify(&mut self, side: Side) -> Due
+        ensures { Changes Pays side self.old self.new }
     {
-        self.readers.notify()
-    }
-
-    pub(crate) fn join_writer(&mut self, alloc: Global) -> Result<EntryId, Memory>
-        ensures joined { IfOk result (λ id. Joins id.number (writer_of self.old) (writer_of self.new)) }
-        ensures refused { OnErr result (Stays (writer_of self.old) (writer_of self.new)) }
-        ensures other { readers_of self.new ≡ readers_of self.old }
-    {
-        self.writer.join(alloc)
-    }
-
-    pub(crate) fn join_writer_waking(
-        &mut self,
-        alloc: Global,
-        source: &Source,
-        cx: &mut Context<'_>,
-    ) -> Result<(EntryId, Whose), Memory>
-        ensures joined { IfOk result (λ joined. Joins joined.0.number (writer_of self.old) (writer_of self.new)) }
-        ensures refused { OnErr result (Stays (writer_of self.old) (writer_of self.new)) }
-        ensures other { readers_of self.new ≡ readers_of self.old }
-        ensures keeps { IfOk result (λ joined. IsReceipt source.now.id cx.new joined.1) }
-        ensures kept { Keeps cx.old cx.new }
-    {
-        self.writer.join_waking(alloc, source, cx)
-    }
-
-    pub(crate) fn ask_writer(
-        &mut self,
-        id: EntryId,
-        source: &Source,
-        cx: &mut Context<'_>,
-    ) -> Heard<Whose>
-        ensures asked { ByHeard result (Leaves id.number (writer_of self.old) (writer_of self.new)) (λ _. Stays (writer_of self.old) (writer_of self.new)) }
-        ensures other { readers_of self.new ≡ readers_of self.old }
-        ensures waits { ByHeard result (cx.new ≡ cx.old) (IsReceipt source.now.id cx.new) }
-        ensures kept { Keeps cx.old cx.new }
-    {
-        self.writer.ask(id, source, cx)
-    }
-
-    pub(crate) fn ask_writer_again(&mut self, id: EntryId) -> Heard<()>
-        ensures asked { ByHeard result (Leaves id.number (writer_of self.old) (writer_of self.new)) (λ _. Stays (writer_of self.old) (writer_of self.new)) }
-        ensures other { readers_of self.new ≡ readers_of self.old }
-    {
-        self.writer.ask_again(id)
-    }
-
-    pub(crate) fn leave_writer(&mut self, id: EntryId) -> (Option<Waker>, Due)
-        ensures left { GoesOn id.number (writer_of self.old) (writer_of self.new) }
-        ensures other { readers_of self.new ≡ readers_of self.old }
-    {
-        self.writer.leave(id)
-    }
-
-    pub(crate) fn notify_writer(&mut self) -> Due
-        ensures told { Pays (writer_of self.old) (writer_of self.new) }
-        ensures other { readers_of self.new ≡ readers_of self.old }
-    {
-        self.writer.notify()
+        match side {
+            Side::Readers => self.readers.notify(),
+            Side::Writer => self.writer.notify(),
+        }
     }
 
     // The entry at this index of a list.

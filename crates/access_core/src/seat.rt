@@ -5,8 +5,7 @@ ghost use Rattle.access_core.specs.Accesses.{IsIdle, IsOf, entering, owing, seat
 ghost use Rattle.words_access.specs.declared.view.View.{View as SeatView};
 
 use crate::access::Access;
-use crate::list_steps::Listing;
-use crate::lists::Lists;
+use crate::lists::{Listing, Lists};
 use atomic_table::{Badge, Seat as TableSeat};
 use std::marker::Model;
 use words_access::steps::{STATE, split_duty};

@@ -1,20 +1,11 @@
 //! What a test sees of the lists.
 
 use crate::access::Access;
-use crate::list_steps::entry_in;
+use crate::lists::Side;
 use lock_event::{EntryId, Mark};
 use std::sync::Wait;
-use words_access::steps::give_same;
+use words_access::steps::{LIST_SLOT, give_same};
 use words_access::{take_out, wake_next};
-
-/// One of a lock's two lists.
-#[derive(Clone, Copy, PartialEq, Eq)]
-pub enum Side {
-    /// Of those that wait until the writer's bit is clear.
-    Readers,
-    /// Of who waits until no reader is inside.
-    Writer,
-}
 
 impl Access {
     /// Returns the entry at this index of a list, counted from the front, with its mark. It is for tests.
@@ -22,7 +13,9 @@ impl Access {
         let mut seat = self.sit();
         let shared = &self.table.shared;
         let found = take_out(shared, rt, &mut seat.inner);
-        let (entry, word) = entry_in(shared, &mut seat.inner, side, index, found);
+        let lists = seat.inner.slot_mut(shared, LIST_SLOT);
+        let entry = lists.entry(side, index);
+        let word = lists.says(found, false);
         let found = give_same(shared, &mut seat.inner, word);
         wake_next(shared, found);
         seat.rise();

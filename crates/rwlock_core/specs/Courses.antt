@@ -10,6 +10,8 @@ use Rattle.sync_program.specs.declared.rwlock.Found.TheVariants as finds
 use Rattle.sync_program.specs.declared.rwlock.Place.{Place}
 use Rattle.sync_program.specs.declared.rwlock.Place.TheVariants as at
 use Rattle.access_core.specs.Accesses.{Seated}
+use Rattle.access_core.specs.declared.lists.Side.{Side}
+use Rattle.access_core.specs.declared.lists.Side.TheVariants as sides
 use Rattle.rwlock_core.specs.declared.course.Course.{Course}
 
 -- what its party does next, or how the call ended and where that left it
@@ -23,6 +25,19 @@ IsAt p act course = (next_in course ≡ next.Do p) × (action_of p ≡ act)
 -- the action of this place found this
 abbrev pub Goes : Place → Found → Course → Type 0
 Goes p found course = next_in course ≡ next_of p found
+
+-- what is done to the list of this name: an entry joins it, asks, and leaves it
+abbrev pub joins : Side → Action
+joins sides.Readers = act.JoinNoWriter
+joins sides.Writer = act.JoinNoReaders
+
+abbrev pub asks : Side → Action
+asks sides.Readers = act.AskNoWriter
+asks sides.Writer = act.AskNoReaders
+
+abbrev pub leaves : Side → Action
+leaves sides.Readers = act.LeaveNoWriter
+leaves sides.Writer = act.LeaveNoReaders
 
 -- where a call goes on once it has the turn
 abbrev pub HasTurn : Place → Type 0

@@ -1,5 +1,5 @@
 -- What a try with the turn was in vain by.
-use Rattle.std.specs.Prelude.{◌≡◌, ◌≢◌, ◌≤◌, ◌/◌}
+use Rattle.std.specs.Prelude.{◌≢◌, ◌≤◌, ◌/◌}
 use Rattle.access_core.specs.Accesses.{IsIdle, IsOf}
 use Rattle.mutex_core.specs.Courses.{IsOutside}
 use Rattle.mutex_core.specs.Locks as turn

@@ -15,7 +15,7 @@ ghost use Rattle.lock_queue.specs.Receipts.{IsReceipt};
 use crate::course::Course;
 use crate::party::{Awaited, WaitsToWrite};
 use crate::rwlock::RawRwLock;
-use access_core::{Readers, Seat};
+use access_core::{Readers, Seat, Side};
 use futures::task::Context;
 use lock_event::Memory;
 use std::sync::Wait;
@@ -43,20 +43,21 @@ impl RawRwLock {
     {
         let mut seat = seat;
         let at = Place::JoinNoReaders { upgrade };
-        let joined = match self.join_writer_waking(rt, &mut seat, cx, course, at) {
+        let joined = match self.join_waking(rt, Side::Writer, &mut seat, cx, course, at) {
             Ok(joined) => joined,
             Err(Memory) => return Awaited::NoMemory(seat),
         };
         // The last reader may have gone before it joined, and told nobody.
         match self.look(&mut seat, course, Place::LookNoReaders { upgrade }) {
             Readers::NoneLeft => {
-                self.leave_writer(rt, &mut seat, joined.id, course, Place::LeaveNoReaders);
+                let at = Place::LeaveNoReaders;
+                self.leave(rt, Side::Writer, &mut seat, joined.id, course, at);
                 return Awaited::Writes(seat);
             }
             Readers::SomeLeft => {}
         }
         let at = Place::AskNoReaders { upgrade };
-        if self.still_waits_writer(rt, &mut seat, &joined, course, at) {
+        if self.still_waits(rt, Side::Writer, &mut seat, &joined, course, at) {
             return Awaited::Waits(WaitsToWrite {
                 seat,
                 id: joined.id,
@@ -114,13 +115,14 @@ impl RawRwLock {
         } = waiting;
         match self.look(&mut seat, course, Place::AwaitNoReaders { upgrade }) {
             Readers::NoneLeft => {
-                self.leave_writer(rt, &mut seat, id, course, Place::LeaveNoReaders);
+                let at = Place::LeaveNoReaders;
+                self.leave(rt, Side::Writer, &mut seat, id, course, at);
                 return Awaited::Writes(seat);
             }
             Readers::SomeLeft => {}
         }
         let at = Place::AskNoReaders { upgrade };
-        if let Some(whose) = self.ask_writer(rt, &mut seat, id, cx, course, at) {
+        if let Some(whose) = self.ask(rt, Side::Writer, &mut seat, id, cx, course, at) {
             return Awaited::Waits(WaitsToWrite { seat, id, whose });
         }
         self.await_on(rt, cx, seat, course, upgrade)
@@ -151,19 +153,20 @@ impl RawRwLock {
                 Readers::SomeLeft => {}
             }
             let at = Place::JoinNoReaders { upgrade };
-            let id = match self.join_writer(rt, &mut seat, course, at) {
+            let id = match self.join(rt, Side::Writer, &mut seat, course, at) {
                 Ok(id) => id,
                 Err(Memory) => return Awaited::NoMemory(seat),
             };
             match self.look(&mut seat, course, Place::LookNoReaders { upgrade }) {
                 Readers::NoneLeft => {
-                    self.leave_writer(rt, &mut seat, id, course, Place::LeaveNoReaders);
+                    let at = Place::LeaveNoReaders;
+                    self.leave(rt, Side::Writer, &mut seat, id, course, at);
                     return Awaited::Writes(seat);
                 }
                 Readers::SomeLeft => {}
             }
             let at = Place::AskNoReaders { upgrade };
-            if let Some(whose) = self.ask_writer(rt, &mut seat, id, cx, course, at) {
+            if let Some(whose) = self.ask(rt, Side::Writer, &mut seat, id, cx, course, at) {
                 return Awaited::Waits(WaitsToWrite { seat, id, whose });
             }
         }
@@ -205,7 +208,7 @@ impl RawRwLock {
             id,
             whose: _,
         } = waiting;
-        self.leave_writer(rt, &mut seat, id, course, Place::CancelAwait);
+        self.leave(rt, Side::Writer, &mut seat, id, course, Place::CancelAwait);
         self.clear_mark(rt, seat, course, Place::Unmark { refused: false }, false);
     }
 

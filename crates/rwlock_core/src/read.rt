@@ -17,7 +17,7 @@ ghost use Rattle.rwlock_core.specs.Parties.{IsSeatOf};
 use crate::course::Course;
 use crate::party::{Outcome, Reader, WaitsToRead};
 use crate::rwlock::RawRwLock;
-use access_core::{Entering, Left, Seat};
+use access_core::{Entering, Left, Seat, Side};
 use futures::task::Context;
 use lock_event::Memory;
 use lock_program::{End, Refusal};
@@ -100,7 +100,7 @@ impl RawRwLock {
             Entering::Writer => {}
         }
         let at = Place::JoinNoWriter { told: false };
-        let joined = match self.join_readers_waking(rt, &mut seat, cx, &mut course, at) {
+        let joined = match self.join_waking(rt, Side::Readers, &mut seat, cx, &mut course, at) {
             Ok(joined) => joined,
             Err(Memory) => return Outcome::Refused(self.refuse_read(
                 rt,
@@ -114,12 +114,13 @@ impl RawRwLock {
         let at = Place::LookNoWriter { told: false };
         match self.enter(rt, &mut seat, &mut course, at) {
             Entering::Reads => {
-                self.leave_readers(rt, &mut seat, joined.id, &mut course, Place::LeaveNoWriter);
+                let at = Place::LeaveNoWriter;
+                self.leave(rt, Side::Readers, &mut seat, joined.id, &mut course, at);
                 return reads(seat, course);
             }
             Entering::Full => {
                 let at = Place::RefuseLeave { told: false };
-                self.leave_readers(rt, &mut seat, joined.id, &mut course, at);
+                self.leave(rt, Side::Readers, &mut seat, joined.id, &mut course, at);
                 return Outcome::Refused(self.refuse_read(
                     rt,
                     seat,
@@ -130,8 +131,9 @@ impl RawRwLock {
             }
             Entering::Writer => {}
         }
-        if self.still_waits_readers(rt, &mut seat, &joined, &mut course, Place::AskNoWriter) {
-            course.end(End::Pending, Place::AskNoWriter);
+        let at = Place::AskNoWriter;
+        if self.still_waits(rt, Side::Readers, &mut seat, &joined, &mut course, at) {
+            course.end(End::Pending, at);
             return Outcome::Waits(WaitsToRead {
                 seat,
                 id: joined.id,
@@ -162,7 +164,7 @@ impl RawRwLock {
         } = waiting;
         let at = Place::AskNoWriter;
         let mut course = Course::begin(RwLockCall::Poll, at, at);
-        if let Some(whose) = self.ask_readers(rt, &mut seat, id, cx, &mut course, at) {
+        if let Some(whose) = self.ask(rt, Side::Readers, &mut seat, id, cx, &mut course, at) {
             course.end(End::Pending, at);
             return Outcome::Waits(WaitsToRead { seat, id, whose });
         }
@@ -202,7 +204,7 @@ impl RawRwLock {
                 Entering::Writer => {}
             }
             let at = Place::JoinNoWriter { told: true };
-            let id = match self.join_readers(rt, &mut seat, &mut course, at) {
+            let id = match self.join(rt, Side::Readers, &mut seat, &mut course, at) {
                 Ok(id) => id,
                 Err(Memory) => return Outcome::Refused(self.refuse_read(
                     rt,
@@ -215,12 +217,13 @@ impl RawRwLock {
             let at = Place::LookNoWriter { told: true };
             match self.enter(rt, &mut seat, &mut course, at) {
                 Entering::Reads => {
-                    self.leave_readers(rt, &mut seat, id, &mut course, Place::LeaveNoWriter);
+                    let at = Place::LeaveNoWriter;
+                    self.leave(rt, Side::Readers, &mut seat, id, &mut course, at);
                     return reads(seat, course);
                 }
                 Entering::Full => {
                     let at = Place::RefuseLeave { told: true };
-                    self.leave_readers(rt, &mut seat, id, &mut course, at);
+                    self.leave(rt, Side::Readers, &mut seat, id, &mut course, at);
                     return Outcome::Refused(self.refuse_read(
                         rt,
                         seat,
@@ -232,7 +235,7 @@ impl RawRwLock {
                 Entering::Writer => {}
             }
             let at = Place::AskNoWriter;
-            if let Some(whose) = self.ask_readers(rt, &mut seat, id, cx, &mut course, at) {
+            if let Some(whose) = self.ask(rt, Side::Readers, &mut seat, id, cx, &mut course, at) {
                 course.end(End::Pending, at);
                 return Outcome::Waits(WaitsToRead { seat, id, whose });
             }
@@ -284,7 +287,7 @@ impl RawRwLock {
         } = waiting;
         let at = Place::CancelRead;
         let mut course = Course::begin(RwLockCall::Drop, Place::AskNoWriter, at);
-        self.leave_readers(rt, &mut seat, id, &mut course, at);
+        self.leave(rt, Side::Readers, &mut seat, id, &mut course, at);
         course.end(End::GivenBack, Place::Out);
         seat.rise();
     }

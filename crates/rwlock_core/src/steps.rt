@@ -1,11 +1,10 @@
 //! Each single action of a read-write lock's program: a step on its state, a call on one of its lists, or a call on its turn. It asks that the
 //! call has come to its place, and moves the call's course by what it found. Only these move a course.
 
-ghost use Rattle.std.specs.Prelude.{◌≡◌, ◌≢◌, ◌<◌, ◌≤◌, ◌%◌, ◌/◌, true, false, IfErr, IfNone, IfOk, IfSome, MatchBool, MatchResult, OnErr};
+ghost use Rattle.std.specs.Prelude.{◌≡◌, ◌≢◌, ◌<◌, ◌≤◌, ◌%◌, ◌/◌, true, false, IfErr, IfNone, IfOk, IfSome, MatchBool, OnErr};
 ghost use Rattle.futures.specs.Task.{Keeps};
 ghost use Rattle.lock_program.specs.declared.end.End.TheVariants as ends;
 ghost use Rattle.lock_program.specs.declared.end.Next.TheVariants as next;
-ghost use Rattle.lock_program.specs.declared.mutex.Place.TheVariants as turn_at;
 ghost use Rattle.lock_program.specs.declared.mutex.Step.TheVariants as step;
 ghost use Rattle.lock_queue.specs.Receipts.{IsReceipt};
 ghost use Rattle.sync_program.specs.ReadWrite.{released};
@@ -15,14 +14,14 @@ ghost use Rattle.sync_program.specs.declared.rwlock.Place.TheVariants as at;
 ghost use Rattle.mutex_core.specs.Courses.{IsOutside};
 ghost use Rattle.mutex_core.specs.Locks.{IsOf as IsTurnOf};
 ghost use Rattle.mutex_core.specs.Outcomes.{IsHeldOf};
-ghost use Rattle.access_core.specs.Accesses.{IsOf, IsIdle, IsReading, IsMarking, IsWriting, with_found, with_saw_writer, with_saw_readers, with_reading, with_writing, with_down, with_unmarked, with_joined_readers, with_joined_writer, with_told_reader, with_told_writer, with_gone_reader, with_gone_writer, with_paid_readers};
+ghost use Rattle.access_core.specs.Accesses.{IsOf, IsIdle, IsReading, IsMarking, IsWriting, MayJoin, Stands, with_found, with_saw_writer, with_saw_readers, with_reading, with_writing, with_down, with_unmarked, with_joined, with_told, with_gone, with_paid};
 ghost use Rattle.access_core.specs.Found.{OnEntering, OnLeft, OnReaders};
-ghost use Rattle.rwlock_core.specs.Courses.{IsAt, Goes, HasLeftLast, next_in};
+ghost use Rattle.rwlock_core.specs.Courses.{IsAt, Goes, HasLeftLast, asks, joins, leaves, next_in};
 
 use crate::course::Course;
 use crate::party::Turn;
 use crate::rwlock::RawRwLock;
-use access_core::{Entering, Joined, Left, Readers, Seat};
+use access_core::{Entering, Joined, Left, Readers, Seat, Side};
 use futures::task::Context;
 use lock_event::{EntryId, Memory};
 use lock_program::End;
@@ -250,22 +249,24 @@ impl RawRwLock {
         course.go(at, Found::Done);
     }
 
-    // An entry joins the readers, with no waker.
+    // An entry joins a list, with no waker: the writer's, of a seat that has set the writer's bit.
     #[inline]
-    pub(crate) fn join_readers<R: Wait>(
+    pub(crate) fn join<R: Wait>(
         &self,
         rt: &R,
+        side: Side,
         seat: &mut Seat,
         course: &mut Course,
         at: Place,
     ) -> Result<EntryId, Memory>
         requires of { IsOf self.now.access seat.old }
-        requires course { IsAt at act.JoinNoWriter course.old }
+        requires course { IsAt at (joins side) course.old }
         requires away { (seat.old.in_readers ≡ false) × (seat.old.in_writer ≡ false) }
-        ensures joined { IfOk result (λ id. (seat.new ≡ with_joined_readers id.number seat.old) × Goes at finds.Done course.new) }
+        requires marks { MayJoin side seat.old }
+        ensures joined { IfOk result (λ id. (seat.new ≡ with_joined side id.number seat.old) × Goes at finds.Done course.new) }
         ensures refused { OnErr result ((seat.new ≡ seat.old) × Goes at finds.NoMemory course.new) }
     {
-        match self.access.join_readers(rt, seat) {
+        match self.access.join(rt, side, seat) {
             Ok(id) => {
                 course.go(at, Found::Done);
                 Ok(id)
@@ -279,22 +280,24 @@ impl RawRwLock {
 
     // The same, with a waker of the task of `cx`.
     #[inline]
-    pub(crate) fn join_readers_waking<R: Wait>(
+    pub(crate) fn join_waking<R: Wait>(
         &self,
         rt: &R,
+        side: Side,
         seat: &mut Seat,
         cx: &mut Context<'_>,
         course: &mut Course,
         at: Place,
     ) -> Result<Joined, Memory>
         requires of { IsOf self.now.access seat.old }
-        requires course { IsAt at act.JoinNoWriter course.old }
+        requires course { IsAt at (joins side) course.old }
         requires away { (seat.old.in_readers ≡ false) × (seat.old.in_writer ≡ false) }
-        ensures joined { IfOk result (λ joined. (seat.new ≡ with_joined_readers joined.id.number seat.old) × IsReceipt self.now.access.source cx.new joined.whose × Goes at finds.Done course.new) }
+        requires marks { MayJoin side seat.old }
+        ensures joined { IfOk result (λ joined. (seat.new ≡ with_joined side joined.id.number seat.old) × IsReceipt self.now.access.source cx.new joined.whose × Goes at finds.Done course.new) }
         ensures refused { OnErr result ((seat.new ≡ seat.old) × Goes at finds.NoMemory course.new) }
         ensures kept { Keeps cx.old cx.new }
     {
-        match self.access.join_readers_waking(rt, seat, cx) {
+        match self.access.join_waking(rt, side, seat, cx) {
             Ok(joined) => {
                 course.go(at, Found::Done);
                 Ok(joined)
@@ -308,9 +311,10 @@ impl RawRwLock {
 
     // It asks for its notification.
     #[inline]
-    pub(crate) fn ask_readers<R: Wait>(
+    pub(crate) fn ask<R: Wait>(
         &self,
         rt: &R,
+        side: Side,
         seat: &mut Seat,
         id: EntryId,
         cx: &mut Context<'_>,
@@ -318,13 +322,14 @@ impl RawRwLock {
         at: Place,
     ) -> Option<Whose>
         requires of { IsOf self.now.access seat.old }
-        requires course { IsAt at act.AskNoWriter course.old }
-        requires stands { (seat.old.in_readers ≡ true) × (seat.old.in_writer ≡ false) × (seat.old.fresh ≡ false) × (seat.old.entry ≡ id.number) }
-        ensures told { IfNone result ((seat.new ≡ with_told_reader seat.old) × (cx.new ≡ cx.old) × Goes at finds.Yes course.new) }
+        requires course { IsAt at (asks side) course.old }
+        requires stands { Stands side id.number seat.old }
+        requires looked { seat.old.fresh ≡ false }
+        ensures told { IfNone result ((seat.new ≡ with_told side seat.old) × (cx.new ≡ cx.old) × Goes at finds.Yes course.new) }
         ensures waits { IfSome result (λ whose. (seat.new ≡ seat.old) × IsReceipt self.now.access.source cx.new whose × Goes at finds.No course.new) }
         ensures kept { Keeps cx.old cx.new }
     {
-        match self.access.ask_readers(rt, seat, id, cx) {
+        match self.access.ask(rt, side, seat, id, cx) {
             Some(whose) => {
                 course.go(at, Found::No);
                 Some(whose)
@@ -338,20 +343,22 @@ impl RawRwLock {
 
     // The same, of one that has joined with a waker.
     #[inline]
-    pub(crate) fn still_waits_readers<R: Wait>(
+    pub(crate) fn still_waits<R: Wait>(
         &self,
         rt: &R,
+        side: Side,
         seat: &mut Seat,
         joined: &Joined,
         course: &mut Course,
         at: Place,
     ) -> bool
         requires of { IsOf self.now.access seat.old }
-        requires course { IsAt at act.AskNoWriter course.old }
-        requires stands { (seat.old.in_readers ≡ true) × (seat.old.in_writer ≡ false) × (seat.old.fresh ≡ false) × (seat.old.entry ≡ joined.now.id.number) }
-        ensures { MatchBool result ((seat.new ≡ seat.old) × Goes at finds.No course.new) ((seat.new ≡ with_told_reader seat.old) × Goes at finds.Yes course.new) }
+        requires course { IsAt at (asks side) course.old }
+        requires stands { Stands side joined.now.id.number seat.old }
+        requires looked { seat.old.fresh ≡ false }
+        ensures { MatchBool result ((seat.new ≡ seat.old) × Goes at finds.No course.new) ((seat.new ≡ with_told side seat.old) × Goes at finds.Yes course.new) }
     {
-        if self.access.still_waits_readers(rt, seat, joined) {
+        if self.access.still_waits(rt, side, seat, joined) {
             course.go(at, Found::No);
             return true;
         }
@@ -361,152 +368,22 @@ impl RawRwLock {
 
     // It leaves without asking.
     #[inline]
-    pub(crate) fn leave_readers<R: Wait>(
+    pub(crate) fn leave<R: Wait>(
         &self,
         rt: &R,
+        side: Side,
         seat: &mut Seat,
         id: EntryId,
         course: &mut Course,
         at: Place,
     )
         requires of { IsOf self.now.access seat.old }
-        requires course { IsAt at act.LeaveNoWriter course.old }
-        requires stands { (seat.old.in_readers ≡ true) × (seat.old.in_writer ≡ false) × (seat.old.entry ≡ id.number) }
-        ensures step { seat.new ≡ with_gone_reader seat.old }
+        requires course { IsAt at (leaves side) course.old }
+        requires stands { Stands side id.number seat.old }
+        ensures step { seat.new ≡ with_gone side seat.old }
         ensures goes { Goes at finds.Done course.new }
     {
-        self.access.leave_readers(rt, seat, id);
-        course.go(at, Found::Done);
-    }
-
-    // An entry joins the writer's list, with no waker.
-    #[inline]
-    pub(crate) fn join_writer<R: Wait>(
-        &self,
-        rt: &R,
-        seat: &mut Seat,
-        course: &mut Course,
-        at: Place,
-    ) -> Result<EntryId, Memory>
-        requires of { IsOf self.now.access seat.old }
-        requires course { IsAt at act.JoinNoReaders course.old }
-        requires away { (seat.old.in_readers ≡ false) × (seat.old.in_writer ≡ false) }
-        requires marks { seat.old.marks ≡ true }
-        ensures joined { IfOk result (λ id. (seat.new ≡ with_joined_writer id.number seat.old) × Goes at finds.Done course.new) }
-        ensures refused { OnErr result ((seat.new ≡ seat.old) × Goes at finds.NoMemory course.new) }
-    {
-        match self.access.join_writer(rt, seat) {
-            Ok(id) => {
-                course.go(at, Found::Done);
-                Ok(id)
-            }
-            Err(memory) => {
-                course.go(at, Found::NoMemory);
-                Err(memory)
-            }
-        }
-    }
-
-    // The same, with a waker of the task of `cx`.
-    #[inline]
-    pub(crate) fn join_writer_waking<R: Wait>(
-        &self,
-        rt: &R,
-        seat: &mut Seat,
-        cx: &mut Context<'_>,
-        course: &mut Course,
-        at: Place,
-    ) -> Result<Joined, Memory>
-        requires of { IsOf self.now.access seat.old }
-        requires course { IsAt at act.JoinNoReaders course.old }
-        requires away { (seat.old.in_readers ≡ false) × (seat.old.in_writer ≡ false) }
-        requires marks { seat.old.marks ≡ true }
-        ensures joined { IfOk result (λ joined. (seat.new ≡ with_joined_writer joined.id.number seat.old) × IsReceipt self.now.access.source cx.new joined.whose × Goes at finds.Done course.new) }
-        ensures refused { OnErr result ((seat.new ≡ seat.old) × Goes at finds.NoMemory course.new) }
-        ensures kept { Keeps cx.old cx.new }
-    {
-        match self.access.join_writer_waking(rt, seat, cx) {
-            Ok(joined) => {
-                course.go(at, Found::Done);
-                Ok(joined)
-            }
-            Err(memory) => {
-                course.go(at, Found::NoMemory);
-                Err(memory)
-            }
-        }
-    }
-
-    // It asks for its notification.
-    #[inline]
-    pub(crate) fn ask_writer<R: Wait>(
-        &self,
-        rt: &R,
-        seat: &mut Seat,
-        id: EntryId,
-        cx: &mut Context<'_>,
-        course: &mut Course,
-        at: Place,
-    ) -> Option<Whose>
-        requires of { IsOf self.now.access seat.old }
-        requires course { IsAt at act.AskNoReaders course.old }
-        requires stands { (seat.old.in_writer ≡ true) × (seat.old.in_readers ≡ false) × (seat.old.fresh ≡ false) × (seat.old.entry ≡ id.number) }
-        ensures told { IfNone result ((seat.new ≡ with_told_writer seat.old) × (cx.new ≡ cx.old) × Goes at finds.Yes course.new) }
-        ensures waits { IfSome result (λ whose. (seat.new ≡ seat.old) × IsReceipt self.now.access.source cx.new whose × Goes at finds.No course.new) }
-        ensures kept { Keeps cx.old cx.new }
-    {
-        match self.access.ask_writer(rt, seat, id, cx) {
-            Some(whose) => {
-                course.go(at, Found::No);
-                Some(whose)
-            }
-            None => {
-                course.go(at, Found::Yes);
-                None
-            }
-        }
-    }
-
-    // The same, of one that has joined with a waker.
-    #[inline]
-    pub(crate) fn still_waits_writer<R: Wait>(
-        &self,
-        rt: &R,
-        seat: &mut Seat,
-        joined: &Joined,
-        course: &mut Course,
-        at: Place,
-    ) -> bool
-        requires of { IsOf self.now.access seat.old }
-        requires course { IsAt at act.AskNoReaders course.old }
-        requires stands { (seat.old.in_writer ≡ true) × (seat.old.in_readers ≡ false) × (seat.old.fresh ≡ false) × (seat.old.entry ≡ joined.now.id.number) }
-        ensures { MatchBool result ((seat.new ≡ seat.old) × Goes at finds.No course.new) ((seat.new ≡ with_told_writer seat.old) × Goes at finds.Yes course.new) }
-    {
-        if self.access.still_waits_writer(rt, seat, joined) {
-            course.go(at, Found::No);
-            return true;
-        }
-        course.go(at, Found::Yes);
-        false
-    }
-
-    // It leaves without asking.
-    #[inline]
-    pub(crate) fn leave_writer<R: Wait>(
-        &self,
-        rt: &R,
-        seat: &mut Seat,
-        id: EntryId,
-        course: &mut Course,
-        at: Place,
-    )
-        requires of { IsOf self.now.access seat.old }
-        requires course { IsAt at act.LeaveNoReaders course.old }
-        requires stands { (seat.old.in_writer ≡ true) × (seat.old.in_readers ≡ false) × (seat.old.entry ≡ id.number) }
-        ensures step { seat.new ≡ with_gone_writer seat.old }
-        ensures goes { Goes at finds.Done course.new }
-    {
-        self.access.leave_writer(rt, seat, id);
+        self.access.leave(rt, side, seat, id);
         course.go(at, Found::Done);
     }
 
@@ -521,10 +398,10 @@ impl RawRwLock {
     )
         requires of { IsOf self.now.access seat.old }
         requires course { IsAt at act.NotifyNoWriter course.old }
-        ensures step { seat.new ≡ with_paid_readers seat.old }
+        ensures step { seat.new ≡ with_paid Side.Readers seat.old }
         ensures goes { Goes at finds.Done course.new }
     {
-        self.access.notify_readers(rt, seat);
+        self.access.notify(rt, Side::Readers, seat);
         course.go(at, Found::Done);
     }
 
@@ -540,11 +417,11 @@ impl RawRwLock {
         requires of { IsOf self.now.access seat.old }
         requires course { IsAt at act.NotifyNoWriter course.old }
         requires owes { seat.old.owes_writer ≡ false }
-        ensures step { seat.new ≡ with_paid_readers seat.old }
+        ensures step { seat.new ≡ with_paid Side.Readers seat.old }
         ensures goes { Goes at finds.Done course.new }
     {
         if self.access.may_have_entries(seat) {
-            self.access.notify_readers(rt, seat);
+            self.access.notify(rt, Side::Readers, seat);
         }
         course.go(at, Found::Done);
     }
@@ -567,7 +444,7 @@ impl RawRwLock {
         ensures goes { Goes at finds.Done course.new }
     {
         match left {
-            Left::Writer => self.access.notify_writer(rt, seat),
+            Left::Writer => self.access.notify(rt, Side::Writer, seat),
             Left::Readers => {}
             Left::Nobody => {}
         }
