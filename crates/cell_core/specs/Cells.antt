@@ -1,12 +1,14 @@
 -- What contracts see of a cell, and of a seat.
-use Rattle.std.specs.Prelude.{◌≡◌, ℕ, ◌&&◌, not, Bool, true, false, refl}
+use Rattle.std.specs.Prelude.{◌≡◌, ℕ, ◌&&◌, ◌||◌, not, Bool, true, false, refl}
 use Rattle.std.specs.Coded.{Coded, code_by, coded×, coded_ℕ, coded_bool}
 use Rattle.atomic_table.specs.Seated.{TableId, table_id_coded}
 use Rattle.lock_program.specs.declared.end.Next.TheVariants.{Do}
 use Rattle.sync_program.specs.OnceCell.{action_of, next_of}
 use Rattle.sync_program.specs.declared.once_cell.Action.{Action}
 use Rattle.sync_program.specs.declared.once_cell.Found.{Found}
+use Rattle.sync_program.specs.declared.once_cell.ListName.{ListName}
 use Rattle.words_cell.specs.declared.view.View.{View}
+use Rattle.cell_core.specs.ByName.{is_active, is_passive}
 use Rattle.cell_core.specs.Courses.{Course, PlaceHere, course_coded, outside, IsNotifying}
 use Rattle.cell_core.specs.declared.state.State.{State}
 use Rattle.cell_core.specs.declared.state.State.TheVariants.{Empty, Making, Full}
@@ -93,26 +95,24 @@ with_emptied s = record s { makes = false; owes = true }
 abbrev pub with_ease : Seated → Seated
 with_ease s = record s { owes = false; owes_active = false; owes_passive = false }
 
-abbrev pub with_joined_active : ℕ → Seated → Seated
-with_joined_active n s = record s { in_active = true; fresh = true; entry = n }
+-- it has joined the list of this name, with an entry of this number
+abbrev pub with_joined : ListName → ℕ → Seated → Seated
+with_joined list n s = record s { in_active = is_active list; in_passive = is_passive list; fresh = true; entry = n }
 
-abbrev pub with_joined_passive : ℕ → Seated → Seated
-with_joined_passive n s = record s { in_passive = true; fresh = true; entry = n }
-
-abbrev pub with_told : Seated → Seated
-with_told s = record s { in_active = false; owes = true }
-
+-- its entry has left the list
 abbrev pub with_gone : Seated → Seated
 with_gone s = record s { in_active = false; in_passive = false; fresh = false }
 
-abbrev pub with_paid : Seated → Seated
-with_paid s = record s { owes = false }
+-- its entry was notified, and has left the list of this name: of those that would make, it owes one
+abbrev pub with_heard : ListName → Seated → Seated
+with_heard list s = record s { in_active = false; in_passive = false; fresh = false; owes = is_active list || s.owes }
 
-abbrev pub with_paid_active : Seated → Seated
-with_paid_active s = record s { owes = false; owes_active = false }
+-- it has notified one in the list of this name, and all in it
+abbrev pub with_paid : ListName → Seated → Seated
+with_paid list s = record s { owes = is_passive list && s.owes }
 
-abbrev pub with_paid_passive : Seated → Seated
-with_paid_passive s = record s { owes_passive = false }
+abbrev pub with_all_paid : ListName → Seated → Seated
+with_all_paid list s = record s { owes = is_passive list && s.owes; owes_active = is_passive list && s.owes_active; owes_passive = is_active list && s.owes_passive }
 
 module _ (at : PlaceHere) where
   -- its call has come to this place, whose action is this
@@ -147,16 +147,17 @@ IsIdle s = (s.makes ≡ false) × IsAlone s
 abbrev pub IsMaking : Seated → Type 0
 IsMaking s = (s.makes ≡ true) × IsAlone s
 
+-- its entry has this number, and stands in the list of this name alone
+abbrev pub StandsIn : ListName → ℕ → Seated → Type 0
+StandsIn list n s = (s.in_active ≡ is_active list) × (s.in_passive ≡ is_passive list) × (s.entry ≡ n)
+
 -- it has no entry, and owes no more than a notification of one that would make, and that only if it was told
 abbrev pub IsBetween : Bool → Seated → Type 0
 IsBetween told s = (s.makes ≡ false) × (told ≡ false → s.owes ≡ false) × (s.owes_active ≡ false) × (s.owes_passive ≡ false) × (s.in_active ≡ false) × (s.in_passive ≡ false) × (s.fresh ≡ false)
 
--- it has an entry of this number and has looked since; it owes nothing
-abbrev pub WaitsActive : ℕ → Seated → Type 0
-WaitsActive n s = (s.makes ≡ false) × OwesNothing s × (s.in_active ≡ true) × (s.in_passive ≡ false) × (s.fresh ≡ false) × (s.entry ≡ n)
-
-abbrev pub WaitsPassive : ℕ → Seated → Type 0
-WaitsPassive n s = (s.makes ≡ false) × OwesNothing s × (s.in_active ≡ false) × (s.in_passive ≡ true) × (s.fresh ≡ false) × (s.entry ≡ n)
+-- it has an entry of this number in the list of this name, and has looked since; it owes nothing
+abbrev pub WaitsIn : ListName → ℕ → Seated → Type 0
+WaitsIn list n s = (s.makes ≡ false) × OwesNothing s × StandsIn list n s × (s.fresh ≡ false)
 
 -- What holds by what was found.
 abbrev pub OnState : State → Type 0 → Type 0 → Type 0 → Type 0

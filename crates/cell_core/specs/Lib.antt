@@ -1,4 +1,5 @@
 pub mod Contents
+pub mod ByName
 pub mod Courses
 pub mod Cells
 pub mod Purposes

@@ -4,8 +4,8 @@
 mod calls;
 mod cell;
 mod course;
+mod giving_back;
 mod joining;
-mod list_steps;
 mod lists;
 mod maker;
 mod making;
@@ -23,5 +23,5 @@ pub use maker::{Maker, Purpose, Sealed};
 pub use seat::{Ended, Right, Seat};
 pub use state::State;
 pub use turn::{Making, Outcome, Resting, Waited, Waiting, WaitingToMake};
-pub use watch::{Side, Watched};
+pub use watch::Watched;
 pub use words_cell::{CellRule, Content, View, no_lost_wakeup};

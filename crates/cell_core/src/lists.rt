@@ -1,22 +1,29 @@
 //! What lies in the slot of a cell's table: its two lists.
 
 ghost use Rattle.std.specs.Prelude.{◌≡◌, IfOk, OnErr};
-ghost use Rattle.words_base.specs.Lists.{nobody};
+ghost use Rattle.words_base.specs.Lists.{GoesOn, Joins, Leaves, Pays, PaysAll, nobody};
 ghost use Rattle.futures.specs.Task.{Keeps};
 ghost use Rattle.lock_queue.specs.Asking.{ByHeard};
-ghost use Rattle.cell_core.specs.Contents.{active_of, passive_of, Says, AreKept, HasJoinedActive, HasJoinedPassive, HasHeardActive, HasLeftActive, HasLeftPassive, IsOneTold, AreActiveTold, ArePassiveTold};
+ghost use Rattle.cell_core.specs.Contents.{active_of, passive_of, Says, AreKept, Changes};
 ghost use Rattle.lock_queue.specs.Receipts.{IsReceipt};
 
-use crate::watch::Side;
+use atomic_table::Seat as TableSeat;
 use futures::task::{Context, Source, Waker};
 use lock_event::{EntryId, Mark, Memory};
 use lock_queue::{AllDue, Due, Heard, Queue, Whose};
 use std::alloc::Global;
-use words_cell::Content;
-use words_cell::steps::{ENTRIES, NOTIFICATION};
+use sync_program::once_cell::ListName;
+use words_cell::steps::{ENTRIES, NOTIFICATION, Ruled};
+use words_cell::{Content, View};
 
 // How many notifications the lists' word counts at most.
 pub(crate) const MOST: u64 = 2_305_843_009_213_693_951;
+
+// The tables of cells.
+pub(crate) type Listing = Ruled<Lists>;
+
+// The seats of those tables.
+pub(crate) type Lister = TableSeat<Lists, View>;
 
 /// A cell's two lists.
 pub struct Lists {
@@ -68,122 +75,77 @@ impl Lists {
         }
     }
 
-    pub(crate) fn join_active(&mut self, alloc: Global) -> Result<EntryId, Memory>
-        ensures joined { IfOk result (λ id. HasJoinedActive self.old self.new id.number) }
-        ensures refused { OnErr result (AreKept self.old self.new) }
-    {
-        self.active.join(alloc)
-    }
-
-    pub(crate) fn join_passive(&mut self, alloc: Global) -> Result<EntryId, Memory>
-        ensures joined { IfOk result (λ id. HasJoinedPassive self.old self.new id.number) }
-        ensures refused { OnErr result (AreKept self.old self.new) }
-    {
-        self.passive.join(alloc)
-    }
-
-    // The same, with a waker of the task of `cx`.
-    pub(crate) fn join_active_waking(
+    // An entry joins this list at the back, with a waker of the task of `cx`, which registers with `source`.
+    pub(crate) fn join(
         &mut self,
+        list: ListName,
         alloc: Global,
         source: &Source,
         cx: &mut Context<'_>,
     ) -> Result<(EntryId, Whose), Memory>
-        ensures joined { IfOk result (λ joined. HasJoinedActive self.old self.new joined.0.number) }
+        ensures joined { IfOk result (λ joined. Changes (Joins joined.0.number) list self.old self.new) }
         ensures refused { OnErr result (AreKept self.old self.new) }
         ensures keeps { IfOk result (λ joined. IsReceipt source.now.id cx.new joined.1) }
         ensures kept { Keeps cx.old cx.new }
     {
-        self.active.join_waking(alloc, source, cx)
+        match list {
+            ListName::Active => self.active.join_waking(alloc, source, cx),
+            ListName::Passive => self.passive.join_waking(alloc, source, cx),
+        }
     }
 
-    pub(crate) fn join_passive_waking(
+    pub(crate) fn ask(
         &mut self,
-        alloc: Global,
-        source: &Source,
-        cx: &mut Context<'_>,
-    ) -> Result<(EntryId, Whose), Memory>
-        ensures joined { IfOk result (λ joined. HasJoinedPassive self.old self.new joined.0.number) }
-        ensures refused { OnErr result (AreKept self.old self.new) }
-        ensures keeps { IfOk result (λ joined. IsReceipt source.now.id cx.new joined.1) }
-        ensures kept { Keeps cx.old cx.new }
-    {
-        self.passive.join_waking(alloc, source, cx)
-    }
-
-    pub(crate) fn ask_active(
-        &mut self,
+        list: ListName,
         id: EntryId,
         source: &Source,
         cx: &mut Context<'_>,
     ) -> Heard<Whose>
-        ensures asked { ByHeard result (HasHeardActive self.old self.new id.number) (λ _. AreKept self.old self.new) }
+        ensures asked { ByHeard result (Changes (Leaves id.number) list self.old self.new) (λ _. AreKept self.old self.new) }
         ensures waits { ByHeard result (cx.new ≡ cx.old) (IsReceipt source.now.id cx.new) }
         ensures kept { Keeps cx.old cx.new }
     {
-        self.active.ask(id, source, cx)
-    }
-
-    pub(crate) fn ask_passive(
-        &mut self,
-        id: EntryId,
-        source: &Source,
-        cx: &mut Context<'_>,
-    ) -> Heard<Whose>
-        ensures asked { ByHeard result (HasLeftPassive self.old self.new id.number) (λ _. AreKept self.old self.new) }
-        ensures waits { ByHeard result (cx.new ≡ cx.old) (IsReceipt source.now.id cx.new) }
-        ensures kept { Keeps cx.old cx.new }
-    {
-        self.passive.ask(id, source, cx)
+        match list {
+            ListName::Active => self.active.ask(id, source, cx),
+            ListName::Passive => self.passive.ask(id, source, cx),
+        }
     }
 
     // The same, of an entry that keeps the waker that it has.
-    pub(crate) fn ask_active_again(&mut self, id: EntryId) -> Heard<()>
-        ensures { ByHeard result (HasHeardActive self.old self.new id.number) (λ _. AreKept self.old self.new) }
+    pub(crate) fn ask_again(&mut self, list: ListName, id: EntryId) -> Heard<()>
+        ensures { ByHeard result (Changes (Leaves id.number) list self.old self.new) (λ _. AreKept self.old self.new) }
     {
-        self.active.ask_again(id)
+        match list {
+            ListName::Active => self.active.ask_again(id),
+            ListName::Passive => self.passive.ask_again(id),
+        }
     }
 
-    pub(crate) fn ask_passive_again(&mut self, id: EntryId) -> Heard<()>
-        ensures { ByHeard result (HasLeftPassive self.old self.new id.number) (λ _. AreKept self.old self.new) }
+    pub(crate) fn leave(&mut self, list: ListName, id: EntryId) -> (Option<Waker>, Due)
+        ensures { Changes (GoesOn id.number) list self.old self.new }
     {
-        self.passive.ask_again(id)
+        match list {
+            ListName::Active => self.active.leave(id),
+            ListName::Passive => self.passive.leave(id),
+        }
     }
 
-    pub(crate) fn leave_active(&mut self, id: EntryId) -> (Option<Waker>, Due)
-        ensures { HasLeftActive self.old self.new id.number }
+    pub(crate) fn notify(&mut self, list: ListName) -> Due
+        ensures { Changes Pays list self.old self.new }
     {
-        self.active.leave(id)
+        match list {
+            ListName::Active => self.active.notify(),
+            ListName::Passive => self.passive.notify(),
+        }
     }
 
-    pub(crate) fn leave_passive(&mut self, id: EntryId) -> (Option<Waker>, Due)
-        ensures { HasLeftPassive self.old self.new id.number }
+    pub(crate) fn notify_all(&mut self, list: ListName, alloc: Global) -> AllDue
+        ensures { Changes PaysAll list self.old self.new }
     {
-        self.passive.leave(id)
-    }
-
-    pub(crate) fn notify_active(&mut self) -> Due
-        ensures { IsOneTold self.old self.new }
-    {
-        self.active.notify()
-    }
-
-    pub(crate) fn notify_passive(&mut self) -> Due
-        ensures { AreKept self.old self.new }
-    {
-        self.passive.notify()
-    }
-
-    pub(crate) fn notify_all_active(&mut self, alloc: Global) -> AllDue
-        ensures { AreActiveTold self.old self.new }
-    {
-        self.active.notify_all(alloc)
-    }
-
-    pub(crate) fn notify_all_passive(&mut self, alloc: Global) -> AllDue
-        ensures { ArePassiveTold self.old self.new }
-    {
-        self.passive.notify_all(alloc)
+        match list {
+            ListName::Active => self.active.notify_all(alloc),
+            ListName::Passive => self.passive.notify_all(alloc),
+        }
     }
 
     // The next waker that is due, of either list.
@@ -197,10 +159,10 @@ impl Lists {
     }
 
     // The entry at this index of a list.
-    pub(crate) fn entry(&self, side: Side, index: usize) -> Option<(EntryId, Mark)> {
-        match side {
-            Side::Active => self.active.entry(index),
-            Side::Passive => self.passive.entry(index),
+    pub(crate) fn entry(&self, list: ListName, index: usize) -> Option<(EntryId, Mark)> {
+        match list {
+            ListName::Active => self.active.entry(index),
+            ListName::Passive => self.passive.entry(index),
         }
     }
 }

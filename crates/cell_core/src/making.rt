@@ -96,7 +96,7 @@ impl<T> RawCell<T> {
         } = waiting;
         let at = Place::AskActive(M::kind());
         seat.begin(CellCall::Poll, at);
-        if let Some(whose) = self.ask_active(rt, &mut seat, id, cx, at) {
+        if let Some(whose) = self.ask(rt, &mut seat, ListName::Active, id, cx, at) {
             return Outcome::Pending(maker, Resting::Waits(WaitingToMake { seat, id, whose }));
         }
         self.wait_to_make(rt, cx, seat, maker, true)
@@ -123,6 +123,7 @@ impl<T> RawCell<T> {
         let mut seat = seat;
         let mut told = told;
         let kind = M::kind();
+        let list = ListName::Active;
         for _ in rt.forever() {
             if told {
                 match self.claim(&mut seat, Place::Claim { maker: kind, told }) {
@@ -135,26 +136,26 @@ impl<T> RawCell<T> {
                 }
             }
             let at = Place::JoinActive { maker: kind, told };
-            let Ok(joined) = self.join_active_waking(rt, &mut seat, cx, at) else {
+            let Ok(joined) = self.join(rt, &mut seat, list, cx, at) else {
                 self.refuse(rt, seat, kind, told);
                 return Outcome::Refused(maker);
             };
             // Whoever ended before it joined told nobody.
             match self.claim(&mut seat, Place::ClaimListed(kind)) {
                 State::Empty => {
-                    self.leave_active(rt, &mut seat, joined.id, Place::LeaveToMake(kind));
+                    self.leave(rt, &mut seat, list, joined.id, Place::LeaveToMake(kind));
                     return self.make(rt, cx, seat, maker);
                 }
                 State::Making => {}
                 State::Full => {
                     let value = ();
                     let at = Place::LeaveFull { maker: kind, value };
-                    self.leave_active(rt, &mut seat, joined.id, at);
+                    self.leave(rt, &mut seat, list, joined.id, at);
                     let (value, ended) = self.found(rt, seat);
                     return Outcome::Kept(maker, value, ended);
                 }
             }
-            if self.still_waits_active(rt, &mut seat, &joined, Place::AskActive(kind)) {
+            if self.still_waits(rt, &mut seat, list, &joined, Place::AskActive(kind)) {
                 return Outcome::Pending(
                     maker,
                     Resting::Waits(WaitingToMake {
@@ -190,7 +191,7 @@ impl<T> RawCell<T> {
     {
         let mut seat = seat;
         if told {
-            self.notify_active(rt, &mut seat, Place::RefuseActive(kind));
+            self.notify(rt, &mut seat, ListName::Active, Place::RefuseActive(kind));
         }
         seat.rise();
     }
@@ -262,10 +263,10 @@ impl<T> RawCell<T> {
         let (shown, back) = self.put(rt, &seat, value, fill);
         self.fill(&mut seat, &shown, fill);
         if self.may_have_entries(&mut seat, active) {
-            self.notify_all_active(rt, &mut seat, active);
+            self.notify_all(rt, &mut seat, ListName::Active, active);
         }
         if self.may_have_entries(&mut seat, passive) {
-            self.notify_all_passive(rt, &mut seat, passive);
+            self.notify_all(rt, &mut seat, ListName::Passive, passive);
         }
         (shown, back, seat.end())
     }
@@ -282,7 +283,7 @@ impl<T> RawCell<T> {
         let mut seat = seat;
         self.empty(&mut seat, empty);
         if self.may_have_entries(&mut seat, notify) {
-            self.notify_active(rt, &mut seat, notify);
+            self.notify(rt, &mut seat, ListName::Active, notify);
         }
         seat.end()
     }
@@ -300,7 +301,7 @@ impl<T> RawCell<T> {
                 } = waiting;
                 let at = Place::CancelLeave(ListName::Active);
                 seat.begin(CellCall::Drop, at);
-                self.leave_active(rt, &mut seat, id, at);
+                self.leave(rt, &mut seat, ListName::Active, id, at);
                 seat.rise();
             }
             Resting::Makes(making) => {

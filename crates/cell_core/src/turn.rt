@@ -1,8 +1,9 @@
 //! Who waits, who makes, and how a poll went.
 
 ghost use Rattle.std.specs.Prelude.{◌≡◌, true, false};
-ghost use Rattle.cell_core.specs.Cells.{IsMaking, WaitsActive, WaitsPassive};
+ghost use Rattle.cell_core.specs.Cells.{IsMaking, WaitsIn};
 ghost use Rattle.cell_core.specs.Courses.{IsMakingStill, IsWaitingToMake, waiting};
+ghost use Rattle.sync_program.specs.declared.once_cell.ListName.TheVariants as lists;
 
 use crate::seat::{Ended, Seat};
 use lock_event::EntryId;
@@ -23,7 +24,7 @@ pub struct WaitingToMake {
 impl WaitingToMake {
     /// Puts together whoever waits by this seat, with its entry.
     pub fn of(seat: Seat, id: EntryId, whose: Whose) -> WaitingToMake
-        requires idle { WaitsActive id.number seat }
+        requires idle { WaitsIn lists.Active id.number seat }
         requires pending { IsWaitingToMake seat.course }
         ensures { (result.seat ≡ seat) × (result.whose ≡ whose) }
     {
@@ -43,7 +44,7 @@ pub struct Waiting {
 impl Waiting {
     /// Puts together whoever waits by this seat, with its entry.
     pub fn of(seat: Seat, id: EntryId, whose: Whose) -> Waiting
-        requires idle { WaitsPassive id.number seat }
+        requires idle { WaitsIn lists.Passive id.number seat }
         requires pending { seat.course ≡ waiting }
         ensures { (result.seat ≡ seat) × (result.whose ≡ whose) }
     {

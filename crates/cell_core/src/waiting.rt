@@ -47,8 +47,9 @@ impl<T> RawCell<T> {
             id,
             whose: _,
         } = waiting;
-        seat.begin(CellCall::Poll, Place::AskPassive);
-        if let Some(whose) = self.ask_passive(rt, &mut seat, id, cx, Place::AskPassive) {
+        let at = Place::AskPassive;
+        seat.begin(CellCall::Poll, at);
+        if let Some(whose) = self.ask(rt, &mut seat, ListName::Passive, id, cx, at) {
             return Waited::Waits(Waiting { seat, id, whose });
         }
         self.wait_on(rt, cx, seat, true)
@@ -71,13 +72,14 @@ impl<T> RawCell<T> {
     {
         let mut seat = seat;
         let mut told = told;
+        let list = ListName::Passive;
         for _ in rt.forever() {
             if self.look(&mut seat, Place::Look { told }) == State::Full {
                 let (value, ended) = self.found(rt, seat);
                 return Waited::Value(value, ended);
             }
             let at = Place::JoinPassive { told };
-            let joined = match self.join_passive_waking(rt, &mut seat, cx, at) {
+            let joined = match self.join(rt, &mut seat, list, cx, at) {
                 Ok(joined) => joined,
                 Err(Memory) => {
                     self.refuse_wait(rt, seat, told);
@@ -86,11 +88,11 @@ impl<T> RawCell<T> {
             };
             // Whoever filled the cell before it joined told nobody.
             if self.look(&mut seat, Place::LookListed) == State::Full {
-                self.leave_passive(rt, &mut seat, joined.id, Place::LeavePassive(()));
+                self.leave(rt, &mut seat, list, joined.id, Place::LeavePassive(()));
                 let (value, ended) = self.found(rt, seat);
                 return Waited::Value(value, ended);
             }
-            if self.still_waits_passive(rt, &mut seat, &joined, Place::AskPassive) {
+            if self.still_waits(rt, &mut seat, list, &joined, Place::AskPassive) {
                 return Waited::Waits(Waiting {
                     seat,
                     id: joined.id,
@@ -112,7 +114,7 @@ impl<T> RawCell<T> {
     {
         let mut seat = seat;
         if told {
-            self.notify_passive(rt, &mut seat, Place::RefusePassive);
+            self.notify(rt, &mut seat, ListName::Passive, Place::RefusePassive);
         }
         seat.rise();
     }
@@ -128,7 +130,7 @@ impl<T> RawCell<T> {
         } = waiting;
         let at = Place::CancelLeave(ListName::Passive);
         seat.begin(CellCall::Drop, at);
-        self.leave_passive(rt, &mut seat, id, at);
+        self.leave(rt, &mut seat, ListName::Passive, id, at);
         seat.rise();
     }
 }

@@ -3,48 +3,28 @@
 ghost use Rattle.std.specs.Prelude.{◌≡◌};
 
 use crate::cell::RawCell;
-use crate::list_steps::entry_in;
 use lock_event::{EntryId, Mark};
 use std::sync::Wait;
-use words_cell::steps::{ENTRIES, LIST, give_same};
+use sync_program::once_cell::ListName;
+use words_cell::steps::{ENTRIES, LIST, LIST_SLOT, give_same};
 use words_cell::{take_out, wake_next};
-
-/// Which of a cell's lists.
-#[derive(Clone, Copy, Debug, PartialEq, Eq)]
-pub enum Side {
-    /// That of those that would make the value.
-    Active,
-    /// That of those that only wait for it.
-    Passive,
-}
 
 /// A list of a cell. It is for tests.
 pub struct Watched<'a, T> {
     cell: &'a RawCell<T>,
-    side: Side,
+    list: ListName,
 }
 
 impl<T> Drop for Watched<'_, T> {
     fn drop(self) {
-        let Self { cell: _, side: _ } = self;
+        let Self { cell: _, list: _ } = self;
     }
 }
 
 impl<T> RawCell<T> {
-    /// Who waits to make the value. It is for tests.
-    pub fn active(&self) -> Watched<'_, T> {
-        Watched {
-            cell: self,
-            side: Side::Active,
-        }
-    }
-
-    /// Who waits for the value. It is for tests.
-    pub fn passive(&self) -> Watched<'_, T> {
-        Watched {
-            cell: self,
-            side: Side::Passive,
-        }
+    /// Who waits in this list. It is for tests.
+    pub fn list(&self, list: ListName) -> Watched<'_, T> {
+        Watched { cell: self, list }
     }
 }
 
@@ -66,7 +46,9 @@ impl<T> Watched<'_, T> {
         let mut seat = cell.sit();
         let shared = &cell.words.table.shared;
         let found = take_out(shared, rt, &mut seat.inner);
-        let (entry, word) = entry_in(shared, &mut seat.inner, self.side, index, found);
+        let lists = seat.inner.slot_mut(shared, LIST_SLOT);
+        let entry = lists.entry(self.list, index);
+        let word = lists.says(found, false);
         let found = give_same(shared, &mut seat.inner, word);
         wake_next(shared, found);
         seat.rise();

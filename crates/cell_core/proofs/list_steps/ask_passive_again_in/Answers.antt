@@ -1,8 +1,0 @@
-use Rattle.cell_core.proofs.Returning.{lent, asked_passive}
-use Rattle.cell_core.proofs.list_steps.ask_passive_again_in.Goals as goal
-
-pub slot_mut-lists-requires : goal.slot_mut-lists-requires
-slot_mut-lists-requires c = (c.requires.table, lent c.args.inner.now.me c.requires.held)
-
-pub returns-clause-ready : goal.returns-clause-ready
-returns-clause-ready c = asked_passive c.args.inner.now.me c.requires.held c.slot_mut-lists.result.now c.ask_passive_again-heard.new.self c.says-says.result c.slot_mut-lists.ensures.value c.says-says.ensures c.ask_passive_again-heard.result c.args.id.number c.ask_passive_again-heard.ensures c.requires.entry

@@ -1,8 +1,0 @@
-use Rattle.cell_core.proofs.Returning.{lent, joined_active}
-use Rattle.cell_core.proofs.list_steps.join_active_waking_in.Goals as goal
-
-pub slot_mut-lists-requires : goal.slot_mut-lists-requires
-slot_mut-lists-requires c = (c.requires.table, lent c.args.inner.now.me c.requires.held)
-
-pub returns-clause-ready : goal.returns-clause-ready
-returns-clause-ready c = joined_active c.args.inner.now.me c.requires.held c.slot_mut-lists.result.now c.join_active_waking-joined.new.self c.says-says.result c.slot_mut-lists.ensures.value c.says-says.ensures (λ joined. joined.0.number) c.join_active_waking-joined.result c.join_active_waking-joined.ensures.joined c.join_active_waking-joined.ensures.refused

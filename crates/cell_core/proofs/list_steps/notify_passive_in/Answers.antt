@@ -1,8 +1,0 @@
-use Rattle.cell_core.proofs.Returning.{lent, stays}
-use Rattle.cell_core.proofs.list_steps.notify_passive_in.Goals as goal
-
-pub slot_mut-lists-requires : goal.slot_mut-lists-requires
-slot_mut-lists-requires c = (c.requires.table, lent c.args.inner.now.me c.requires.held)
-
-pub returns-clause-ready : goal.returns-clause-ready
-returns-clause-ready c = stays c.args.inner.now.me c.requires.held c.slot_mut-lists.result.now c.notify_passive-due.new.self c.says-says.result c.slot_mut-lists.ensures.value c.says-says.ensures c.notify_passive-due.ensures
