@@ -16,11 +16,11 @@ PARTS = {
     'The mutex': 'world_mutex words_mutex mutex_core async_mutex',
     'The read-write lock': 'world_rwlock words_access access_core access_vault rwlock_core async_rwlock',
     'The semaphore': 'weighted_event world_semaphore words_permits semaphore_core async_semaphore',
-    'The once-cell': 'world_once_cell words_cell cell_core async_once_cell once_cell_scene',
+    'The once-cell': 'world_once_cell words_cell cell_core async_once_cell',
     'The barrier': 'world_barrier words_barrier barrier_core async_barrier',
     'The pool': 'world_pool bounded_pool',
     'Books, and the program `lockrun`': 'lock_audit lockrun_script lockrun_play lockrun_runner lockrun',
-    'What users prove, and what tests stand on': 'async_lock user_proofs lockstep',
+    'What users prove': 'async_lock user_proofs',
 }
 HEAD = """# Wrong bodies
 
