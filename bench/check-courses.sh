@@ -27,7 +27,7 @@ CALLS = {
 }
 MADE = ("seat", "course", "standing")
 MOVES = re.compile(r"\.go\(")
-PAST = re.compile(r"list_steps|::steps\b|\.table\b|self\.access\.(?!sit\b|sit_and_look\b|split_duty\b)|self\.turn\.(?!cancel\b|first_look\b|poll_first\b|poll_later\b)")
+PAST = re.compile(r"giving_back|::steps\b|\.table\b|self\.access\.(?!sit\b|sit_and_look\b|split_duty\b)|self\.turn\.(?!cancel\b|first_look\b|poll_first\b|poll_later\b)")
 MAKES = re.compile(r"\b(Course|Standing|Snapshot)(::of\(|\s*\{)")
 
 # Only seat.rt of a core makes what a seat steps with, and puts it into a seat, which the compiler lets no other file take apart.
