@@ -1,6 +1,6 @@
 #!/bin/sh
 # Looks that the doc comment of each call that a user makes has an example, and that its lines stand, one below the other, in a file of
-# crates/ that the gate proves and runs.
+# tests/test_shown, which bench/run-tests.py runs, or of crates/ that the gate proves and runs.
 #
 # The calls are those of the crates whose types users name. What a comment says is for tests needs no example, nor does a poll: each future is
 # polled alike, and the mutex's shows how. Run it at the top of the repository: bench/check-doc-examples.sh. It builds nothing.
@@ -25,7 +25,8 @@ def lines(text):
     return "\n".join(line.strip() for line in text.splitlines()) + "\n"
 
 
-proved = [lines(open(path).read()) for name in EXAMPLES for path in glob.glob(f"crates/{name}/src/**/*.rt", recursive=True)]
+files = [it for name in EXAMPLES for it in glob.glob(f"crates/{name}/src/**/*.rt", recursive=True)] + glob.glob("tests/test_shown/*")
+run = [lines(open(path).read()) for path in files]
 shown, wrong = 0, []
 for lock in LOCKS:
     for path in sorted(glob.glob(f"crates/{lock}/src/*.rt")):
@@ -38,11 +39,11 @@ for lock in LOCKS:
                 wrong.append(f"{path}: {name} has no example")
             for example in examples:
                 shown += 1
-                if not any("\n" + lines(example) in text for text in proved):
-                    wrong.append(f"{path}: the example of {name} stands in no file that is proved")
+                if not any("\n" + lines(example) in text for text in run):
+                    wrong.append(f"{path}: the example of {name} stands in no file that is run")
 for row in wrong:
     print(row, file=sys.stderr)
 if wrong:
     sys.exit(1)
-print(f"{shown} examples of doc comments stand in files that the gate proves")
+print(f"{shown} examples of doc comments stand in files that are run")
 PYTHON

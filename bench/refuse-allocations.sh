@@ -3,7 +3,7 @@
 # examples, and looks what each run prints:
 # - a script: its answers and status 0, or a beginning of them in whole lines, `lockrun: no memory` and status 3;
 # - `threads 4`: `4` and status 0, or nothing, `lockrun: no memory` or `lockrun: thread failed`, and status 3;
-# - an example: what it prints with ample memory and status 0, or says there that a call wasn't as shown, since it was refused; or status 1.
+# - an example: what it prints with ample memory and status 0, or status 1.
 # The runs go on to one that is refused nothing. Status 1 where a run does otherwise. The last line has the figures.
 #
 # Each program is built once, in a copy of the repository in which it throws away as many allocations first as its first argument says:
@@ -28,8 +28,8 @@ here = f"{os.getcwd()}/bench"
 # How many a run of lockrun makes at most, beside those of a World, and a run of `threads 4` and of each example.
 RUN, WORLD, THREADS = 24, 10, 120
 EXAMPLES = {"first_lock": 60, "lock_examples": 3600}
-# For how many seconds a run may go on, and how an example begins the line that tells whether each call was as its comment says.
-PATIENCE, SHOWN = 10, "each call is as shown:"
+# For how many seconds a run may go on.
+PATIENCE = 10
 WORLDS = re.compile(r"^(mutex|rwlock|semaphore|cell|barrier) ", re.MULTILINE)
 
 THROWS_AWAY = """
@@ -134,11 +134,7 @@ def example(crate, last):
     found = run_all(crate, {str(number): ("", [], number) for number in range(1, last + 1)})
     whole = text_of(f"crates/{crate}/stdout")
     runs_of_it = [found.get(str(number), ("", "not run", [])) for number in range(1, last + 1)]
-    judge(crate, runs_of_it, lambda printed, ended, told: ended == 1 or says_so(whole, printed, ended), whole)
-
-
-def says_so(whole, printed, ended):
-    return ended == 0 and printed.replace(f"{SHOWN} false", f"{SHOWN} true") == whole
+    judge(crate, runs_of_it, lambda printed, ended, told: ended == 1, whole)
 
 
 lockrun()

@@ -1,7 +1,6 @@
-//! The mutex as its users meet it: shared by two threads, on an executor, cancelled, and owned by its guard; and its other calls.
+//! The mutex as its users meet it: shared by two threads, on an executor, cancelled, and owned by its guard.
 //! Each module is one example. The program runs them all, and prints a line for each.
 
-mod calls;
 mod cancelled;
 mod executor;
 mod owned;
@@ -17,7 +16,6 @@ struct Results {
     read: u64,
     is_passed_on: bool,
     owned: u64,
-    is_as_shown: bool,
 }
 
 fn run_all<R>(rt: R) -> Result<Results, Refusal>
@@ -34,13 +32,11 @@ where
     let is_passed_on = cancelled::second_gets_it(&mutex, guard, &task)?;
     let guard = owned::locked(rt, 9)?;
     let owned = *guard;
-    let is_as_shown = calls::run(rt)?;
     Ok(Results {
         sum,
         read,
         is_passed_on,
         owned,
-        is_as_shown,
     })
 }
 
@@ -55,14 +51,13 @@ where
             read,
             is_passed_on,
             owned,
-            is_as_shown,
         },
     ) = run_all(rt)
     else {
         return false;
     };
     match println!(rt;
-        "mutex:\ntwo threads: {sum}\nexecutor: {read}\ncancelled: {is_passed_on}\nowned: {owned}\neach call is as shown: {is_as_shown}"
+        "mutex:\ntwo threads: {sum}\nexecutor: {read}\ncancelled: {is_passed_on}\nowned: {owned}"
     ) {
         Ok(()) => true,
         Err(_) => false,

@@ -1,7 +1,6 @@
 //! The once-cell as its users meet it: a value that the first thread makes and all others read. The program prints a line for
 //! each example, that of `user_proofs` among them.
 
-mod calls;
 mod made_once;
 mod set_once;
 
@@ -15,7 +14,6 @@ struct Found {
     sum: u64,
     is_first: bool,
     read: Option<u64>,
-    is_so: bool,
 }
 
 fn run_all<R>(rt: R) -> Result<Found, Refusal>
@@ -25,12 +23,10 @@ where
     let sum = made_once::run(rt)?;
     let is_first = set_once::is_first_kept(rt)?;
     let read = user_proofs::once_cell::run(rt)?;
-    let is_so = calls::run(rt)?;
     Ok(Found {
         sum,
         is_first,
         read,
-        is_so,
     })
 }
 
@@ -45,9 +41,9 @@ where
     let Some(read) = found.read else {
         return false;
     };
-    let (sum, is_first, is_so) = (found.sum, found.is_first, found.is_so);
+    let (sum, is_first) = (found.sum, found.is_first);
     match println!(rt;
-        "once-cell:\nmade once: {sum}\nthe first is kept: {is_first}\nread again: {read}\neach call is as shown: {is_so}"
+        "once-cell:\nmade once: {sum}\nthe first is kept: {is_first}\nread again: {read}"
     ) {
         Ok(()) => true,
         Err(_) => false,

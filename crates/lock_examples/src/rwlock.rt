@@ -1,10 +1,8 @@
 //! The read-write lock as its users meet it: read by two threads at a time, upgraded without letting a writer in between, owned by
-//! its guard, and round a cache that one refreshes; its other calls, and how one guard becomes another. Each module is one example. The program runs them all and
-//! the one of `user_proofs`, and prints a line for each.
+//! its guard, and round a cache that one refreshes. Each module is one example. The program runs them all and the one of
+//! `user_proofs`, and prints a line for each.
 
 mod cache;
-mod calls;
-mod changes;
 mod owned;
 mod two_readers;
 mod upgraded;
@@ -21,7 +19,6 @@ struct Results {
     degrees: u64,
     asked: u64,
     read_again: u64,
-    is_as_shown: bool,
 }
 
 fn run_all<R>(rt: R) -> Result<Results, Refusal>
@@ -35,7 +32,6 @@ where
     let owned = owned::read(rt, 9)?;
     let (degrees, asked) = cache::run(rt)?;
     let read_again = user_proofs::rwlock::run(rt, 5)?;
-    let is_as_shown = calls::run(rt)? && changes::run(rt)?;
     Ok(Results {
         sum,
         upgraded: first.saturating_add(second),
@@ -43,7 +39,6 @@ where
         degrees,
         asked,
         read_again,
-        is_as_shown,
     })
 }
 
@@ -60,14 +55,13 @@ where
             degrees,
             asked,
             read_again,
-            is_as_shown,
         },
     ) = run_all(rt)
     else {
         return false;
     };
     match println!(rt;
-        "read-write lock:\ntwo readers: {sum}\nupgraded: {upgraded}\nowned: {owned}\ncache: {degrees}, refreshed {asked} time\nread again: {read_again}\neach call is as shown: {is_as_shown}"
+        "read-write lock:\ntwo readers: {sum}\nupgraded: {upgraded}\nowned: {owned}\ncache: {degrees}, refreshed {asked} time\nread again: {read_again}"
     ) {
         Ok(()) => true,
         Err(_) => false,
