@@ -1,9 +1,6 @@
 -- What is known of a list that is about to be given back.
 use Rattle.std.proofs.Common.{◌≡◌, ℕ, ◌∷◌, refl, sym, ap, ◌∙◌, subst}
 use Rattle.atomic_table.specs.Table.{Me, rest}
-use Rattle.lock_queue.specs.Entries.{IsKept, HasJoined, IsGone, HasLeft}
-use Rattle.lock_queue.specs.Queues.{entries_of}
-use Rattle.lock_queue.proofs.Listing as listing
 use Rattle.words_base.specs.Lists.{Listed, Stays, Joins, Leaves}
 use Rattle.words_base.proofs.Holding.{same_out}
 use Rattle.words_barrier.specs.Steps.{IsHeld, Out, CanJoin, CanLeave, CanStay}
@@ -22,17 +19,11 @@ module _ (m : Me Entries View) (held : IsHeld listed_of m) (now left : Entries) 
   out : Out listed_of After n left
   out = (held.1, refl, says.0, says.1)
 
-  pub stays : IsKept (entries_of now.queue) (entries_of left.queue) → CanStay listed_of After n
-  stays f = (left, out, subst (λ (l : Listed). Stays l (listed_of left)) listed-now (listing.stays now.queue left.queue f))
+  pub stays : Stays (listed_of now) (listed_of left) → CanStay listed_of After n
+  stays f = (left, out, subst (λ (l : Listed). Stays l (listed_of left)) listed-now f)
 
-  pub joins : (k : ℕ) → HasJoined (entries_of now.queue) (entries_of left.queue) k → CanJoin listed_of After n k
-  joins k f = (left, out, subst (λ (l : Listed). Joins k l (listed_of left)) listed-now (listing.joins now.queue left.queue k f))
+  pub joins : (k : ℕ) → Joins k (listed_of now) (listed_of left) → CanJoin listed_of After n k
+  joins k f = (left, out, subst (λ (l : Listed). Joins k l (listed_of left)) listed-now f)
 
-  leaves : (k : ℕ) → m.0.entry ≡ k → Leaves k (listed_of now) (listed_of left) → CanLeave listed_of After n
+  pub leaves : (k : ℕ) → m.0.entry ≡ k → Leaves k (listed_of now) (listed_of left) → CanLeave listed_of After n
   leaves k own f = (left, out, subst (λ (j : ℕ). Leaves j m.0.list (listed_of left)) (sym own) (subst (λ (l : Listed). Leaves k l (listed_of left)) listed-now f))
-
-  pub is_gone : (k : ℕ) → m.0.entry ≡ k → IsGone (entries_of now.queue) (entries_of left.queue) k → CanLeave listed_of After n
-  is_gone k own f = leaves k own (listing.leaves now.queue left.queue k f)
-
-  pub has_left : (k : ℕ) → m.0.entry ≡ k → HasLeft (entries_of now.queue) (entries_of left.queue) k → CanLeave listed_of After n
-  has_left k own f = leaves k own (listing.goes_on now.queue left.queue k f).leaves

@@ -1,5 +1,6 @@
 -- What the calls on a list do to those that wait in it.
 use Rattle.words_base.specs.Waiting.{Has, NoneWaits, Fewer, StaysTold, unless, last_of}
+use Rattle.words_base.specs.Lists.{GoesOn, Joins, Leaves, Pays, PaysAll, Stays}
 use Rattle.std.proofs.Common.{◌≡◌, ◌≢◌, ℕ, ◌+◌, ◌-◌, ◌<◌, ◌≤◌, ◌==◌, ◌||◌, if◌then◌else◌, Bool, true, false, not, List, [], ◌∷◌, ◌++◌, length, refl, sym, ap, ◌∙◌, subst, arith, ◌⊎◌, inl, inr, ⊎_elim, Option, Some, None, Result, Ok, Err, IfOk, eq-eqb, ne_eqb, true≢false}
 use mathlib.Core.Logic.{dite}
 use native.Mathlib.Decide.{ℕ_discrete}
@@ -12,13 +13,12 @@ use Rattle.lock_event.specs.declared.event.Asked.{Asked}
 use Rattle.lock_event.specs.declared.event.Asked.TheVariants as asked
 use Rattle.lock_event.specs.Lists.{is_marked, marked_count, entry, joined, mark_waiting, notified, notified_additionally, left, passed_on, without, with_key, mark_at, is_listed}
 use Rattle.lock_event.specs.Slots.{without_waker, has_id, slot_of, is_due, emptied, HasAsked}
-use Rattle.lock_event.proofs.Counts.{marked_count-notified}
+use Rattle.lock_event.proofs.Counts.{marked_count-notified, marked_count-left, length-passed_on}
 use Rattle.lock_event.proofs.Marks.{length-mark_waiting, marked_count-joined, marked_count-with_key}
-use Rattle.lock_queue.specs.Entries.{waiting_in, IsKept, HasJoined, IsTold, AreTold, IsGone, HasLeft}
-use Rattle.lock_queue.specs.Sizes.{StaysNotified}
+use Rattle.lock_queue.specs.Entries.{waiting_in}
+use Rattle.lock_queue.specs.Queues.{Becomes}
 use Rattle.words_base.proofs.Waiting.{joined_by, last-pushed}
 use Rattle.lock_queue.proofs.Numbers.{numbers-mark, numbers-without_waker, numbers-with_key, numbers-joined, is_new, left_by_id, asked_by_id}
-use Rattle.lock_queue.proofs.Sizing.{notified_size, stays_notified, keyed_size, joined_size, waker_size, notified_without_waker, gone_without_waker}
 
 -- ---- numbers
 pub fewer_same : (l : List ℕ) → Fewer l l
@@ -70,8 +70,8 @@ module _ {W : Type 0} where
   all-mark m n [] told many = λ k h. h
   all-mark m n (e ∷ es) told many = none_head m e (mark_waiting m n es) (mark_waiting m (n - 1) es) (is_marked e.mark) (n == 0) told refl (ne_eqb n 0 (λ z. omega (arith, z, many))) (all-mark m n es told (omega arith)) (all-mark m (n - 1) es told (omega arith))
 
-  pub all_told : (es : List (Entry (Slot W))) → AreTold es (notified_additionally es (length es))
-  all_told es = record { none_waits = all-mark Additional (length es) es refl (omega arith); stand = numbers-mark Additional (length es) es }
+  pub all_told : (es : List (Entry (Slot W))) → Becomes PaysAll es (notified_additionally es (length es))
+  all_told es = record { none_waits = all-mark Additional (length es) es refl (omega arith); entries = numbers-mark Additional (length es) es }
 
   few-marked : (es : List (Entry (Slot W))) → marked_count es ≤ length es
   few-marked [] = omega arith
@@ -89,8 +89,8 @@ module _ {W : Type 0} where
   rest-mark m n [] told many = λ k h. h
   rest-mark m n (e ∷ es) told many = rest_head m e n es (mark_waiting m n es) (mark_waiting m (n - 1) es) (is_marked e.mark) (n == 0) told refl refl (few-marked es) many (rest-mark m n es told) (rest-mark m (n - 1) es told)
 
-  pub each_told : (es : List (Entry (Slot W))) → AreTold es (notified es (length es))
-  each_told es = let f = few-marked es in record { none_waits = rest-mark Notified (length es - marked_count es) es refl (omega arith); stand = numbers-mark Notified (length es - marked_count es) es }
+  pub each_told : (es : List (Entry (Slot W))) → Becomes PaysAll es (notified es (length es))
+  each_told es = let f = few-marked es in record { none_waits = rest-mark Notified (length es - marked_count es) es refl (omega arith); entries = numbers-mark Notified (length es - marked_count es) es }
 
   -- ---- no entries
   empty_waits : (es : List (Entry (Slot W))) → length es ≡ 0 → NoneWaits (waiting_in es)
@@ -100,8 +100,8 @@ module _ {W : Type 0} where
   told-from : (es new : List (Entry (Slot W))) → length new ≡ length es → (0 < length es → 0 < marked_count new) → (0 < marked_count new) ⊎ NoneWaits (waiting_in new)
   told-from es new same some = dite (ℕ_discrete (length new) 0) (λ z. inr (empty_waits new z)) (λ ne. inl (some (omega arith)))
 
-  pub one_told : (es : List (Entry (Slot W))) → IsTold es (notified es 1)
-  one_told es = record { fewer = fewer-mark Notified (1 - marked_count es) es refl; told = told-from es (notified es 1) (length-mark_waiting Notified (1 - marked_count es) es) (marked_count-notified es); stand = numbers-mark Notified (1 - marked_count es) es; size = notified_size es }
+  pub one_told : (es : List (Entry (Slot W))) → Becomes Pays es (notified es 1)
+  one_told es = record { fewer = fewer-mark Notified (1 - marked_count es) es refl; settled = told-from es (notified es 1) (length-mark_waiting Notified (1 - marked_count es) es) (marked_count-notified es); entries = numbers-mark Notified (1 - marked_count es) es }
 
   -- ---- taking a waker
   waker_head : (b : Bool) (e : Entry (Slot W)) (es fs : List (Entry (Slot W))) → waiting_in fs ≡ waiting_in es → waiting_in (if b then emptied e ∷ es else e ∷ fs) ≡ unless (is_marked e.mark) (number e) (waiting_in es)
@@ -115,30 +115,32 @@ module _ {W : Type 0} where
   stays_told : (old new : List (Entry (Slot W))) → marked_count old ≤ marked_count new → StaysTold (marked_count old) (waiting_in new) (marked_count new)
   stays_told old new more some = inl (omega arith)
 
-  pub kept_without_waker : (es : List (Entry (Slot W))) → IsKept es (without_waker es)
-  kept_without_waker es = let m = (waker_size es).1 in
-      record { fewer = fewer_of (waiting_in es) (waiting_in (without_waker es)) (waits-without_waker es); told = stays_told es (without_waker es) (omega arith); stand = numbers-without_waker es; size = waker_size es }
+  marked-without_waker : (es : List (Entry (Slot W))) → marked_count (without_waker es) ≡ marked_count es
+  marked-without_waker [] = refl
+  marked-without_waker (e ∷ es) = grind (arith, marked-without_waker es)
 
-  pub kept_same : (es : List (Entry (Slot W))) → IsKept es es
-  kept_same es = record { fewer = λ n h. h; told = λ some. inl some; stand = refl; size = (refl, refl) }
+  pub kept_without_waker : (es : List (Entry (Slot W))) → Becomes Stays es (without_waker es)
+  kept_without_waker es = let m = marked-without_waker es in
+      record { fewer = fewer_of (waiting_in es) (waiting_in (without_waker es)) (waits-without_waker es); told = stays_told es (without_waker es) (omega arith); entries = numbers-without_waker es }
 
-  pub kept_on : (a b c : List (Entry (Slot W))) → IsKept a b → IsKept b c → IsKept a c
-  kept_on a b c f g = record { fewer = λ n h. f.fewer n (g.fewer n h); told = λ some. ⊎_elim (λ m. g.told m) (λ none. inr (λ n h. none n (g.fewer n h))) (f.told some); stand = g.stand ∙ f.stand; size = (g.size.0 ∙ f.size.0, g.size.1 ∙ f.size.1) }
+  pub kept_same : (es : List (Entry (Slot W))) → Becomes Stays es es
+  kept_same es = record { fewer = λ n h. h; told = λ some. inl some; entries = refl }
 
-  pub told_on : (a b c : List (Entry (Slot W))) → AreTold a b → IsKept b c → AreTold a c
-  told_on a b c t g = record { none_waits = λ n h. t.none_waits n (g.fewer n h); stand = g.stand ∙ t.stand }
+  pub kept_on : (a b c : List (Entry (Slot W))) → Becomes Stays a b → Becomes Stays b c → Becomes Stays a c
+  kept_on a b c f g = record { fewer = λ n h. f.fewer n (g.fewer n h); told = λ some. ⊎_elim (λ m. g.told m) (λ none. inr (λ n h. none n (g.fewer n h))) (f.told some); entries = g.entries ∙ f.entries }
+
+  pub told_on : (a b c : List (Entry (Slot W))) → Becomes PaysAll a b → Becomes Stays b c → Becomes PaysAll a c
+  told_on a b c t g = record { none_waits = λ n h. t.none_waits n (g.fewer n h); entries = g.entries ∙ t.entries }
 
   -- what was so of the list before a waker was taken out
-  pub told_without_waker : (old es : List (Entry (Slot W))) → IsTold old es → IsTold old (without_waker es)
-  told_without_waker old es t = let w = waits-without_waker es in let m = (waker_size es).1 in
-      record { fewer = λ n h. t.fewer n (subst (Has n) w h); told = ⊎_elim (λ some. inl (omega arith)) (λ none. inr (λ n h. none n (subst (Has n) w h))) t.told; stand = numbers-without_waker es ∙ t.stand; size = notified_without_waker old es t.size }
+  pub told_without_waker : (old es : List (Entry (Slot W))) → Becomes Pays old es → Becomes Pays old (without_waker es)
+  told_without_waker old es t = let w = waits-without_waker es in let m = marked-without_waker es in
+      record { fewer = λ n h. t.fewer n (subst (Has n) w h); settled = ⊎_elim (λ some. inl (omega arith)) (λ none. inr (λ n h. none n (subst (Has n) w h))) t.settled; entries = numbers-without_waker es ∙ t.entries }
 
-  pub left_without_waker : (old es : List (Entry (Slot W))) (k : ℕ) → HasLeft old es k → HasLeft old (without_waker es) k
-  left_without_waker old es k t = let w = waits-without_waker es in let m = (waker_size es).1 in record {
+  pub left_without_waker : (old es : List (Entry (Slot W))) (k : ℕ) → Becomes (GoesOn k) old es → Becomes (GoesOn k) old (without_waker es)
+  left_without_waker old es k t = let w = waits-without_waker es in let m = marked-without_waker es in record {
+    leaves = record { left = λ n h. t.leaves.left n (subst (Has n) w h); entries = numbers-without_waker es ∙ t.leaves.entries };
     told = λ some. ⊎_elim (λ more. inl (omega arith)) (λ none. inr (λ n h. none n (subst (Has n) w h))) (t.told some);
-    left = λ n h. t.left n (subst (Has n) w h);
-    stand = numbers-without_waker es ∙ t.stand;
-    notified = gone_without_waker old es t.notified;
   }
 
   -- ---- leaving
@@ -159,6 +161,9 @@ module _ {W : Type 0} where
   fewer-left : (test : Slot W → Bool) (es : List (Entry (Slot W))) → Less es (left test es)
   fewer-left test es n h = fewer-without test es n (fewer-passed_on (mark_at test es) (without test es) n h)
 
+  stays_notified : (test : Slot W → Bool) (es : List (Entry (Slot W))) → 0 < length (left test es) → 0 < marked_count es → 0 < marked_count (left test es)
+  stays_notified test es some were = let l = length-passed_on (mark_at test es) (without test es) in marked_count-left test es (omega arith) were
+
   told-left : (test : Slot W → Bool) (es : List (Entry (Slot W))) → StaysTold (marked_count es) (waiting_in (left test es)) (marked_count (left test es))
   told-left test es some = dite (ℕ_discrete (length (left test es)) 0) (λ z. inr (empty_waits (left test es) z)) (λ ne. inl (stays_notified test es (omega arith) some))
 
@@ -173,10 +178,10 @@ module _ {W : Type 0} where
   not_there id (e ∷ es) away = gone_head id e es (has_id id e.key) (is_marked e.mark) refl away (not_there id es)
 
   -- it has left, and no entry has the number
-  pub left_once : (id : EntryId) (es new : List (Entry (Slot W))) → new ≡ left (has_id id) es → is_listed (has_id id) new ≡ false → HasLeft es new id.number
+  pub left_once : (id : EntryId) (es new : List (Entry (Slot W))) → new ≡ left (has_id id) es → is_listed (has_id id) new ≡ false → Becomes (GoesOn id.number) es new
   left_once id es new is away =
       let fewer : Less es new = subst (Less es) (sym is) (fewer-left (has_id id) es) in
-      record { told = subst (λ l. StaysTold (marked_count es) (waiting_in l) (marked_count l)) (sym is) (told-left (has_id id) es); left = λ n h. (fewer n h, not_there id new away n h); stand = left_by_id id es new is away; notified = subst (StaysNotified es) (sym is) (stays_notified (has_id id) es) }
+      record { leaves = record { left = λ n h. (fewer n h, not_there id new away n h); entries = left_by_id id es new is away }; told = subst (λ l. StaysTold (marked_count es) (waiting_in l) (marked_count l)) (sym is) (told-left (has_id id) es) }
 
   -- ---- asking
   key_head : (id : EntryId) (w : Option W) (b : Bool) (e : Entry (Slot W)) (es fs : List (Entry (Slot W))) → has_id id e.key ≡ b → Less es fs
@@ -188,8 +193,8 @@ module _ {W : Type 0} where
   fewer-with_key id w [] = λ n h. h
   fewer-with_key id w (e ∷ es) = key_head id w (has_id id e.key) e es (with_key (has_id id) (slot_of id w) es) refl (fewer-with_key id w es)
 
-  pub kept_keyed : (id : EntryId) (w : Option W) (es : List (Entry (Slot W))) → IsKept es (with_key (has_id id) (slot_of id w) es)
-  kept_keyed id w es = let m = marked_count-with_key (has_id id) (slot_of id w) es in record { fewer = fewer-with_key id w es; told = stays_told es (with_key (has_id id) (slot_of id w) es) (omega arith); stand = numbers-with_key id w es; size = keyed_size (has_id id) (slot_of id w) es }
+  pub kept_keyed : (id : EntryId) (w : Option W) (es : List (Entry (Slot W))) → Becomes Stays es (with_key (has_id id) (slot_of id w) es)
+  kept_keyed id w es = let m = marked_count-with_key (has_id id) (slot_of id w) es in record { fewer = fewer-with_key id w es; told = stays_told es (with_key (has_id id) (slot_of id w) es) (omega arith); entries = numbers-with_key id w es }
 
   fewer_asked : (id : EntryId) (w : Option W) (old new : List (Entry (Slot W))) (a : Asked W) → HasAsked id w old a new → Less old new
   fewer_asked id w old new (asked.Notified kept unused) h = subst (λ (l : List (Entry (Slot W))). Less old l) (sym h.1) (fewer-without (has_id id) old)
@@ -197,20 +202,20 @@ module _ {W : Type 0} where
   fewer_asked id w old new (asked.Unlisted unused) h = subst (λ (l : List (Entry (Slot W))). Less old l) (sym h.1) (fewer_same (waiting_in old))
 
   -- whoever has asked and didn't wait has left, and no entry has the number
-  pub gone_once : (id : EntryId) (w : Option W) (old new : List (Entry (Slot W))) (a : Asked W) → HasAsked id w old a new → is_listed (has_id id) new ≡ false → IsGone old new id.number
-  gone_once id w old new a asked away = record { left = λ n h. (fewer_asked id w old new a asked n h, not_there id new away n h); stand = asked_by_id id w old new a asked away }
+  pub gone_once : (id : EntryId) (w : Option W) (old new : List (Entry (Slot W))) (a : Asked W) → HasAsked id w old a new → is_listed (has_id id) new ≡ false → Becomes (Leaves id.number) old new
+  gone_once id w old new a asked away = record { left = λ n h. (fewer_asked id w old new a asked n h, not_there id new away n h); entries = asked_by_id id w old new a asked away }
 
   -- ---- joining
   waits-joined : (k : Slot W) (es : List (Entry (Slot W))) → waiting_in (joined es k) ≡ waiting_in es ++ k.id.number ∷ []
   waits-joined k [] = refl
   waits-joined k (e ∷ es) = ap (unless (is_marked e.mark) (number e)) (waits-joined k es) ∙ pushed (is_marked e.mark) (number e) k.id.number (waiting_in es)
 
-  has-joined : (k : Slot W) (es : List (Entry (Slot W))) → is_listed (has_id k.id) es ≡ false → HasJoined es (joined es k) k.id.number
+  has-joined : (k : Slot W) (es : List (Entry (Slot W))) → is_listed (has_id k.id) es ≡ false → Becomes (Joins k.id.number) es (joined es k)
   has-joined k es none = let w = waits-joined k es in let m = marked_count-joined es k in
-      record { joined = λ n h. joined_by k.id.number (waiting_in es) n (subst (Has n) w h); last = ap last_of w ∙ last-pushed k.id.number (waiting_in es); marked = omega arith; fresh = is_new k.id es none; stand = numbers-joined k es; size = joined_size k es }
+      record { joined = λ n h. joined_by k.id.number (waiting_in es) n (subst (Has n) w h); last = ap last_of w ∙ last-pushed k.id.number (waiting_in es); notified = omega arith; fresh = is_new k.id es none; entries = numbers-joined k es }
 
-  pub joined_ok : {B : Type 0} (old new : List (Entry (Slot W))) (r : Result EntryId B) → IfOk r (λ id. new ≡ joined old (slot_of id None)) → IfOk r (λ id. is_listed (has_id id) old ≡ false) → IfOk r (λ id. HasJoined old new id.number)
-  joined_ok old new (Ok id) is none = subst (λ (l : List (Entry (Slot W))). HasJoined old l id.number) (sym is) (has-joined (slot_of id None) old none)
+  pub joined_ok : {B : Type 0} (old new : List (Entry (Slot W))) (r : Result EntryId B) → IfOk r (λ id. new ≡ joined old (slot_of id None)) → IfOk r (λ id. is_listed (has_id id) old ≡ false) → IfOk r (λ id. Becomes (Joins id.number) old new)
+  joined_ok old new (Ok id) is none = subst (Becomes (Joins id.number) old) (sym is) (has-joined (slot_of id None) old none)
   joined_ok old new (Err e) is none = tt
 
   -- ---- joining with a waker
@@ -223,9 +228,9 @@ module _ {W : Type 0} where
   waits-with_key id w [] = refl
   waits-with_key id w (e ∷ es) = rekeyed_head id w (has_id id e.key) e es (with_key (has_id id) (slot_of id w) es) refl (waits-with_key id w es)
 
-  rekeyed : (id : EntryId) (w : Option W) (old mid : List (Entry (Slot W))) (k : ℕ) → HasJoined old mid k → HasJoined old (with_key (has_id id) (slot_of id w) mid) k
+  rekeyed : (id : EntryId) (w : Option W) (old mid : List (Entry (Slot W))) (k : ℕ) → Becomes (Joins k) old mid → Becomes (Joins k) old (with_key (has_id id) (slot_of id w) mid)
   rekeyed id w old mid k j = let same = waits-with_key id w mid in let m = marked_count-with_key (has_id id) (slot_of id w) mid in
-      record { joined = λ n h. j.joined n (subst (Has n) same h); last = ap last_of same ∙ j.last; marked = omega (arith, j.marked, m); fresh = j.fresh; stand = numbers-with_key id w mid ∙ j.stand; size = let k = keyed_size (has_id id) (slot_of id w) mid in (k.0 ∙ j.size.0, k.1 ∙ j.size.1) }
+      record { joined = λ n h. j.joined n (subst (Has n) same h); last = ap last_of same ∙ j.last; notified = omega (arith, j.notified, m); fresh = j.fresh; entries = numbers-with_key id w mid ∙ j.entries }
 
-  pub joined_keyed : (id : EntryId) (w : Option W) (old mid : List (Entry (Slot W))) → mid ≡ joined old (slot_of id None) → is_listed (has_id id) old ≡ false → HasJoined old (with_key (has_id id) (slot_of id w) mid) id.number
-  joined_keyed id w old mid is none = rekeyed id w old mid id.number (subst (λ (l : List (Entry (Slot W))). HasJoined old l id.number) (sym is) (has-joined (slot_of id None) old none))
+  pub joined_keyed : (id : EntryId) (w : Option W) (old mid : List (Entry (Slot W))) → mid ≡ joined old (slot_of id None) → is_listed (has_id id) old ≡ false → Becomes (Joins id.number) old (with_key (has_id id) (slot_of id w) mid)
+  joined_keyed id w old mid is none = rekeyed id w old mid id.number (subst (Becomes (Joins id.number) old) (sym is) (has-joined (slot_of id None) old none))

@@ -5,8 +5,9 @@ ghost use Rattle.futures.specs.Task.{Keeps};
 ghost use Rattle.lock_event.specs.Lists.{is_waiting_at};
 ghost use Rattle.lock_event.specs.Slots.{has_id};
 ghost use Rattle.lock_queue.specs.Asking.{ByHeard};
-ghost use Rattle.lock_queue.specs.Entries.{IsKept, HasJoined, IsTold, AreTold, IsGone, HasLeft};
+ghost use Rattle.lock_queue.specs.Queues.{Becomes};
 ghost use Rattle.lock_queue.specs.Receipts.{KeepsAt, IsReceipt};
+ghost use Rattle.words_base.specs.Lists.{GoesOn, Joins, Leaves, Pays, PaysAll, Stays};
 
 use crate::due::{AllDue, Due};
 use crate::heard::Heard;
@@ -17,7 +18,7 @@ use std::alloc::{AllocFailed, Global};
 
 // An entry joins at the back, with no waker.
 pub(crate) fn join(event: &mut Event<Waker>) -> Result<EntryId, Memory>
-    ensures joined { IfOk result (λ id. HasJoined event.old.entries event.new.entries id.number) }
+    ensures joined { IfOk result (λ id. Becomes (Joins id.number) event.old.entries event.new.entries) }
     ensures refused { OnErr result (event.new.entries ≡ event.old.entries) }
 {
     event.listen()
@@ -30,7 +31,7 @@ pub(crate) fn join_waking(
     source: &Source,
     cx: &mut Context<'_>,
 ) -> Result<(EntryId, Whose), Memory>
-    ensures joined { IfOk result (λ joined. HasJoined event.old.entries event.new.entries joined.0.number) }
+    ensures joined { IfOk result (λ joined. Becomes (Joins joined.0.number) event.old.entries event.new.entries) }
     ensures refused { OnErr result (event.new.entries ≡ event.old.entries) }
     ensures keeps { IfOk result (λ joined. KeepsAt joined.0 joined.1 event.new.entries × IsReceipt source.now.id cx.new joined.1) }
     ensures kept { Keeps cx.old cx.new }
@@ -45,7 +46,7 @@ pub(crate) fn join_waking(
 
 // Notifies the first who waits, unless one is notified: the waker that is due.
 pub(crate) fn notify(event: &mut Event<Waker>) -> Option<Waker>
-    ensures { IsTold event.old.entries event.new.entries }
+    ensures { Becomes Pays event.old.entries event.new.entries }
 {
     event.notify(1);
     event.next_waker()
@@ -53,7 +54,7 @@ pub(crate) fn notify(event: &mut Event<Waker>) -> Option<Waker>
 
 // Notifies all who wait: the wakers that are due.
 pub(crate) fn notify_all(event: &mut Event<Waker>, alloc: Global) -> AllDue
-    ensures { AreTold event.old.entries event.new.entries }
+    ensures { Becomes PaysAll event.old.entries event.new.entries }
 {
     let all = event.len();
     event.notify_additional(all);
@@ -62,7 +63,7 @@ pub(crate) fn notify_all(event: &mut Event<Waker>, alloc: Global) -> AllDue
 
 // The same, by plain notifications: those that were notified before count as such.
 pub(crate) fn notify_each(event: &mut Event<Waker>, alloc: Global) -> AllDue
-    ensures { AreTold event.old.entries event.new.entries }
+    ensures { Becomes PaysAll event.old.entries event.new.entries }
 {
     let all = event.len();
     event.notify(all);
@@ -71,7 +72,7 @@ pub(crate) fn notify_each(event: &mut Event<Waker>, alloc: Global) -> AllDue
 
 // All wakers that are due, in one pass, as far as memory lasts.
 fn all_due(event: &mut Event<Waker>, alloc: Global) -> AllDue
-    ensures { IsKept event.old.entries event.new.entries }
+    ensures { Becomes Stays event.old.entries event.new.entries }
 {
     let mut all = Vec::new(alloc);
     for _ in 0..event.len() {
@@ -91,14 +92,14 @@ fn all_due(event: &mut Event<Waker>, alloc: Global) -> AllDue
 
 // The next waker that is due.
 pub(crate) fn next_due(event: &mut Event<Waker>) -> Option<Waker>
-    ensures { IsKept event.old.entries event.new.entries }
+    ensures { Becomes Stays event.old.entries event.new.entries }
 {
     event.next_waker()
 }
 
 // An entry leaves: what it kept, and the waker that is due.
 pub(crate) fn leave(event: &mut Event<Waker>, id: EntryId) -> (Option<Waker>, Option<Waker>)
-    ensures { HasLeft event.old.entries event.new.entries id.number }
+    ensures { Becomes (GoesOn id.number) event.old.entries event.new.entries }
 {
     let kept = event.withdraw(id);
     (kept, event.next_waker())
@@ -113,7 +114,7 @@ pub(crate) fn ask(
     cx: &mut Context<'_>,
 ) -> Heard<Whose>
     ensures answer { ByHeard result (is_waiting_at (has_id id) event.old.entries ≡ false) (λ _. is_waiting_at (has_id id) event.old.entries ≡ true) }
-    ensures asked { ByHeard result (IsGone event.old.entries event.new.entries id.number) (λ _. IsKept event.old.entries event.new.entries) }
+    ensures asked { ByHeard result (Becomes (Leaves id.number) event.old.entries event.new.entries) (λ _. Becomes Stays event.old.entries event.new.entries) }
     ensures waits { ByHeard result (cx.new ≡ cx.old) (λ whose. KeepsAt id whose event.new.entries × IsReceipt source.now.id cx.new whose) }
     ensures kept { Keeps cx.old cx.new }
 {
@@ -127,7 +128,7 @@ pub(crate) fn ask(
 // The same, of an entry that keeps the waker that it has.
 pub(crate) fn ask_again(event: &mut Event<Waker>, id: EntryId) -> Heard<()>
     ensures answer { ByHeard result (is_waiting_at (has_id id) event.old.entries ≡ false) (λ _. is_waiting_at (has_id id) event.old.entries ≡ true) }
-    ensures asked { ByHeard result (IsGone event.old.entries event.new.entries id.number) (λ _. IsKept event.old.entries event.new.entries) }
+    ensures asked { ByHeard result (Becomes (Leaves id.number) event.old.entries event.new.entries) (λ _. Becomes Stays event.old.entries event.new.entries) }
 {
     if event.is_waiting(id) {
         return Heard::Waits(());
@@ -139,7 +140,7 @@ pub(crate) fn ask_again(event: &mut Event<Waker>, id: EntryId) -> Heard<()>
 #[inline(never)]
 fn told(event: &mut Event<Waker>, id: EntryId) -> Option<Waker>
     requires { is_waiting_at (has_id id) event.old.entries ≡ false }
-    ensures { IsGone event.old.entries event.new.entries id.number }
+    ensures { Becomes (Leaves id.number) event.old.entries event.new.entries }
 {
     match event.ask(id, None) {
         Asked::Notified { kept, .. } => kept,

@@ -1,9 +1,10 @@
 use Rattle.std.proofs.Common.{sym, ap, ◌∙◌, subst}
 use Rattle.lock_event.specs.Lists.{notified_additionally}
-use Rattle.lock_queue.specs.Entries.{AreTold}
+use Rattle.words_base.specs.Lists.{PaysAll}
+use Rattle.lock_queue.specs.Queues.{Becomes}
 use Rattle.lock_queue.proofs.Changes.{all_told, told_on}
 use Rattle.lock_queue.proofs.list.notify_all.Goals as goal
 
 pub returns : goal.returns
 returns c = let old = c.args.event.now.entries in let mid = c.notify_additional.new.self.entries in
-    told_on old mid c.all_due.new.event.entries (subst (AreTold old) (sym (c.notify_additional.ensures.entries ∙ ap (notified_additionally old) c.len-all.ensures)) (all_told old)) c.all_due.ensures
+    told_on old mid c.all_due.new.event.entries (subst (Becomes PaysAll old) (sym (c.notify_additional.ensures.entries ∙ ap (notified_additionally old) c.len-all.ensures)) (all_told old)) c.all_due.ensures
