@@ -13,10 +13,12 @@ use Rattle.lock_event.specs.declared.event.Asked.{Asked}
 use Rattle.lock_event.specs.declared.event.Asked.TheVariants as asked
 use Rattle.lock_event.specs.Lists.{is_marked, marked_count, entry, joined, mark_waiting, notified, notified_additionally, left, passed_on, without, with_key, mark_at, is_listed}
 use Rattle.lock_event.specs.Slots.{without_waker, has_id, slot_of, is_due, emptied, HasAsked}
-use Rattle.lock_event.proofs.Counts.{marked_count-notified, marked_count-left, length-passed_on}
+use Rattle.lock_event.proofs.Counts.{marked_count-notified}
 use Rattle.lock_event.proofs.Marks.{length-mark_waiting, marked_count-joined, marked_count-with_key}
 use Rattle.lock_queue.specs.Entries.{waiting_in}
 use Rattle.lock_queue.specs.Queues.{Becomes}
+use Rattle.lock_queue.specs.Sizes.{IsOneMore}
+use Rattle.lock_queue.proofs.Sizing.{keyed_size, joined_size, stays_notified, waker_size}
 use Rattle.words_base.proofs.Waiting.{joined_by, last-pushed}
 use Rattle.lock_queue.proofs.Numbers.{numbers-mark, numbers-without_waker, numbers-with_key, numbers-joined, is_new, left_by_id, asked_by_id}
 
@@ -115,12 +117,8 @@ module _ {W : Type 0} where
   stays_told : (old new : List (Entry (Slot W))) → marked_count old ≤ marked_count new → StaysTold (marked_count old) (waiting_in new) (marked_count new)
   stays_told old new more some = inl (omega arith)
 
-  marked-without_waker : (es : List (Entry (Slot W))) → marked_count (without_waker es) ≡ marked_count es
-  marked-without_waker [] = refl
-  marked-without_waker (e ∷ es) = grind (arith, marked-without_waker es)
-
   pub kept_without_waker : (es : List (Entry (Slot W))) → Becomes Stays es (without_waker es)
-  kept_without_waker es = let m = marked-without_waker es in
+  kept_without_waker es = let m = (waker_size es).1 in
       record { fewer = fewer_of (waiting_in es) (waiting_in (without_waker es)) (waits-without_waker es); told = stays_told es (without_waker es) (omega arith); entries = numbers-without_waker es }
 
   pub kept_same : (es : List (Entry (Slot W))) → Becomes Stays es es
@@ -134,11 +132,11 @@ module _ {W : Type 0} where
 
   -- what was so of the list before a waker was taken out
   pub told_without_waker : (old es : List (Entry (Slot W))) → Becomes Pays old es → Becomes Pays old (without_waker es)
-  told_without_waker old es t = let w = waits-without_waker es in let m = marked-without_waker es in
+  told_without_waker old es t = let w = waits-without_waker es in let m = (waker_size es).1 in
       record { fewer = λ n h. t.fewer n (subst (Has n) w h); settled = ⊎_elim (λ some. inl (omega arith)) (λ none. inr (λ n h. none n (subst (Has n) w h))) t.settled; entries = numbers-without_waker es ∙ t.entries }
 
   pub left_without_waker : (old es : List (Entry (Slot W))) (k : ℕ) → Becomes (GoesOn k) old es → Becomes (GoesOn k) old (without_waker es)
-  left_without_waker old es k t = let w = waits-without_waker es in let m = marked-without_waker es in record {
+  left_without_waker old es k t = let w = waits-without_waker es in let m = (waker_size es).1 in record {
     leaves = record { left = λ n h. t.leaves.left n (subst (Has n) w h); entries = numbers-without_waker es ∙ t.leaves.entries };
     told = λ some. ⊎_elim (λ more. inl (omega arith)) (λ none. inr (λ n h. none n (subst (Has n) w h))) (t.told some);
   }
@@ -160,9 +158,6 @@ module _ {W : Type 0} where
 
   fewer-left : (test : Slot W → Bool) (es : List (Entry (Slot W))) → Less es (left test es)
   fewer-left test es n h = fewer-without test es n (fewer-passed_on (mark_at test es) (without test es) n h)
-
-  stays_notified : (test : Slot W → Bool) (es : List (Entry (Slot W))) → 0 < length (left test es) → 0 < marked_count es → 0 < marked_count (left test es)
-  stays_notified test es some were = let l = length-passed_on (mark_at test es) (without test es) in marked_count-left test es (omega arith) were
 
   told-left : (test : Slot W → Bool) (es : List (Entry (Slot W))) → StaysTold (marked_count es) (waiting_in (left test es)) (marked_count (left test es))
   told-left test es some = dite (ℕ_discrete (length (left test es)) 0) (λ z. inr (empty_waits (left test es) z)) (λ ne. inl (stays_notified test es (omega arith) some))
@@ -210,12 +205,12 @@ module _ {W : Type 0} where
   waits-joined k [] = refl
   waits-joined k (e ∷ es) = ap (unless (is_marked e.mark) (number e)) (waits-joined k es) ∙ pushed (is_marked e.mark) (number e) k.id.number (waiting_in es)
 
-  has-joined : (k : Slot W) (es : List (Entry (Slot W))) → is_listed (has_id k.id) es ≡ false → Becomes (Joins k.id.number) es (joined es k)
+  has-joined : (k : Slot W) (es : List (Entry (Slot W))) → is_listed (has_id k.id) es ≡ false → Becomes (Joins k.id.number) es (joined es k) × IsOneMore es (joined es k)
   has-joined k es none = let w = waits-joined k es in let m = marked_count-joined es k in
-      record { joined = λ n h. joined_by k.id.number (waiting_in es) n (subst (Has n) w h); last = ap last_of w ∙ last-pushed k.id.number (waiting_in es); notified = omega arith; fresh = is_new k.id es none; entries = numbers-joined k es }
+      (record { joined = λ n h. joined_by k.id.number (waiting_in es) n (subst (Has n) w h); last = ap last_of w ∙ last-pushed k.id.number (waiting_in es); notified = omega arith; fresh = is_new k.id es none; entries = numbers-joined k es }, joined_size k es)
 
-  pub joined_ok : {B : Type 0} (old new : List (Entry (Slot W))) (r : Result EntryId B) → IfOk r (λ id. new ≡ joined old (slot_of id None)) → IfOk r (λ id. is_listed (has_id id) old ≡ false) → IfOk r (λ id. Becomes (Joins id.number) old new)
-  joined_ok old new (Ok id) is none = subst (Becomes (Joins id.number) old) (sym is) (has-joined (slot_of id None) old none)
+  pub joined_ok : {B : Type 0} (old new : List (Entry (Slot W))) (r : Result EntryId B) → IfOk r (λ id. new ≡ joined old (slot_of id None)) → IfOk r (λ id. is_listed (has_id id) old ≡ false) → IfOk r (λ id. Becomes (Joins id.number) old new × IsOneMore old new)
+  joined_ok old new (Ok id) is none = subst (λ (l : List (Entry (Slot W))). Becomes (Joins id.number) old l × IsOneMore old l) (sym is) (has-joined (slot_of id None) old none)
   joined_ok old new (Err e) is none = tt
 
   -- ---- joining with a waker
@@ -228,9 +223,10 @@ module _ {W : Type 0} where
   waits-with_key id w [] = refl
   waits-with_key id w (e ∷ es) = rekeyed_head id w (has_id id e.key) e es (with_key (has_id id) (slot_of id w) es) refl (waits-with_key id w es)
 
-  rekeyed : (id : EntryId) (w : Option W) (old mid : List (Entry (Slot W))) (k : ℕ) → Becomes (Joins k) old mid → Becomes (Joins k) old (with_key (has_id id) (slot_of id w) mid)
+  rekeyed : (id : EntryId) (w : Option W) (old mid : List (Entry (Slot W))) (k : ℕ) → Becomes (Joins k) old mid × IsOneMore old mid → Becomes (Joins k) old (with_key (has_id id) (slot_of id w) mid) × IsOneMore old (with_key (has_id id) (slot_of id w) mid)
   rekeyed id w old mid k j = let same = waits-with_key id w mid in let m = marked_count-with_key (has_id id) (slot_of id w) mid in
-      record { joined = λ n h. j.joined n (subst (Has n) same h); last = ap last_of same ∙ j.last; notified = omega (arith, j.notified, m); fresh = j.fresh; entries = numbers-with_key id w mid ∙ j.entries }
+      let s = keyed_size (has_id id) (slot_of id w) mid in let i = j.0 in let more = i.notified in
+      (record { joined = λ n h. i.joined n (subst (Has n) same h); last = ap last_of same ∙ i.last; notified = omega (arith, more, m); fresh = i.fresh; entries = numbers-with_key id w mid ∙ i.entries }, (s.0 ∙ j.1.0, s.1 ∙ j.1.1))
 
-  pub joined_keyed : (id : EntryId) (w : Option W) (old mid : List (Entry (Slot W))) → mid ≡ joined old (slot_of id None) → is_listed (has_id id) old ≡ false → Becomes (Joins id.number) old (with_key (has_id id) (slot_of id w) mid)
-  joined_keyed id w old mid is none = rekeyed id w old mid id.number (subst (Becomes (Joins id.number) old) (sym is) (has-joined (slot_of id None) old none))
+  pub joined_keyed : (id : EntryId) (w : Option W) (old mid : List (Entry (Slot W))) → mid ≡ joined old (slot_of id None) → is_listed (has_id id) old ≡ false → Becomes (Joins id.number) old (with_key (has_id id) (slot_of id w) mid) × IsOneMore old (with_key (has_id id) (slot_of id w) mid)
+  joined_keyed id w old mid is none = rekeyed id w old mid id.number (subst (λ (l : List (Entry (Slot W))). Becomes (Joins id.number) old l × IsOneMore old l) (sym is) (has-joined (slot_of id None) old none))

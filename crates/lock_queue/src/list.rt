@@ -7,6 +7,7 @@ ghost use Rattle.lock_event.specs.Slots.{has_id};
 ghost use Rattle.lock_queue.specs.Asking.{ByHeard};
 ghost use Rattle.lock_queue.specs.Queues.{Becomes};
 ghost use Rattle.lock_queue.specs.Receipts.{KeepsAt, IsReceipt};
+ghost use Rattle.lock_queue.specs.Sizes.{IsOneMore, IsOneNotified, IsSameSize, StaysNotified};
 ghost use Rattle.words_base.specs.Lists.{GoesOn, Joins, Leaves, Pays, PaysAll, Stays};
 
 use crate::due::{AllDue, Due};
@@ -18,7 +19,7 @@ use std::alloc::{AllocFailed, Global};
 
 // An entry joins at the back, with no waker.
 pub(crate) fn join(event: &mut Event<Waker>) -> Result<EntryId, Memory>
-    ensures joined { IfOk result (λ id. Becomes (Joins id.number) event.old.entries event.new.entries) }
+    ensures joined { IfOk result (λ id. Becomes (Joins id.number) event.old.entries event.new.entries × IsOneMore event.old.entries event.new.entries) }
     ensures refused { OnErr result (event.new.entries ≡ event.old.entries) }
 {
     event.listen()
@@ -31,7 +32,7 @@ pub(crate) fn join_waking(
     source: &Source,
     cx: &mut Context<'_>,
 ) -> Result<(EntryId, Whose), Memory>
-    ensures joined { IfOk result (λ joined. Becomes (Joins joined.0.number) event.old.entries event.new.entries) }
+    ensures joined { IfOk result (λ joined. Becomes (Joins joined.0.number) event.old.entries event.new.entries × IsOneMore event.old.entries event.new.entries) }
     ensures refused { OnErr result (event.new.entries ≡ event.old.entries) }
     ensures keeps { IfOk result (λ joined. KeepsAt joined.0 joined.1 event.new.entries × IsReceipt source.now.id cx.new joined.1) }
     ensures kept { Keeps cx.old cx.new }
@@ -46,7 +47,7 @@ pub(crate) fn join_waking(
 
 // Notifies the first who waits, unless one is notified: the waker that is due.
 pub(crate) fn notify(event: &mut Event<Waker>) -> Option<Waker>
-    ensures { Becomes Pays event.old.entries event.new.entries }
+    ensures { Becomes Pays event.old.entries event.new.entries × IsOneNotified event.old.entries event.new.entries }
 {
     event.notify(1);
     event.next_waker()
@@ -99,7 +100,7 @@ pub(crate) fn next_due(event: &mut Event<Waker>) -> Option<Waker>
 
 // An entry leaves: what it kept, and the waker that is due.
 pub(crate) fn leave(event: &mut Event<Waker>, id: EntryId) -> (Option<Waker>, Option<Waker>)
-    ensures { Becomes (GoesOn id.number) event.old.entries event.new.entries }
+    ensures { Becomes (GoesOn id.number) event.old.entries event.new.entries × StaysNotified event.old.entries event.new.entries }
 {
     let kept = event.withdraw(id);
     (kept, event.next_waker())
@@ -114,7 +115,7 @@ pub(crate) fn ask(
     cx: &mut Context<'_>,
 ) -> Heard<Whose>
     ensures answer { ByHeard result (is_waiting_at (has_id id) event.old.entries ≡ false) (λ _. is_waiting_at (has_id id) event.old.entries ≡ true) }
-    ensures asked { ByHeard result (Becomes (Leaves id.number) event.old.entries event.new.entries) (λ _. Becomes Stays event.old.entries event.new.entries) }
+    ensures asked { ByHeard result (Becomes (Leaves id.number) event.old.entries event.new.entries) (λ _. Becomes Stays event.old.entries event.new.entries × IsSameSize event.old.entries event.new.entries) }
     ensures waits { ByHeard result (cx.new ≡ cx.old) (λ whose. KeepsAt id whose event.new.entries × IsReceipt source.now.id cx.new whose) }
     ensures kept { Keeps cx.old cx.new }
 {
@@ -128,7 +129,7 @@ pub(crate) fn ask(
 // The same, of an entry that keeps the waker that it has.
 pub(crate) fn ask_again(event: &mut Event<Waker>, id: EntryId) -> Heard<()>
     ensures answer { ByHeard result (is_waiting_at (has_id id) event.old.entries ≡ false) (λ _. is_waiting_at (has_id id) event.old.entries ≡ true) }
-    ensures asked { ByHeard result (Becomes (Leaves id.number) event.old.entries event.new.entries) (λ _. Becomes Stays event.old.entries event.new.entries) }
+    ensures asked { ByHeard result (Becomes (Leaves id.number) event.old.entries event.new.entries) (λ _. Becomes Stays event.old.entries event.new.entries × IsSameSize event.old.entries event.new.entries) }
 {
     if event.is_waiting(id) {
         return Heard::Waits(());

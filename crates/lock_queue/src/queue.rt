@@ -5,6 +5,7 @@ ghost use Rattle.futures.specs.Task.{Keeps};
 ghost use Rattle.lock_queue.specs.Asking.{ByHeard};
 ghost use Rattle.lock_queue.specs.Queues.{entries_of, listed_in};
 ghost use Rattle.lock_queue.specs.Receipts.{KeepsAt, IsReceipt};
+ghost use Rattle.lock_queue.specs.Sizes.{IsOneMore, IsOneNotified, IsSameSize, StaysNotified};
 ghost use Rattle.words_base.specs.Lists.{GoesOn, Joins, Leaves, Pays, PaysAll, Stays};
 
 use crate::due::{AllDue, Due};
@@ -51,7 +52,7 @@ impl Queue {
 
     fn join_made(&mut self) -> Result<EntryId, Memory>
         requires { IsSome self.old.entries }
-        ensures joined { IfOk result (λ id. Joins id.number (listed_in self.old) (listed_in self.new)) }
+        ensures joined { IfOk result (λ id. Joins id.number (listed_in self.old) (listed_in self.new) × IsOneMore (entries_of self.old) (entries_of self.new)) }
         ensures refused { OnErr result (entries_of self.new ≡ entries_of self.old) }
     {
         match &mut self.entries {
@@ -62,7 +63,7 @@ impl Queue {
 
     /// An entry joins at the back, with no waker.
     pub fn join(&mut self, alloc: Global) -> Result<EntryId, Memory>
-        ensures joined { IfOk result (λ id. Joins id.number (listed_in self.old) (listed_in self.new)) }
+        ensures joined { IfOk result (λ id. Joins id.number (listed_in self.old) (listed_in self.new) × IsOneMore (entries_of self.old) (entries_of self.new)) }
         ensures refused { OnErr result (entries_of self.new ≡ entries_of self.old) }
     {
         match self.make(alloc) {
@@ -77,7 +78,7 @@ impl Queue {
         cx: &mut Context<'_>,
     ) -> Result<(EntryId, Whose), Memory>
         requires { IsSome self.old.entries }
-        ensures joined { IfOk result (λ joined. Joins joined.0.number (listed_in self.old) (listed_in self.new)) }
+        ensures joined { IfOk result (λ joined. Joins joined.0.number (listed_in self.old) (listed_in self.new) × IsOneMore (entries_of self.old) (entries_of self.new)) }
         ensures refused { OnErr result (entries_of self.new ≡ entries_of self.old) }
         ensures keeps { IfOk result (λ joined. KeepsAt joined.0 joined.1 (entries_of self.new) × IsReceipt source.now.id cx.new joined.1) }
         ensures kept { Keeps cx.old cx.new }
@@ -95,7 +96,7 @@ impl Queue {
         source: &Source,
         cx: &mut Context<'_>,
     ) -> Result<(EntryId, Whose), Memory>
-        ensures joined { IfOk result (λ joined. Joins joined.0.number (listed_in self.old) (listed_in self.new)) }
+        ensures joined { IfOk result (λ joined. Joins joined.0.number (listed_in self.old) (listed_in self.new) × IsOneMore (entries_of self.old) (entries_of self.new)) }
         ensures refused { OnErr result (entries_of self.new ≡ entries_of self.old) }
         ensures keeps { IfOk result (λ joined. KeepsAt joined.0 joined.1 (entries_of self.new) × IsReceipt source.now.id cx.new joined.1) }
         ensures kept { Keeps cx.old cx.new }
@@ -108,7 +109,7 @@ impl Queue {
 
     /// Notifies the first who waits, unless one is notified: the waker that is due.
     pub fn notify(&mut self) -> Due
-        ensures { Pays (listed_in self.old) (listed_in self.new) }
+        ensures { Pays (listed_in self.old) (listed_in self.new) × IsOneNotified (entries_of self.old) (entries_of self.new) }
     {
         match &mut self.entries {
             Some(event) => Due::of(list::notify(event)),
@@ -148,7 +149,7 @@ impl Queue {
 
     /// An entry leaves: what it kept, and the waker that is due.
     pub fn leave(&mut self, id: EntryId) -> (Option<Waker>, Due)
-        ensures { GoesOn id.number (listed_in self.old) (listed_in self.new) }
+        ensures { GoesOn id.number (listed_in self.old) (listed_in self.new) × StaysNotified (entries_of self.old) (entries_of self.new) }
     {
         match &mut self.entries {
             Some(event) => {
@@ -161,7 +162,7 @@ impl Queue {
 
     /// An entry asks for its notification. One that waits keeps a waker of the task of `cx`, which registers with `source`.
     pub fn ask(&mut self, id: EntryId, source: &Source, cx: &mut Context<'_>) -> Heard<Whose>
-        ensures asked { ByHeard result (Leaves id.number (listed_in self.old) (listed_in self.new)) (λ _. Stays (listed_in self.old) (listed_in self.new)) }
+        ensures asked { ByHeard result (Leaves id.number (listed_in self.old) (listed_in self.new)) (λ _. Stays (listed_in self.old) (listed_in self.new) × IsSameSize (entries_of self.old) (entries_of self.new)) }
         ensures waits { ByHeard result (cx.new ≡ cx.old) (λ whose. KeepsAt id whose (entries_of self.new) × IsReceipt source.now.id cx.new whose) }
         ensures kept { Keeps cx.old cx.new }
     {
@@ -173,7 +174,7 @@ impl Queue {
 
     /// The same, of an entry that keeps the waker that it has.
     pub fn ask_again(&mut self, id: EntryId) -> Heard<()>
-        ensures asked { ByHeard result (Leaves id.number (listed_in self.old) (listed_in self.new)) (λ _. Stays (listed_in self.old) (listed_in self.new)) }
+        ensures asked { ByHeard result (Leaves id.number (listed_in self.old) (listed_in self.new)) (λ _. Stays (listed_in self.old) (listed_in self.new) × IsSameSize (entries_of self.old) (entries_of self.new)) }
     {
         match &mut self.entries {
             Some(event) => list::ask_again(event, id),

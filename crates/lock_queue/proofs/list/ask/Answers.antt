@@ -3,12 +3,14 @@ use Rattle.std.proofs.Common.{subst, sym, ap, ◌∙◌}
 use Rattle.futures.specs.Task.{Hears}
 use Rattle.async_driver.specs.Tasks.{woken_by}
 use Rattle.lock_queue.proofs.Keeping.{waker_at-waiting}
+use Rattle.lock_event.specs.Slots.{has_id, slot_of}
 use Rattle.lock_queue.proofs.Changes.{kept_keyed}
+use Rattle.lock_queue.proofs.Sizing.{keyed_size}
 use Rattle.lock_queue.proofs.Receiving.{is_kept}
 use Rattle.lock_queue.proofs.list.ask.Goals as goal
 
 pub returns-in-Some-clause-asked : goal.returns-in-Some-clause-asked
-returns-in-Some-clause-asked c = kept_keyed c.args.id c.register.new.slot _
+returns-in-Some-clause-asked c = (kept_keyed c.args.id c.register.new.slot _, keyed_size (has_id c.args.id) (slot_of c.args.id c.register.new.slot) _)
 
 pub returns-in-Some-clause-waits : goal.returns-in-Some-clause-waits
 returns-in-Some-clause-waits c = (
