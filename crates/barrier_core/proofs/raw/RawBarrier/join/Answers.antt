@@ -2,4 +2,4 @@ use Rattle.barrier_core.proofs.Returning.{joins}
 use Rattle.barrier_core.proofs.raw.RawBarrier.join.Goals as goal
 
 pub give_joined-found-requires-clause-list : goal.give_joined-found-requires-clause-list
-give_joined-found-requires-clause-list g c = joins c.take_out-found.new.inner.me c.take_out-found.ensures.held c.slot_mut-list.result.now (record c.slot_mut-list.result.now { queue = c.join-joined.new.self }) c.says-word.result c.slot_mut-list.ensures.value c.says-word.ensures c.in-Ok.id.number c.in-Ok.ensures.joined
+give_joined-found-requires-clause-list g c = joins c.take_out-found.new.inner.me c.take_out-found.ensures.held c.slot_mut-list.result.now (record c.slot_mut-list.result.now { queue = c.join-joined.new.self }) c.says-word.result c.slot_mut-list.ensures.value c.says-word.ensures c.in-Ok.id.number c.in-Ok.ensures.joined.0

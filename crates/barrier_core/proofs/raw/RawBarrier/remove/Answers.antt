@@ -3,4 +3,4 @@ use Rattle.barrier_core.proofs.Returning.{leaves}
 use Rattle.barrier_core.proofs.raw.RawBarrier.remove.Goals as goal
 
 pub give_gone-found-requires-clause-list : goal.give_gone-found-requires-clause-list
-give_gone-found-requires-clause-list g c = leaves c.take_out-found.new.inner.me c.take_out-found.ensures.held c.slot_mut-list.result.now (record c.slot_mut-list.result.now { queue = c.leave-kept.new.self }) c.says-word.result c.slot_mut-list.ensures.value c.says-word.ensures c.args.id.number (c.take_out-found.ensures.same.5 ∙ ap (λ s. s.entry) c.seat.view_is ∙ c.requires.own.1) c.leave-kept.ensures.leaves
+give_gone-found-requires-clause-list g c = leaves c.take_out-found.new.inner.me c.take_out-found.ensures.held c.slot_mut-list.result.now (record c.slot_mut-list.result.now { queue = c.leave-kept.new.self }) c.says-word.result c.slot_mut-list.ensures.value c.says-word.ensures c.args.id.number (c.take_out-found.ensures.same.5 ∙ ap (λ s. s.entry) c.seat.view_is ∙ c.requires.own.1) c.leave-kept.ensures.0.leaves
