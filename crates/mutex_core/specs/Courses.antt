@@ -1,5 +1,5 @@
 -- Where a party is in its program: what it does next, or how its last call ended and where that left it.
-use Rattle.std.specs.Prelude.{◌≡◌, ⊤, Bool, true, false, Some}
+use Rattle.std.specs.Prelude.{◌≡◌, ◌⊎◌, ⊤, Bool, true, false, Some}
 use Rattle.std.specs.Coded.{Coded}
 use Rattle.lock_program.specs.Mutex.{start_of}
 use Rattle.lock_program.specs.contracts.end.Next as next
@@ -11,7 +11,7 @@ use Rattle.lock_program.specs.declared.end.Next.TheVariants.{Do, End}
 use Rattle.lock_program.specs.declared.mutex.LockCall.{LockCall}
 use Rattle.lock_program.specs.declared.mutex.Place.{Place}
 use Rattle.lock_program.specs.declared.mutex.LockCall.TheVariants as call
-use Rattle.lock_program.specs.declared.mutex.Place.TheVariants.{Out, Holding, Enter, Try, Join, Ask, AskStarved, Retry, JoinStarved, Seize, RefuseNotifyMemory, RefuseNotifyStarved}
+use Rattle.lock_program.specs.declared.mutex.Place.TheVariants.{Out, Holding, Enter, Try, Ask, AskStarved, RefuseNotifyMemory, RefuseNotifyStarved}
 use Rattle.lock_program.specs.declared.refusal.Refusal.{Refusal}
 use Rattle.lock_program.specs.declared.refusal.Refusal.TheVariants as refusals
 
@@ -50,19 +50,7 @@ IsStart call at (Do p) = ⊥
 
 -- the first action of a try, or of a poll
 abbrev pub IsFirst : LockCall → Place → Type 0
-IsFirst call.Try Try = ⊤
-IsFirst call.Lock Enter = ⊤
-IsFirst _ _ = ⊥
-
--- where who is notified goes on, or who joins
-abbrev pub waiting_from : Bool → Place
-waiting_from true = Retry
-waiting_from false = Join false
-
--- the same of who is starved
-abbrev pub striving_from : Bool → Place
-striving_from true = Seize
-striving_from false = JoinStarved
+IsFirst asked at = ((asked ≡ call.Try) × (at ≡ Try)) ⊎ ((asked ≡ call.Lock) × (at ≡ Enter))
 
 -- where who gives up hands on what it was notified of
 abbrev pub notifying_of : Refusal → Place

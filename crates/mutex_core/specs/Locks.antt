@@ -111,6 +111,18 @@ with_uncounted s = record s { starved = false }
 abbrev pub IsHolding : Seated → Type 0
 IsHolding s = (s.holds ≡ true) × (s.starved ≡ false) × (s.owes ≡ false) × (s.listed ≡ false) × (s.fresh ≡ false) × (s.course ≡ holding)
 
+-- it doesn't hold the lock, isn't counted as starved, and has no entry
+abbrev pub IsAway : Seated → Type 0
+IsAway s = (s.holds ≡ false) × (s.starved ≡ false) × (s.listed ≡ false) × (s.fresh ≡ false)
+
+-- it has an entry and nothing else, and has looked since it joined
+abbrev pub IsListed : Seated → Type 0
+IsListed s = (s.holds ≡ false) × (s.starved ≡ false) × (s.owes ≡ false) × (s.listed ≡ true) × (s.fresh ≡ false)
+
+-- it is counted as starved, has no entry, and owes a look
+abbrev pub IsStarving : Seated → Type 0
+IsStarving s = (s.holds ≡ false) × (s.starved ≡ true) × (s.owes ≡ true) × (s.listed ≡ false) × (s.fresh ≡ false)
+
 module _ (at : Place) where
   -- its call has come to this place, whose action is this
   abbrev pub IsAt : Action → Seated → Type 0

@@ -1,6 +1,7 @@
 -- How a poll went.
 use Rattle.std.specs.Prelude.{◌≡◌, ⊤, false, Option, Some, None}
 use Rattle.std.specs.declared.time.Instant.{Instant}
+use Rattle.futures.specs.Task.{Keeps}
 use Rattle.futures.specs.declared.task.context.Context.{Context}
 use Rattle.lock_place.specs.declared.room.Hold.{Hold}
 use Rattle.lock_program.specs.declared.refusal.Refusal.{Refusal}
@@ -51,3 +52,7 @@ IsKept (Some then) since = since ≡ Some then
 abbrev pub WaitsSince : {T : Type 0} → Option Instant → Outcome T → Type 0
 WaitsSince then (Waits waiting) = waiting.is_starved ≡ false → IsKept then waiting.since
 WaitsSince then outcome = ⊤
+
+-- A poll by this seat went so, and the task's context was kept.
+abbrev pub IsPolled : {T : Type 0} → Lock → Context → Context → Seated → Outcome T → Type 0
+IsPolled lock before after seat outcome = IsOutcomeOf lock after outcome × IsBySeat seat outcome × Keeps before after

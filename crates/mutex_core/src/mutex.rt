@@ -2,15 +2,15 @@
 //!
 //! Each action names its place in the table of `lock_program`, and asks that the call has come to it.
 
-ghost use Rattle.std.specs.Prelude.{◌≡◌, true, false, IfSome, MatchResult, Option};
+ghost use Rattle.std.specs.Prelude.{◌≡◌, true, false, IfOk, IfSome, MatchResult, Option};
 ghost use Rattle.futures.specs.Task.{Keeps};
 ghost use Rattle.lock_program.specs.Mutex.{next_of};
 ghost use Rattle.lock_program.specs.declared.end.Next.TheVariants.{Do};
 ghost use Rattle.lock_program.specs.declared.mutex.Found.TheVariants as finds;
 ghost use Rattle.lock_program.specs.declared.mutex.Place.TheVariants as at;
-ghost use Rattle.mutex_core.specs.Courses.{IsFirst, refusing, striving_from, waiting_from};
-ghost use Rattle.mutex_core.specs.Locks.{IsOf, IsSameSeat};
-ghost use Rattle.mutex_core.specs.Outcomes.{IsBySeat, IsGivenUp, IsHeldOf, IsOutcomeOf, IsRightOf, WaitsSince};
+ghost use Rattle.mutex_core.specs.Courses.{IsFirst, refusing};
+ghost use Rattle.mutex_core.specs.Locks.{IsAway, IsListed, IsOf, IsSameSeat, IsStarving};
+ghost use Rattle.mutex_core.specs.Outcomes.{IsBySeat, IsGivenUp, IsHeldOf, IsOutcomeOf, IsPolled, IsRightOf, WaitsSince};
 ghost use Rattle.std.specs.declared.time.Instant.{Instant};
 
 use crate::patience::{first_of, now};
@@ -105,7 +105,10 @@ impl<T> Words<T> {
         let Vain { seat, is_free } = vain;
         let mut seat = seat;
         if is_free {
-            return self.wait(rt, cx, seat, None, false);
+            return match self.enlist(rt, cx, seat, None, false) {
+                Ok(outcome) => outcome,
+                Err(told) => self.wait(rt, cx, told, None),
+            };
         }
         let joined = match self.join_waking(rt, &mut seat, cx, Place::Join { told: false }) {
             Ok(joined) => joined,
@@ -128,7 +131,7 @@ impl<T> Words<T> {
                 is_starved: false,
             });
         }
-        self.wait(rt, cx, seat, None, true)
+        self.wait(rt, cx, seat, None)
     }
 
     /// Polls a lock that waits. It goes on with the same seat (`same`), and waits since it first did, over all its polls (`since`).
@@ -168,9 +171,9 @@ impl<T> Words<T> {
             });
         }
         if is_starved {
-            return self.strive(rt, cx, seat, true);
+            return self.strive(rt, cx, seat);
         }
-        self.wait(rt, cx, seat, since, true)
+        self.wait(rt, cx, seat, since)
     }
 
     /// Drops a lock that waits: its count as starved goes off first, then it leaves the list, and a notification that it had goes on to
@@ -200,9 +203,7 @@ impl<T> Words<T> {
     #[cold]
     #[inline(never)]
     fn leave_with<R: Wait>(&self, rt: &R, seat: Seat<T>, hold: Hold<T>, id: EntryId) -> Held<T>
-        requires of { IsOf self.now seat }
-        requires right { IsRightOf self.now hold }
-        requires holds { (seat.holds ≡ true) × (seat.starved ≡ false) × (seat.owes ≡ false) × (seat.listed ≡ true) × (seat.fresh ≡ false) × (seat.entry ≡ id.number) × (seat.course ≡ Do at.Leave) }
+        requires { IsOf self.now seat × IsRightOf self.now hold × (seat.holds ≡ true) × (seat.starved ≡ false) × (seat.owes ≡ false) × (seat.listed ≡ true) × (seat.fresh ≡ false) × (seat.entry ≡ id.number) × (seat.course ≡ Do at.Leave) }
         ensures { IsHeldOf self.now result × IsSameSeat seat result.seat }
     {
         let mut seat = seat;
@@ -210,7 +211,7 @@ impl<T> Words<T> {
         Held { seat, hold }
     }
 
-    // From Retry on, if it was told, or from Join on: joins, looks and asks, until it has the lock or waits, or others or it are starved.
+    // From Retry on: looks, joins and asks, until it has the lock or waits, or others or it are starved.
     #[inline(never)]
     fn wait<R: Wait + Clock>(
         &self,
@@ -218,57 +219,66 @@ impl<T> Words<T> {
         cx: &mut Context<'_>,
         seat: Seat<T>,
         since: Option<Instant>,
-        told: bool,
     ) -> Outcome<T>
-        requires of { IsOf self.now seat }
-        requires idle { (seat.holds ≡ false) × (seat.starved ≡ false) × (seat.listed ≡ false) × (seat.fresh ≡ false) }
-        requires told { told ≡ false → seat.owes ≡ false }
-        requires course { seat.course ≡ Do (waiting_from told) }
-        ensures outcome { IsOutcomeOf self.now cx.new result }
-        ensures same { IsBySeat seat result }
+        requires { IsOf self.now seat × IsAway seat × (seat.course ≡ Do at.Retry) }
+        ensures went { IsPolled self.now cx.old cx.new seat result }
         ensures since { WaitsSince since result }
-        ensures kept { Keeps cx.old cx.new }
     {
         let mut seat = seat;
-        let mut told = told;
         for _ in rt.forever() {
-            if told {
-                match self.retry(rt, &mut seat, &since) {
-                    (Taking::Got(hold), _) => return Outcome::Got(Held { seat, hold }),
-                    (Taking::Held, false) => {}
-                    (Taking::Held, true) => return self.count_away(rt, cx, seat),
-                    (Taking::Starved, _) => {
-                        self.notify(rt, &mut seat, Place::PassOn);
-                        return self.count_away(rt, cx, seat);
-                    }
+            match self.retry(rt, &mut seat, &since) {
+                (Taking::Got(hold), _) => return Outcome::Got(Held { seat, hold }),
+                (Taking::Held, false) => {}
+                (Taking::Held, true) => return self.count_away(rt, cx, seat),
+                (Taking::Starved, _) => {
+                    self.notify(rt, &mut seat, Place::PassOn);
+                    return self.count_away(rt, cx, seat);
                 }
             }
-            let id = match self.join(rt, &mut seat, Place::Join { told }) {
-                Ok(id) => id,
-                Err(Memory) => return Outcome::Refused(self.refuse(
-                    rt,
-                    seat,
-                    told,
-                    Refusal::Memory,
-                )),
-            };
-            match self.look(rt, &mut seat, Place::Look { told }) {
-                Taking::Got(hold) => return Outcome::Got(self.leave_with(rt, seat, hold, id)),
-                Taking::Held => {}
-                Taking::Starved => return self.count_here(rt, cx, seat, id, told),
+            match self.enlist(rt, cx, seat, since, true) {
+                Ok(outcome) => return outcome,
+                Err(told) => seat = told,
             }
-            if let Some(whose) = self.ask(rt, &mut seat, id, cx, Place::Ask) {
-                return Outcome::Waits(Waiting {
-                    seat,
-                    id,
-                    whose,
-                    since: first_of(rt, since),
-                    is_starved: false,
-                });
-            }
-            told = true;
         }
         unreachable!()
+    }
+
+    // From Join on: joins, looks and asks once. A party that was notified then is given back, to go on from Retry.
+    #[inline(never)]
+    fn enlist<R: Wait + Clock>(
+        &self,
+        rt: &R,
+        cx: &mut Context<'_>,
+        seat: Seat<T>,
+        since: Option<Instant>,
+        told: bool,
+    ) -> Result<Outcome<T>, Seat<T>>
+        requires { IsOf self.now seat × IsAway seat × (seat.owes ≡ false) × (seat.course ≡ Do (at.Join told)) }
+        ensures since { IfOk result (WaitsSince since) }
+        ensures went { MatchResult result (IsPolled self.now cx.old cx.new seat) (λ again. IsOf self.now again × IsSameSeat seat again × IsAway again × (again.course ≡ Do at.Retry) × (cx.new ≡ cx.old)) }
+    {
+        let mut seat = seat;
+        let id = match self.join(rt, &mut seat, Place::Join { told }) {
+            Ok(id) => id,
+            Err(Memory) => {
+                return Ok(Outcome::Refused(self.refuse(rt, seat, told, Refusal::Memory)));
+            }
+        };
+        match self.look(rt, &mut seat, Place::Look { told }) {
+            Taking::Got(hold) => return Ok(Outcome::Got(self.leave_with(rt, seat, hold, id))),
+            Taking::Held => {}
+            Taking::Starved => return Ok(self.count_here(rt, cx, seat, id, told)),
+        }
+        match self.ask(rt, &mut seat, id, cx, Place::Ask) {
+            Some(whose) => Ok(Outcome::Waits(Waiting {
+                seat,
+                id,
+                whose,
+                since: first_of(rt, since),
+                is_starved: false,
+            })),
+            None => Err(seat),
+        }
     }
 
     // Count, of a party that has an entry.
@@ -282,13 +292,9 @@ impl<T> Words<T> {
         id: EntryId,
         told: bool,
     ) -> Outcome<T>
-        requires of { IsOf self.now seat }
-        requires idle { (seat.holds ≡ false) × (seat.starved ≡ false) × (seat.owes ≡ false) × (seat.listed ≡ true) × (seat.fresh ≡ false) × (seat.entry ≡ id.number) }
-        requires course { seat.course ≡ Do (at.Count true told) }
-        ensures outcome { IsOutcomeOf self.now cx.new result }
-        ensures same { IsBySeat seat result }
+        requires { IsOf self.now seat × IsListed seat × (seat.entry ≡ id.number) × (seat.course ≡ Do (at.Count true told)) }
+        ensures went { IsPolled self.now cx.old cx.new seat result }
         ensures since { (then : Option Instant) → WaitsSince then result }
-        ensures kept { Keeps cx.old cx.new }
     {
         let mut seat = seat;
         if let Err(_) = self.count_listed(rt, &mut seat, Place::Count { listed: true, told }) {
@@ -304,20 +310,16 @@ impl<T> Words<T> {
                 is_starved: true,
             });
         }
-        self.strive(rt, cx, seat, true)
+        self.strive(rt, cx, seat)
     }
 
     // Count, of a party that was told and has no entry.
     #[cold]
     #[inline(never)]
     fn count_away<R: Wait + Clock>(&self, rt: &R, cx: &mut Context<'_>, seat: Seat<T>) -> Outcome<T>
-        requires of { IsOf self.now seat }
-        requires idle { (seat.holds ≡ false) × (seat.starved ≡ false) × (seat.owes ≡ false) × (seat.listed ≡ false) × (seat.fresh ≡ false) }
-        requires course { seat.course ≡ Do (at.Count false true) }
-        ensures outcome { IsOutcomeOf self.now cx.new result }
-        ensures same { IsBySeat seat result }
+        requires { IsOf self.now seat × IsAway seat × (seat.owes ≡ false) × (seat.course ≡ Do (at.Count false true)) }
+        ensures went { IsPolled self.now cx.old cx.new seat result }
         ensures since { (then : Option Instant) → WaitsSince then result }
-        ensures kept { Keeps cx.old cx.new }
     {
         let mut seat = seat;
         if let Err(_) = self.count(
@@ -330,75 +332,82 @@ impl<T> Words<T> {
         ) {
             return Outcome::Refused(self.refuse(rt, seat, true, Refusal::Starved));
         }
-        self.strive(rt, cx, seat, false)
+        match self.enlist_starved(rt, cx, seat) {
+            Ok(outcome) => outcome,
+            Err(told) => self.strive(rt, cx, told),
+        }
     }
 
-    // From Seize on, if it was told, or from JoinStarved on, of a starved party: joins, looks and asks, until it has the lock or waits.
+    // From Seize on, of a starved party: takes the lock or joins, until it has the lock or waits.
     #[cold]
     #[inline(never)]
-    fn strive<R: Wait + Clock>(
+    fn strive<R: Wait + Clock>(&self, rt: &R, cx: &mut Context<'_>, seat: Seat<T>) -> Outcome<T>
+        requires { IsOf self.now seat × IsStarving seat × (seat.course ≡ Do at.Seize) }
+        ensures went { IsPolled self.now cx.old cx.new seat result }
+        ensures since { (then : Option Instant) → WaitsSince then result }
+    {
+        let mut seat = seat;
+        for _ in rt.forever() {
+            match self.set(&mut seat, Place::Seize) {
+                Setting::Got(hold) => {
+                    self.uncount(&mut seat, Place::Uncount { listed: false });
+                    return Outcome::Got(Held { seat, hold });
+                }
+                Setting::WasSet => {}
+            }
+            match self.enlist_starved(rt, cx, seat) {
+                Ok(outcome) => return outcome,
+                Err(told) => seat = told,
+            }
+        }
+        unreachable!()
+    }
+
+    // From JoinStarved on: joins, looks and asks once. A party that was notified then is given back, to go on from Seize.
+    #[cold]
+    #[inline(never)]
+    fn enlist_starved<R: Wait + Clock>(
         &self,
         rt: &R,
         cx: &mut Context<'_>,
         seat: Seat<T>,
-        told: bool,
-    ) -> Outcome<T>
-        requires of { IsOf self.now seat }
-        requires owing { (seat.holds ≡ false) × (seat.starved ≡ true) × (seat.owes ≡ true) × (seat.listed ≡ false) × (seat.fresh ≡ false) }
-        requires course { seat.course ≡ Do (striving_from told) }
-        ensures outcome { IsOutcomeOf self.now cx.new result }
-        ensures same { IsBySeat seat result }
-        ensures since { (then : Option Instant) → WaitsSince then result }
-        ensures kept { Keeps cx.old cx.new }
+    ) -> Result<Outcome<T>, Seat<T>>
+        requires { IsOf self.now seat × IsStarving seat × (seat.course ≡ Do at.JoinStarved) }
+        ensures since { (then : Option Instant) → IfOk result (WaitsSince then) }
+        ensures went { MatchResult result (IsPolled self.now cx.old cx.new seat) (λ again. IsOf self.now again × IsSameSeat seat again × IsStarving again × (again.course ≡ Do at.Seize) × (cx.new ≡ cx.old)) }
     {
         let mut seat = seat;
-        let mut told = told;
-        for _ in rt.forever() {
-            if told {
-                match self.set(&mut seat, Place::Seize) {
-                    Setting::Got(hold) => {
-                        self.uncount(&mut seat, Place::Uncount { listed: false });
-                        return Outcome::Got(Held { seat, hold });
-                    }
-                    Setting::WasSet => {}
-                }
+        let id = match self.join(rt, &mut seat, Place::JoinStarved) {
+            Ok(id) => id,
+            Err(Memory) => return Ok(Outcome::Refused(self.refuse_starved(rt, seat))),
+        };
+        match self.look_alone(rt, &mut seat, Place::LookAlone) {
+            TakingAlone::Got(hold) => {
+                self.uncount(&mut seat, Place::Uncount { listed: true });
+                return Ok(Outcome::Got(self.leave_with(rt, seat, hold, id)));
             }
-            let id = match self.join(rt, &mut seat, Place::JoinStarved) {
-                Ok(id) => id,
-                Err(Memory) => return Outcome::Refused(self.refuse_starved(rt, seat)),
-            };
-            match self.look_alone(rt, &mut seat, Place::LookAlone) {
-                TakingAlone::Got(hold) => {
-                    self.uncount(&mut seat, Place::Uncount { listed: true });
-                    return Outcome::Got(self.leave_with(rt, seat, hold, id));
-                }
-                TakingAlone::Held => {}
-                TakingAlone::FreeWithOthers => {
-                    self.notify(rt, &mut seat, Place::PassOnListed);
-                }
+            TakingAlone::Held => {}
+            TakingAlone::FreeWithOthers => {
+                self.notify(rt, &mut seat, Place::PassOnListed);
             }
-            if let Some(whose) = self.ask(rt, &mut seat, id, cx, Place::AskStarved) {
-                return Outcome::Waits(Waiting {
-                    seat,
-                    id,
-                    whose,
-                    since: None,
-                    is_starved: true,
-                });
-            }
-            told = true;
         }
-        unreachable!()
+        match self.ask(rt, &mut seat, id, cx, Place::AskStarved) {
+            Some(whose) => Ok(Outcome::Waits(Waiting {
+                seat,
+                id,
+                whose,
+                since: None,
+                is_starved: true,
+            })),
+            None => Err(seat),
+        }
     }
 
     // Refuses a party that isn't counted and has no entry: it notifies, if it took a notification during this poll.
     #[cold]
     #[inline(never)]
     fn refuse<R: Wait>(&self, rt: &R, seat: Seat<T>, told: bool, refusal: Refusal) -> GaveUp
-        requires of { IsOf self.now seat }
-        requires idle { (seat.holds ≡ false) × (seat.starved ≡ false) × (seat.owes ≡ false) × (seat.listed ≡ false) × (seat.fresh ≡ false) }
-        requires course { seat.course ≡ refusing told refusal }
-        requires reason { IsGivenUp refusal }
+        requires { IsOf self.now seat × IsAway seat × (seat.owes ≡ false) × (seat.course ≡ refusing told refusal) × IsGivenUp refusal }
         ensures { result ≡ refusal }
     {
         let mut seat = seat;
@@ -416,9 +425,7 @@ impl<T> Words<T> {
     #[cold]
     #[inline(never)]
     fn refuse_starved<R: Wait>(&self, rt: &R, seat: Seat<T>) -> GaveUp
-        requires of { IsOf self.now seat }
-        requires owing { (seat.holds ≡ false) × (seat.starved ≡ true) × (seat.listed ≡ false) × (seat.fresh ≡ false) }
-        requires course { seat.course ≡ Do at.RefuseUncount }
+        requires { IsOf self.now seat × IsStarving seat × (seat.course ≡ Do at.RefuseUncount) }
         ensures { IsGivenUp result }
     {
         let mut seat = seat;

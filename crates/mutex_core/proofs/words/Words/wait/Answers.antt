@@ -6,6 +6,3 @@ returns-in-Held-true-clause-since g c = c.count_away.ensures.since c.args.since
 
 pub returns-in-Starved-default-clause-since : goal.returns-in-Starved-default-clause-since
 returns-in-Starved-default-clause-since g c = c.count_away-in-Starved-default.ensures.since c.args.since
-
-pub returns-in-Starved-clause-since : goal.returns-in-Starved-clause-since
-returns-in-Starved-clause-since g c = c.count_here.ensures.since c.args.since

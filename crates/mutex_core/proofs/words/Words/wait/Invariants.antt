@@ -1,8 +1,8 @@
-use Rattle.std.proofs.Common.{◌≡◌, false}
+use Rattle.std.proofs.Common.{◌≡◌}
 use Rattle.lock_program.specs.declared.end.Next.TheVariants.{Do}
-use Rattle.mutex_core.specs.Courses.{waiting_from}
-use Rattle.mutex_core.specs.Locks.{IsOf, IsSameSeat}
+use Rattle.lock_program.specs.declared.mutex.Place.TheVariants as at
+use Rattle.mutex_core.specs.Locks.{IsAway, IsOf, IsSameSeat}
 use Rattle.mutex_core.proofs.words.Words.wait.Given as goal
 
 abbrev pub invariant-loop : goal.invariant-loop
-invariant-loop g l = IsOf l.fn.self l.seat × IsSameSeat l.fn.seat l.seat × (l.seat.holds ≡ false) × (l.seat.starved ≡ false) × (l.seat.listed ≡ false) × (l.seat.fresh ≡ false) × (l.told ≡ false → l.seat.owes ≡ false) × (l.seat.course ≡ Do (waiting_from l.told)) × (l.cx ≡ l.fn.cx)
+invariant-loop g l = IsOf l.fn.self l.seat × IsSameSeat l.fn.seat l.seat × IsAway l.seat × (l.seat.course ≡ Do at.Retry) × (l.cx ≡ l.fn.cx)
