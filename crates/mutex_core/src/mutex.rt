@@ -317,7 +317,8 @@ impl<T> Words<T> {
     #[cold]
     #[inline(never)]
     fn count_away<R: Wait + Clock>(&self, rt: &R, cx: &mut Context<'_>, seat: Seat<T>) -> Outcome<T>
-        requires { IsOf self.now seat × IsAway seat × (seat.owes ≡ false) × (seat.course ≡ Do (at.Count false true)) }
+        requires idle { IsOf self.now seat × IsAway seat × (seat.owes ≡ false) }
+        requires course { seat.course ≡ Do (at.Count false true) }
         ensures went { IsPolled self.now cx.old cx.new seat result }
         ensures since { (then : Option Instant) → WaitsSince then result }
     {
