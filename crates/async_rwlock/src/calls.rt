@@ -1,21 +1,18 @@
 //! The calls of a read-write lock.
 
 ghost use Rattle.std.specs.Prelude.{◌≡◌, IfErr, IfOk, IfSome, None};
-ghost use Rattle.access_core.specs.Accesses.{IsLetIn};
 ghost use Rattle.async_rwlock.specs.Guards.{HasFoundRoom};
 ghost use Rattle.async_driver.specs.Stages.{IsFor, IsOf};
 ghost use Rattle.rwlock_core.specs.Outcomes.{IsReadRefusal, IsUpgradableRefusal, IsWriteRefusal};
-ghost use Rattle.rwlock_core.specs.Parties.{IsUpgradableLetIn, IsWriterOf};
 ghost use Rattle.std.specs.Arc.{arc_value};
 
+use crate::acquired::Acquired;
+use crate::future::GuardFuture;
 use crate::lock_futures::{Read, ReadArc, UpgradableRead, UpgradableReadArc, Write, WriteArc};
-use crate::read::ReadFuture;
 use crate::read_guard::ReadGuard;
 use crate::releases::Releases;
 use crate::rwlock::RwLock;
 use crate::upgradable_guard::UpgradableGuard;
-use crate::upgradable_read::UpgradableFuture;
-use crate::write::WriteFuture;
 use crate::write_guard::WriteGuard;
 use crate::{
     RwLockReadGuard, RwLockReadGuardArc, RwLockUpgradableReadGuard, RwLockUpgradableReadGuardArc,
@@ -23,7 +20,7 @@ use crate::{
 };
 use async_driver::{Stage, first, wait_for};
 use lock_program::Refusal;
-use rwlock_core::{Reader, Upgradable, Writer};
+use rwlock_core::Reader;
 use std::alloc::AllocGlobal;
 use std::fmt;
 use std::random::RandomSource;
@@ -99,7 +96,7 @@ impl<T, R: Wait> RwLock<T, R> {
         ensures lock { IsOf (λ o. o.now) result.stage self.now }
         ensures waiting { result.waiting ≡ None }
     {
-        ReadFuture::new(Stage::Waits(self))
+        GuardFuture::new(Stage::Waits(self))
     }
 
     /// Returns a future of the right to read that can become a right to write, which does nothing until it is polled.
@@ -111,7 +108,7 @@ impl<T, R: Wait> RwLock<T, R> {
         ensures lock { IsOf (λ o. o.now) result.stage self.now }
         ensures waiting { result.waiting ≡ None }
     {
-        UpgradableFuture::new(Stage::Waits(self))
+        GuardFuture::new(Stage::Waits(self))
     }
 
     /// Returns a future of the right to write, which does nothing until it is polled.
@@ -124,7 +121,7 @@ impl<T, R: Wait> RwLock<T, R> {
         ensures lock { IsOf (λ o. o.now) result.stage self.now }
         ensures waiting { result.waiting ≡ None }
     {
-        WriteFuture::new(Stage::Waits(self))
+        GuardFuture::new(Stage::Waits(self))
     }
 }
 
@@ -188,6 +185,8 @@ impl<T: Drop, R: Wait + Clock + RandomSource + AllocGlobal> RwLock<T, R> {
     }
 }
 
+// Whoever got a right for an owned guard gets a share of the lock now: the words and the count of the `Arc` are in different lines of the
+// processor's cache, and are changed in turns so, which takes less time. Whoever can't have a share gives the right back.
 impl<T: Drop, R: Releases + Drop> RwLock<T, R> {
     /// Does as [`RwLock::try_read`] does, for a guard that has a share of the lock. It is `None` too if that share can't be had.
     ///
@@ -198,13 +197,19 @@ impl<T: Drop, R: Releases + Drop> RwLock<T, R> {
         ensures lock { IfSome result (λ guard. guard.lock ≡ arc_value this.now) }
         ensures few { IfSome result HasFoundRoom }
     {
-        match this.rt.try_read(&this.raw) {
-            Ok(reader) => reader_of(this, reader),
+        let reader = match this.rt.try_read(&this.raw) {
+            Ok(reader) => reader,
             Err(seat) => {
                 seat.rise();
-                None
+                return None;
             }
-        }
+        };
+        let Ok(owner) = Arc::try_clone(this) else {
+            let Reader { seat } = reader;
+            this.rt.release_read(&this.raw, seat);
+            return None;
+        };
+        Some(ReadGuard::new(owner, reader))
     }
 
     /// Does as [`RwLock::try_upgradable_read`] does, for a guard that has a share of the lock. It is `None` too if that share can't be had.
@@ -218,13 +223,18 @@ impl<T: Drop, R: Releases + Drop> RwLock<T, R> {
         ensures lock { IfSome result (λ guard. guard.lock ≡ arc_value this.now) }
         ensures few { IfSome result HasFoundRoom }
     {
-        match this.rt.try_upgradable_read(&this.raw) {
-            Ok(upgradable) => upgradable_reader_of(this, upgradable),
+        let upgradable = match this.rt.try_upgradable_read(&this.raw) {
+            Ok(upgradable) => upgradable,
             Err(vain) => {
                 vain.end();
-                None
+                return None;
             }
-        }
+        };
+        let Ok(owner) = Arc::try_clone(this) else {
+            this.rt.release_upgradable(&this.raw, upgradable);
+            return None;
+        };
+        Some(UpgradableGuard::new(owner, upgradable))
     }
 
     /// Does as [`RwLock::try_write`] does, for a guard that has a share of the lock. It is `None` too if that share can't be had.
@@ -235,13 +245,18 @@ impl<T: Drop, R: Releases + Drop> RwLock<T, R> {
     pub fn try_write_arc(this: &Arc<RwLock<T, R>>) -> Option<RwLockWriteGuardArc<T, R>>
         ensures { IfSome result (λ guard. guard.lock ≡ arc_value this.now) }
     {
-        match this.rt.try_write(&this.raw) {
-            Ok(writer) => writer_of(this, writer),
+        let writer = match this.rt.try_write(&this.raw) {
+            Ok(writer) => writer,
             Err(vain) => {
                 vain.end();
-                None
+                return None;
             }
-        }
+        };
+        let Ok(owner) = Arc::try_clone(this) else {
+            this.rt.release_write(&this.raw, writer);
+            return None;
+        };
+        Some(WriteGuard::new(owner, writer))
     }
 }
 
@@ -256,7 +271,7 @@ impl<T: Drop, R: Wait + Drop> RwLock<T, R> {
         ensures lock { IsFor arc_value result.stage (arc_value this.now) }
         ensures waiting { result.waiting ≡ None }
     {
-        ReadFuture::new(first::<RwLock<T, R>, Arc<RwLock<T, R>>>(Arc::try_clone(this).ok()))
+        GuardFuture::new(first::<RwLock<T, R>, Arc<RwLock<T, R>>>(Arc::try_clone(this).ok()))
     }
 
     /// Returns a future as [`RwLock::upgradable_read`] does, which has a share of the lock and gives it to its guard. If that share can't be
@@ -269,7 +284,7 @@ impl<T: Drop, R: Wait + Drop> RwLock<T, R> {
         ensures lock { IsFor arc_value result.stage (arc_value this.now) }
         ensures waiting { result.waiting ≡ None }
     {
-        UpgradableFuture::new(first::<RwLock<T, R>, Arc<RwLock<T, R>>>(Arc::try_clone(this).ok()))
+        GuardFuture::new(first::<RwLock<T, R>, Arc<RwLock<T, R>>>(Arc::try_clone(this).ok()))
     }
 
     /// Returns a future as [`RwLock::write`] does, which has a share of the lock and gives it to its guard. If that share can't be
@@ -283,7 +298,7 @@ impl<T: Drop, R: Wait + Drop> RwLock<T, R> {
         ensures lock { IsFor arc_value result.stage (arc_value this.now) }
         ensures waiting { result.waiting ≡ None }
     {
-        WriteFuture::new(first::<RwLock<T, R>, Arc<RwLock<T, R>>>(Arc::try_clone(this).ok()))
+        GuardFuture::new(first::<RwLock<T, R>, Arc<RwLock<T, R>>>(Arc::try_clone(this).ok()))
     }
 }
 
@@ -338,64 +353,6 @@ impl<T: Drop, R: Wait + Clock + RandomSource + AllocGlobal + Drop> RwLock<T, R> 
             return Ok(guard);
         }
         wait_for(&this.rt, RwLock::write_arc(this))
-    }
-}
-
-// The guards of those who got a right for an owned guard. They get their share of the lock now: the words and the count of the `Arc` are in
-// different lines of the processor's cache, and are changed in turns so, which takes less time. Whoever can't have a share gives
-// the right back.
-
-#[inline]
-fn reader_of<T: Drop, R: Releases + Drop>(
-    this: &Arc<RwLock<T, R>>,
-    reader: Reader,
-) -> Option<RwLockReadGuardArc<T, R>>
-    requires { IsLetIn (arc_value this.now).raw.access reader.seat }
-    ensures lock { IfSome result (λ guard. guard.lock ≡ arc_value this.now) }
-    ensures few { IfSome result HasFoundRoom }
-{
-    match Arc::try_clone(this) {
-        Ok(owner) => Some(ReadGuard::new(owner, reader)),
-        Err(_) => {
-            let Reader { seat } = reader;
-            this.rt.release_read(&this.raw, seat);
-            None
-        }
-    }
-}
-
-#[inline]
-fn upgradable_reader_of<T: Drop, R: Releases + Drop>(
-    this: &Arc<RwLock<T, R>>,
-    upgradable: Upgradable,
-) -> Option<RwLockUpgradableReadGuardArc<T, R>>
-    requires { IsUpgradableLetIn (arc_value this.now).raw upgradable }
-    ensures lock { IfSome result (λ guard. guard.lock ≡ arc_value this.now) }
-    ensures few { IfSome result HasFoundRoom }
-{
-    match Arc::try_clone(this) {
-        Ok(owner) => Some(UpgradableGuard::new(owner, upgradable)),
-        Err(_) => {
-            this.rt.release_upgradable(&this.raw, upgradable);
-            None
-        }
-    }
-}
-
-#[inline]
-fn writer_of<T: Drop, R: Releases + Drop>(
-    this: &Arc<RwLock<T, R>>,
-    writer: Writer,
-) -> Option<RwLockWriteGuardArc<T, R>>
-    requires { IsWriterOf (arc_value this.now).raw writer }
-    ensures { IfSome result (λ guard. guard.lock ≡ arc_value this.now) }
-{
-    match Arc::try_clone(this) {
-        Ok(owner) => Some(WriteGuard::new(owner, writer)),
-        Err(_) => {
-            this.rt.release_write(&this.raw, writer);
-            None
-        }
     }
 }
 

@@ -9,31 +9,42 @@
 //! ([`Owns`]). The names of the Rust crate stand for the two.
 #![tactic(auto)]
 
+mod acquired;
 mod calls;
+mod future;
 mod lending;
 mod lends;
 mod noted;
 mod owns;
-mod read;
 mod read_guard;
 mod releases;
 mod rwlock;
 mod upgradable_guard;
-mod upgradable_read;
 mod upgrade;
-mod write;
 mod write_guard;
 
 use std::sync::Arc;
 
 /// The futures of the lock.
 pub mod lock_futures {
-    pub use crate::read::ReadFuture;
+    pub use crate::future::GuardFuture;
     use crate::rwlock::RwLock;
-    pub use crate::upgradable_read::UpgradableFuture;
     pub use crate::upgrade::UpgradeFuture;
-    pub use crate::write::WriteFuture;
+    use crate::{ReadGuard, UpgradableGuard, WriteGuard};
     use std::sync::Arc;
+
+    /// A future of a right to read. Dropping it while it waits takes its entry out of the list; a notification that the entry had goes on
+    /// to the next.
+    pub type ReadFuture<T, R, O> = GuardFuture<T, R, O, ReadGuard<T, R, O>>;
+
+    /// A future of a right to read that can become a right to write. Dropping it while it waits gives back what it has: its entry, a
+    /// notification that the entry had, and its count as starved.
+    pub type UpgradableFuture<T, R, O> = GuardFuture<T, R, O, UpgradableGuard<T, R, O>>;
+
+    /// A future of the right to write. It waits for those who may write before it, and then until no reader is left; meanwhile nobody
+    /// begins to read. Dropping it while it waits gives back what it has: its entry and a notification that the entry had, its count
+    /// as starved, and, once it waits for readers, the right to be next, with readers and writers notified.
+    pub type WriteFuture<T, R, O> = GuardFuture<T, R, O, WriteGuard<T, R, O>>;
 
     /// The future of [`RwLock::read`].
     pub type Read<'a, T, R> = ReadFuture<T, R, &'a RwLock<T, R>>;

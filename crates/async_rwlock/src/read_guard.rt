@@ -1,20 +1,19 @@
 //! A reader.
 
 ghost use Rattle.std.specs.Prelude.{◌≡◌};
-ghost use Rattle.access_core.specs.Accesses.{IsLetIn};
-ghost use Rattle.async_rwlock.specs.Guards.{HasFoundRoom};
-ghost use Rattle.async_driver.specs.Stages.{IsOf};
-ghost use Rattle.async_rwlock.specs.Stages.{At};
 ghost use Rattle.rwlock_core.specs.Parties.{IsReaderOf};
 
+use crate::acquired::Acquired;
 use crate::owns::Owns;
 use crate::releases::Releases;
 use access_vault::Glance;
-use async_driver::Stage;
-use rwlock_core::{Pledge, Reader};
+use futures::task::Context;
+use rwlock_core::{Outcome, Pledge, RawRwLock, Reader, Seat, WaitsToRead};
 use std::fmt;
 use std::marker::{Model, PhantomData};
 use std::ops::Deref;
+use std::sync::Wait;
+use std::time::Clock;
 
 /// A right to read, and the value to read. Dropping it ends the right; the last reader notifies the writer that waits for this.
 ///
@@ -40,13 +39,45 @@ impl<T, R: Releases, O: Owns<Value = T, Runtime = R>> Model for ReadGuard<T, R, 
     ghost invariant = { λ g. (g.glance.vault_id ≡ (O.lock_of g.owner).vault.vault_id) × (g.glance.view.has_lists ≡ false) × IsReading (seated (O.lock_of g.owner).raw.access.table g.glance.id g.glance.view) × (g.pledge.badge.views ≡ []) };
 }
 
-impl<T, R: Releases, O: Owns<Value = T, Runtime = R>> ReadGuard<T, R, O> {
+impl<T, R: Releases, O: Owns<Value = T, Runtime = R>> Acquired for ReadGuard<T, R, O> {
+    type Owner = O;
+
+    type Right = Reader;
+
+    type Vain = Seat;
+
+    type Waiting = WaitsToRead;
+
+    ghost use Rattle.std.specs.Prelude.{None};
+    ghost use Rattle.access_core.specs.Accesses.{IsOf, IsIdle, IsLetIn};
+    ghost use Rattle.rwlock_core.specs.Outcomes.{IsReadRefusal};
+    ghost use Rattle.async_rwlock.specs.Guards.{HasFoundRoom};
+    ghost use Rattle.async_rwlock.specs.Stages.{reads_entry};
+
+    ghost held = { λ guard. guard };
+
+    ghost has_room = { λ guard. HasFoundRoom guard };
+
+    ghost is_let_in = { λ raw reader. IsLetIn raw.access reader.seat };
+
+    ghost seat_of = { λ reader. reader.seat };
+
+    ghost turn_of = { λ _. None };
+
+    ghost has_looked = { λ raw seat. IsOf raw.access seat × IsIdle seat };
+
+    ghost waits_at = { λ raw waiting. IsOf raw.access waiting.seat };
+
+    ghost entry = { reads_entry };
+
+    ghost refuses = { IsReadRefusal };
+
+    const NAME: &'static str = "Read { .. }";
+
+    const SHARED_NAME: &'static str = "ReadArc { .. }";
+
     #[inline]
-    pub(crate) fn new(owner: O, reader: Reader) -> ReadGuard<T, R, O>
-        requires { IsReaderOf (O.lock_of owner).raw reader }
-        ensures lock { result.lock ≡ O.lock_of owner }
-        ensures seat { result.seat ≡ reader.seat }
-    {
+    fn new(owner: O, reader: Reader) -> ReadGuard<T, R, O> {
         let Reader { seat } = reader;
         let (glance, pledge) = owner.lock().lend_read(seat);
         ReadGuard {
@@ -57,20 +88,46 @@ impl<T, R: Releases, O: Owns<Value = T, Runtime = R>> ReadGuard<T, R, O> {
         }
     }
 
-    /// The guard of a future that got the right, with who has the lock.
     #[inline]
-    pub(crate) fn of_stage(stage: Stage<O>, reader: Reader) -> ReadGuard<T, R, O>
-        requires { At O.lock_of stage (λ raw. IsLetIn raw.access reader.seat) }
-        ensures lock { IsOf O.lock_of stage result.lock }
-        ensures seat { result.seat ≡ reader.seat }
-        ensures few { HasFoundRoom result }
-    {
-        match stage {
-            Stage::Waits(owner) => ReadGuard::new(owner, reader),
-            Stage::Unowned | Stage::Finished => unreachable!(),
+    fn first_look<W: Wait>(
+        raw: &RawRwLock,
+        rt: &W,
+        cx: &mut Context<'_>,
+    ) -> Result<Outcome<Reader, WaitsToRead>, Seat> {
+        let _ = rt;
+        let _ = cx;
+        match raw.begin_read() {
+            Ok(reader) => Ok(Outcome::Got(reader)),
+            Err(seat) => Err(seat),
         }
     }
 
+    #[inline(never)]
+    fn first_poll<W: Wait + Clock>(
+        raw: &RawRwLock,
+        rt: &W,
+        cx: &mut Context<'_>,
+        seat: Seat,
+    ) -> Outcome<Reader, WaitsToRead> {
+        raw.poll_read(rt, cx, seat)
+    }
+
+    #[inline(never)]
+    fn later_poll<W: Wait + Clock>(
+        raw: &RawRwLock,
+        rt: &W,
+        cx: &mut Context<'_>,
+        waiting: WaitsToRead,
+    ) -> Outcome<Reader, WaitsToRead> {
+        raw.poll_reader(rt, cx, waiting)
+    }
+
+    fn cancel<W: Wait>(raw: &RawRwLock, rt: &W, waiting: WaitsToRead) {
+        raw.cancel_read(rt, waiting);
+    }
+}
+
+impl<T, R: Releases, O: Owns<Value = T, Runtime = R>> ReadGuard<T, R, O> {
     // Who has the lock, and the party with its right. Nothing is lent any more.
     pub(crate) fn into_party(self) -> (O, Reader)
         ensures owner { O.lock_of result.0 ≡ self.lock }

@@ -3,12 +3,11 @@
 ghost use Rattle.std.specs.Prelude.{◌≡◌, ◌<◌, IfOk, IfErr, MatchResult, Some};
 ghost use Rattle.lock_program.specs.declared.refusal.Refusal.{Refusal};
 ghost use Rattle.access_core.specs.Accesses.{IsOf as IsSeatOf, IsReading, with_found, with_writing};
-ghost use Rattle.rwlock_core.specs.Parties.{IsUpgradableLetIn, IsUpgradableOf};
-ghost use Rattle.async_rwlock.specs.Guards.{HasFoundRoom};
+ghost use Rattle.rwlock_core.specs.Parties.{IsUpgradableOf};
 ghost use Rattle.async_rwlock.specs.Noted.{IsNotedOf};
 ghost use Rattle.async_driver.specs.Stages.{IsOf};
-ghost use Rattle.async_rwlock.specs.Stages.{At};
 
+use crate::acquired::Acquired;
 use crate::noted::NotedTurn;
 use crate::owns::Owns;
 use crate::read_guard::ReadGuard;
@@ -16,9 +15,11 @@ use crate::releases::Releases;
 use crate::upgrade::UpgradeFuture;
 use crate::write_guard::WriteGuard;
 use access_vault::Glance;
-use async_driver::{Stage, wait_for};
+use async_driver::wait_for;
+use futures::task::Context;
 use lock_program::Refusal;
-use rwlock_core::{Pledge, Seat, Upgradable, Writer};
+use mutex_core::{Vain, Waiting};
+use rwlock_core::{Outcome, Pledge, RawRwLock, Seat, Upgradable, Writer};
 use std::alloc::AllocGlobal;
 use std::fmt;
 use std::marker::{Model, PhantomData};
@@ -55,19 +56,90 @@ impl<T, R: Releases, O: Owns<Value = T, Runtime = R>> Model for UpgradableGuard<
     ghost invariant = { λ g. (g.glance.vault_id ≡ (O.lock_of g.owner).vault.vault_id) × (g.glance.view.has_lists ≡ false) × IsReading (seated (O.lock_of g.owner).raw.access.table g.glance.id g.glance.view) × IsNotedOf (O.lock_of g.owner) g.noted × (g.noted.memo.value ≡ g.glance.value) × (g.pledge.badge.views ≡ []) };
 }
 
-impl<T, R: Releases, O: Owns<Value = T, Runtime = R>> UpgradableGuard<T, R, O> {
+impl<T, R: Releases, O: Owns<Value = T, Runtime = R>> Acquired for UpgradableGuard<T, R, O> {
+    type Owner = O;
+
+    type Right = Upgradable;
+
+    type Vain = Vain<()>;
+
+    type Waiting = Waiting<()>;
+
+    ghost use Rattle.std.specs.Prelude.{Some};
+    ghost use Rattle.mutex_core.specs.Locks.{IsOf as IsTurnOf};
+    ghost use Rattle.rwlock_core.specs.Outcomes.{IsUpgradableRefusal};
+    ghost use Rattle.rwlock_core.specs.Parties.{IsTaking, IsUpgradableLetIn};
+    ghost use Rattle.async_rwlock.specs.Guards.{HasFoundRoom};
+    ghost use Rattle.async_rwlock.specs.Stages.{turn_entry};
+
+    ghost held = { λ guard. guard };
+
+    ghost has_room = { λ guard. HasFoundRoom guard };
+
+    ghost is_let_in = { IsUpgradableLetIn };
+
+    ghost seat_of = { λ upgradable. upgradable.seat };
+
+    ghost turn_of = { λ upgradable. Some upgradable.turn.seat.id };
+
+    ghost has_looked = { IsTaking };
+
+    ghost waits_at = { λ raw waiting. IsTurnOf raw.turn waiting.seat };
+
+    ghost entry = { turn_entry };
+
+    ghost refuses = { IsUpgradableRefusal };
+
+    const NAME: &'static str = "UpgradableRead { .. }";
+
+    const SHARED_NAME: &'static str = "UpgradableReadArc { .. }";
+
     #[inline]
-    pub(crate) fn new(owner: O, upgradable: Upgradable) -> UpgradableGuard<T, R, O>
-        requires { IsUpgradableOf (O.lock_of owner).raw upgradable }
-        ensures lock { result.lock ≡ O.lock_of owner }
-        ensures seat { result.seat ≡ upgradable.seat }
-        ensures turn { result.turn_seat ≡ Some upgradable.turn.seat.id }
-    {
+    fn new(owner: O, upgradable: Upgradable) -> UpgradableGuard<T, R, O> {
         let Upgradable { seat, turn } = upgradable;
         let noted = owner.lock().lend_memo(turn);
         UpgradableGuard::noted(owner, seat, noted)
     }
 
+    #[inline]
+    fn first_look<W: Wait>(
+        raw: &RawRwLock,
+        rt: &W,
+        cx: &mut Context<'_>,
+    ) -> Result<Outcome<Upgradable, Waiting<()>>, Vain<()>> {
+        let _ = cx;
+        match raw.first_look() {
+            Ok(turn) => Ok(raw.upgradable_with(rt, turn)),
+            Err(vain) => Err(vain),
+        }
+    }
+
+    #[inline(never)]
+    fn first_poll<W: Wait + Clock>(
+        raw: &RawRwLock,
+        rt: &W,
+        cx: &mut Context<'_>,
+        vain: Vain<()>,
+    ) -> Outcome<Upgradable, Waiting<()>> {
+        raw.poll_upgradable(rt, cx, vain)
+    }
+
+    #[inline(never)]
+    fn later_poll<W: Wait + Clock>(
+        raw: &RawRwLock,
+        rt: &W,
+        cx: &mut Context<'_>,
+        waiting: Waiting<()>,
+    ) -> Outcome<Upgradable, Waiting<()>> {
+        raw.poll_upgradable_later(rt, cx, waiting)
+    }
+
+    fn cancel<W: Wait>(raw: &RawRwLock, rt: &W, waiting: Waiting<()>) {
+        raw.turn.cancel(rt, waiting);
+    }
+}
+
+impl<T, R: Releases, O: Owns<Value = T, Runtime = R>> UpgradableGuard<T, R, O> {
     // The guard of a seat that reads, with the writer lock: the value is the memo's.
     #[inline]
     pub(crate) fn noted(owner: O, seat: Seat, noted: NotedTurn<T>) -> UpgradableGuard<T, R, O>
@@ -88,21 +160,6 @@ impl<T, R: Releases, O: Owns<Value = T, Runtime = R>> UpgradableGuard<T, R, O> {
             pledge,
             noted: NotedTurn { turn, memo },
             runtime: PhantomData,
-        }
-    }
-
-    /// The guard of a future that got the right, with who has the lock.
-    #[inline]
-    pub(crate) fn of_stage(stage: Stage<O>, upgradable: Upgradable) -> UpgradableGuard<T, R, O>
-        requires { At O.lock_of stage (λ raw. IsUpgradableLetIn raw upgradable) }
-        ensures lock { IsOf O.lock_of stage result.lock }
-        ensures seat { result.seat ≡ upgradable.seat }
-        ensures few { HasFoundRoom result }
-        ensures turn { result.turn_seat ≡ Some upgradable.turn.seat.id }
-    {
-        match stage {
-            Stage::Waits(owner) => UpgradableGuard::new(owner, upgradable),
-            Stage::Unowned | Stage::Finished => unreachable!(),
         }
     }
 

@@ -2,22 +2,24 @@
 
 ghost use Rattle.std.specs.Prelude.{◌≡◌, Some};
 ghost use Rattle.async_rwlock.specs.Noted.{IsNotedOf};
-ghost use Rattle.async_driver.specs.Stages.{IsOf};
-ghost use Rattle.async_rwlock.specs.Stages.{At};
 ghost use Rattle.access_core.specs.Accesses.{IsOf as IsSeatOf, IsWriting, with_downgrade};
 ghost use Rattle.rwlock_core.specs.Parties.{IsWriterOf};
 
+use crate::acquired::Acquired;
 use crate::noted::NotedTurn;
 use crate::owns::Owns;
 use crate::read_guard::ReadGuard;
 use crate::releases::Releases;
 use crate::upgradable_guard::UpgradableGuard;
 use access_vault::Grip;
-use async_driver::Stage;
-use rwlock_core::{Pledge, Reader, Seat, Upgradable, Writer};
+use futures::task::Context;
+use mutex_core::Vain;
+use rwlock_core::{Outcome, Pledge, RawRwLock, Reader, Seat, Upgradable, WaitsFor, Writer};
 use std::fmt;
 use std::marker::{Model, PhantomData};
 use std::ops::Deref;
+use std::sync::Wait;
+use std::time::Clock;
 
 /// The right to write, and the value to read and write. Dropping it ends the right. It notifies the readers that wait, and one of
 /// those who wait to write or to read upgradably.
@@ -47,19 +49,87 @@ impl<T, R: Releases, O: Owns<Value = T, Runtime = R>> Model for WriteGuard<T, R,
     ghost invariant = { λ g. (g.grip.vault_id ≡ (O.lock_of g.owner).vault.vault_id) × (g.grip.view.has_lists ≡ false) × IsWriting (seated (O.lock_of g.owner).raw.access.table g.grip.id g.grip.view) × IsNotedOf (O.lock_of g.owner) g.noted × (g.pledge.badge.views ≡ []) };
 }
 
-impl<T, R: Releases, O: Owns<Value = T, Runtime = R>> WriteGuard<T, R, O> {
+impl<T, R: Releases, O: Owns<Value = T, Runtime = R>> Acquired for WriteGuard<T, R, O> {
+    type Owner = O;
+
+    type Right = Writer;
+
+    type Vain = Vain<()>;
+
+    type Waiting = WaitsFor;
+
+    ghost use Rattle.std.specs.Prelude.{⊤, Some};
+    ghost use Rattle.rwlock_core.specs.Outcomes.{IsWriteRefusal};
+    ghost use Rattle.rwlock_core.specs.Parties.{IsTaking, IsWriterOf, WaitsAt};
+    ghost use Rattle.async_rwlock.specs.Stages.{writes_entry};
+
+    ghost held = { λ guard. guard };
+
+    ghost has_room = { λ _. ⊤ };
+
+    ghost is_let_in = { IsWriterOf };
+
+    ghost seat_of = { λ writer. writer.seat };
+
+    ghost turn_of = { λ writer. Some writer.turn.seat.id };
+
+    ghost has_looked = { IsTaking };
+
+    ghost waits_at = { WaitsAt };
+
+    ghost entry = { writes_entry };
+
+    ghost refuses = { IsWriteRefusal };
+
+    const NAME: &'static str = "Write { .. }";
+
+    const SHARED_NAME: &'static str = "WriteArc { .. }";
+
     #[inline]
-    pub(crate) fn new(owner: O, writer: Writer) -> WriteGuard<T, R, O>
-        requires { IsWriterOf (O.lock_of owner).raw writer }
-        ensures lock { result.lock ≡ O.lock_of owner }
-        ensures seat { result.seat ≡ writer.seat }
-        ensures turn { result.turn_seat ≡ Some writer.turn.seat.id }
-    {
+    fn new(owner: O, writer: Writer) -> WriteGuard<T, R, O> {
         let Writer { seat, turn } = writer;
         let noted = owner.lock().lend_memo(turn);
         WriteGuard::noted(owner, seat, noted)
     }
 
+    #[inline]
+    fn first_look<W: Wait>(
+        raw: &RawRwLock,
+        rt: &W,
+        cx: &mut Context<'_>,
+    ) -> Result<Outcome<Writer, WaitsFor>, Vain<()>> {
+        match raw.first_look() {
+            Ok(turn) => Ok(raw.write_with(rt, cx, turn)),
+            Err(vain) => Err(vain),
+        }
+    }
+
+    #[inline(never)]
+    fn first_poll<W: Wait + Clock>(
+        raw: &RawRwLock,
+        rt: &W,
+        cx: &mut Context<'_>,
+        vain: Vain<()>,
+    ) -> Outcome<Writer, WaitsFor> {
+        raw.poll_write(rt, cx, vain)
+    }
+
+    #[inline(never)]
+    fn later_poll<W: Wait + Clock>(
+        raw: &RawRwLock,
+        rt: &W,
+        cx: &mut Context<'_>,
+        waiting: WaitsFor,
+    ) -> Outcome<Writer, WaitsFor> {
+        raw.poll_write_later(rt, cx, waiting)
+    }
+
+    fn cancel<W: Wait>(raw: &RawRwLock, rt: &W, waiting: WaitsFor) {
+        raw.cancel_write(rt, waiting);
+    }
+}
+
+impl<T, R: Releases, O: Owns<Value = T, Runtime = R>> WriteGuard<T, R, O> {
     // The guard of a seat that writes, with the writer lock: the value is the memo's.
     #[inline]
     pub(crate) fn noted(owner: O, seat: Seat, noted: NotedTurn<T>) -> WriteGuard<T, R, O>
@@ -78,20 +148,6 @@ impl<T, R: Releases, O: Owns<Value = T, Runtime = R>> WriteGuard<T, R, O> {
             pledge,
             noted: NotedTurn { turn, memo },
             runtime: PhantomData,
-        }
-    }
-
-    /// The guard of a future that got the right, with who has the lock.
-    #[inline]
-    pub(crate) fn of_stage(stage: Stage<O>, writer: Writer) -> WriteGuard<T, R, O>
-        requires { At O.lock_of stage (λ raw. IsWriterOf raw writer) }
-        ensures lock { IsOf O.lock_of stage result.lock }
-        ensures seat { result.seat ≡ writer.seat }
-        ensures turn { result.turn_seat ≡ Some writer.turn.seat.id }
-    {
-        match stage {
-            Stage::Waits(owner) => WriteGuard::new(owner, writer),
-            Stage::Unowned | Stage::Finished => unreachable!(),
         }
     }
 

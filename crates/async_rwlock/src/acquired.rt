@@ -1,0 +1,109 @@
+//! What a future of a lock waits for: a guard.
+
+ghost use Rattle.std.specs.Prelude.{◌≡◌, MatchResult};
+ghost use Rattle.futures.specs.Task.{Keeps};
+ghost use Rattle.async_rwlock.specs.Stages.{GoesOn, IsPolled};
+
+use crate::owns::Owns;
+use futures::task::Context;
+use rwlock_core::{Outcome, RawRwLock};
+use std::sync::Wait;
+use std::time::Clock;
+
+/// A guard that a future waits for. Each call is one of [`RawRwLock`], by who wants this guard.
+///
+/// It is implemented for the three guards of a lock.
+pub trait Acquired {
+    /// Who has the lock.
+    type Owner: Owns;
+    /// The party with the right, before the guard is made.
+    type Right;
+    /// What is left of a first look in vain.
+    type Vain;
+    /// Who waits.
+    type Waiting;
+
+    ghost use Rattle.std.specs.Prelude.{ℕ, Option};
+    ghost use Rattle.access_core.specs.Accesses.{Seated};
+    ghost use Rattle.lock_program.specs.declared.refusal.Refusal.{Refusal};
+    ghost use Rattle.rwlock_core.specs.declared.rwlock.RawRwLock.{RawRwLock};
+    ghost use Rattle.async_rwlock.specs.Guards.{Held};
+    ghost use Rattle.async_rwlock.specs.Stages.{Listed};
+
+    /// The guard.
+    ghost held: { Self → Held Self.Owner.Value Self.Owner.Runtime };
+
+    /// The guard's seat came in as it may.
+    ghost has_room: { Self → Type 0 };
+
+    /// The party has the right on this lock.
+    ghost is_let_in: { RawRwLock → Self.Right → Type 0 };
+
+    /// The seat of the party.
+    ghost seat_of: { Self.Right → Seated };
+
+    /// The number of its seat of the writer lock, if it has that.
+    ghost turn_of: { Self.Right → Option ℕ };
+
+    /// The look was one at this lock.
+    ghost has_looked: { RawRwLock → Self.Vain → Type 0 };
+
+    /// It waits at this lock.
+    ghost waits_at: { RawRwLock → Self.Waiting → Type 0 };
+
+    /// The entry of what waits.
+    ghost entry: { Self.Waiting → Listed };
+
+    /// For these reasons a poll is refused.
+    ghost refuses: { Refusal → Type 0 };
+
+    /// The future's name, where it borrows the lock.
+    const NAME: &'static str;
+
+    /// Its name, where it has a share of the lock.
+    const SHARED_NAME: &'static str;
+
+    /// The guard of a party that has got the right.
+    fn new(owner: Self::Owner, right: Self::Right) -> Self
+        requires { is_let_in (Self.Owner.lock_of owner).raw right }
+        ensures lock { (held result).lock ≡ Self.Owner.lock_of owner }
+        ensures seat { (held result).seat ≡ seat_of right }
+        ensures turn { (held result).turn_seat ≡ turn_of right }
+        ensures few { has_room result };
+
+    /// The first look of a future, and what follows at once.
+    fn first_look<R: Wait>(
+        raw: &RawRwLock,
+        rt: &R,
+        cx: &mut Context<'_>,
+    ) -> Result<Outcome<Self::Right, Self::Waiting>, Self::Vain>
+        ensures outcome { MatchResult result (IsPolled is_let_in waits_at entry refuses raw.now cx.new) (has_looked raw.now) }
+        ensures kept { Keeps cx.old cx.new };
+
+    /// The rest of a first poll whose look was in vain.
+    fn first_poll<R: Wait + Clock>(
+        raw: &RawRwLock,
+        rt: &R,
+        cx: &mut Context<'_>,
+        vain: Self::Vain,
+    ) -> Outcome<Self::Right, Self::Waiting>
+        requires { has_looked raw.now vain }
+        ensures outcome { IsPolled is_let_in waits_at entry refuses raw.now cx.new result }
+        ensures kept { Keeps cx.old cx.new };
+
+    /// A poll of what waits.
+    fn later_poll<R: Wait + Clock>(
+        raw: &RawRwLock,
+        rt: &R,
+        cx: &mut Context<'_>,
+        waiting: Self::Waiting,
+    ) -> Outcome<Self::Right, Self::Waiting>
+        requires { waits_at raw.now waiting }
+        ensures outcome { IsPolled is_let_in waits_at entry refuses raw.now cx.new result }
+        ensures same { GoesOn seat_of turn_of entry (entry waiting) result }
+        ensures kept { Keeps cx.old cx.new };
+
+    /// Ends what waits.
+    fn cancel<R: Wait>(raw: &RawRwLock, rt: &R, waiting: Self::Waiting)
+        requires { waits_at raw.now waiting };
+}
