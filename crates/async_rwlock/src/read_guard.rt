@@ -6,7 +6,7 @@ ghost use Rattle.rwlock_core.specs.Parties.{IsReaderOf};
 use crate::acquired::Acquired;
 use crate::owns::Owns;
 use crate::releases::Releases;
-use access_vault::Glance;
+use access_vault::{Glance, Memo};
 use futures::task::Context;
 use rwlock_core::{Outcome, Pledge, RawRwLock, Reader, Seat, WaitsToRead};
 use std::fmt;
@@ -21,10 +21,10 @@ use std::time::Clock;
 /// knows of itself.
 pub struct ReadGuard<T, R: Releases, O: Owns<Value = T, Runtime = R>> {
     pub(crate) owner: O,
-    pub(crate) glance: Glance<T>,
+    glance: Glance<T>,
     // The seat, while what it says is lent.
-    pub(crate) pledge: Pledge,
-    pub(crate) runtime: PhantomData<R>,
+    pledge: Pledge,
+    runtime: PhantomData<R>,
 }
 
 impl<T, R: Releases, O: Owns<Value = T, Runtime = R>> Model for ReadGuard<T, R, O> {
@@ -78,14 +78,7 @@ impl<T, R: Releases, O: Owns<Value = T, Runtime = R>> Acquired for ReadGuard<T, 
 
     #[inline]
     fn new(owner: O, reader: Reader) -> ReadGuard<T, R, O> {
-        let Reader { seat } = reader;
-        let (glance, pledge) = owner.lock().lend_read(seat);
-        ReadGuard {
-            owner,
-            glance,
-            pledge,
-            runtime: PhantomData,
-        }
+        ReadGuard::of(owner, reader)
     }
 
     #[inline]
@@ -128,6 +121,33 @@ impl<T, R: Releases, O: Owns<Value = T, Runtime = R>> Acquired for ReadGuard<T, 
 }
 
 impl<T, R: Releases, O: Owns<Value = T, Runtime = R>> ReadGuard<T, R, O> {
+    #[inline]
+    pub(crate) fn of(owner: O, reader: Reader) -> ReadGuard<T, R, O>
+        requires { IsReaderOf (O.lock_of owner).raw reader }
+        ensures lock { result.lock ≡ O.lock_of owner }
+        ensures seat { result.seat ≡ reader.seat }
+    {
+        let Reader { seat } = reader;
+        let (glance, pledge) = owner.lock().lend_read(seat);
+        ReadGuard {
+            owner,
+            glance,
+            pledge,
+            runtime: PhantomData,
+        }
+    }
+
+    // A memo is of the value that is lent, while the writer lock is there too. Nothing is done.
+    #[inline(always)]
+    pub(crate) fn note(&mut self, memo: &mut Memo<T>)
+        requires { memo.old.vault_id ≡ self.old.lock.vault.vault_id }
+        ensures same { (self.new ≡ self.old) × (memo.new ≡ memo.old) }
+        ensures value { memo.new.value ≡ self.new.value }
+    {
+        let lock = self.owner.lock();
+        memo.agrees(&mut self.glance, &lock.vault);
+    }
+
     // Who has the lock, and the party with its right. Nothing is lent any more.
     pub(crate) fn into_party(self) -> (O, Reader)
         ensures owner { O.lock_of result.0 ≡ self.lock }

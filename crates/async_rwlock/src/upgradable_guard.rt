@@ -14,15 +14,14 @@ use crate::read_guard::ReadGuard;
 use crate::releases::Releases;
 use crate::upgrade::UpgradeFuture;
 use crate::write_guard::WriteGuard;
-use access_vault::Glance;
 use async_driver::wait_for;
 use futures::task::Context;
 use lock_program::Refusal;
 use mutex_core::{Vain, Waiting};
-use rwlock_core::{Outcome, Pledge, RawRwLock, Seat, Upgradable, Writer};
+use rwlock_core::{Outcome, RawRwLock, Reader, Seat, Upgradable, Writer};
 use std::alloc::AllocGlobal;
 use std::fmt;
-use std::marker::{Model, PhantomData};
+use std::marker::Model;
 use std::ops::Deref;
 use std::random::RandomSource;
 use std::sync::Wait;
@@ -31,29 +30,24 @@ use std::time::Clock;
 /// A right to read that one task at a time has, and that can become a right to write; and the value to read. Dropping it ends the
 /// right: who waits to write or to read upgradably is notified.
 ///
-/// Its type keeps that its seat reads and has the writer lock, and that the value is lent against that. Contracts see the lock,
-/// the value, the seat with what it knows of itself, and the number of its seat of the writer lock.
+/// It is a reader that has the writer lock. Contracts see the lock, the value, the seat with what it knows of itself, and the number of its
+/// seat of the writer lock.
 pub struct UpgradableGuard<T, R: Releases, O: Owns<Value = T, Runtime = R>> {
-    owner: O,
-    glance: Glance<T>,
-    // The seat, while what it says is lent.
-    pledge: Pledge,
+    reader: ReadGuard<T, R, O>,
     // The writer lock, with the memo of the value.
     noted: NotedTurn<T>,
-    runtime: PhantomData<R>,
 }
 
 impl<T, R: Releases, O: Owns<Value = T, Runtime = R>> Model for UpgradableGuard<T, R, O> {
-    ghost use Rattle.std.specs.Prelude.{◌≡◌, false, [], Some};
+    ghost use Rattle.std.specs.Prelude.{◌≡◌, Some};
     ghost use Rattle.async_rwlock.specs.Guards.{Held};
     ghost use Rattle.async_rwlock.specs.Noted.{IsNotedOf};
-    ghost use Rattle.access_core.specs.Accesses.{IsReading, seated};
 
     ghost Value = { Held T R };
 
-    ghost view = { λ g. record { lock = O.lock_of g.owner; value = g.glance.value; seat = seated (O.lock_of g.owner).raw.access.table g.glance.id g.glance.view; turn_seat = Some g.noted.turn.seat.id } };
+    ghost view = { λ g. record g.reader { turn_seat = Some g.noted.turn.seat.id } };
 
-    ghost invariant = { λ g. (g.glance.vault_id ≡ (O.lock_of g.owner).vault.vault_id) × (g.glance.view.has_lists ≡ false) × IsReading (seated (O.lock_of g.owner).raw.access.table g.glance.id g.glance.view) × IsNotedOf (O.lock_of g.owner) g.noted × (g.noted.memo.value ≡ g.glance.value) × (g.pledge.badge.views ≡ []) };
+    ghost invariant = { λ g. IsNotedOf g.reader.lock g.noted × (g.noted.memo.value ≡ g.reader.value) };
 }
 
 impl<T, R: Releases, O: Owns<Value = T, Runtime = R>> Acquired for UpgradableGuard<T, R, O> {
@@ -150,17 +144,10 @@ impl<T, R: Releases, O: Owns<Value = T, Runtime = R>> UpgradableGuard<T, R, O> {
         ensures turn { result.turn_seat ≡ Some noted.turn.seat.id }
         ensures value { result.value ≡ noted.memo.value }
     {
-        let NotedTurn { turn, mut memo } = noted;
-        let lock = owner.lock();
-        let (mut glance, pledge) = lock.lend_read(seat);
-        memo.agrees(&mut glance, &lock.vault);
-        UpgradableGuard {
-            owner,
-            glance,
-            pledge,
-            noted: NotedTurn { turn, memo },
-            runtime: PhantomData,
-        }
+        let mut noted = noted;
+        let mut reader = ReadGuard::of(owner, Reader { seat });
+        reader.note(&mut noted.memo);
+        UpgradableGuard { reader, noted }
     }
 
     // Who has the lock, and the party with its right. Nothing is lent any more.
@@ -184,14 +171,8 @@ impl<T, R: Releases, O: Owns<Value = T, Runtime = R>> UpgradableGuard<T, R, O> {
         ensures same { result.1 ≡ self.seat }
         ensures value { result.2.memo.value ≡ self.value }
     {
-        let Self {
-            owner,
-            glance,
-            pledge,
-            noted,
-            runtime: _,
-        } = self;
-        let seat = owner.lock().end_read(glance, pledge);
+        let Self { reader, noted } = self;
+        let (owner, Reader { seat }) = reader.into_party();
         (owner, seat, noted)
     }
 
@@ -206,21 +187,10 @@ impl<T, R: Releases, O: Owns<Value = T, Runtime = R>> UpgradableGuard<T, R, O> {
         ensures same { result.seat ≡ guard.seat }
         ensures value { result.value ≡ guard.value }
     {
-        let Self {
-            owner,
-            glance,
-            pledge,
-            noted,
-            runtime,
-        } = guard;
-        let lock = owner.lock();
+        let Self { reader, noted } = guard;
+        let lock = reader.owner.lock();
         lock.rt.downgrade_turn(&lock.raw, lock.end_memo(noted));
-        ReadGuard {
-            owner,
-            glance,
-            pledge,
-            runtime,
-        }
+        reader
     }
 
     /// Writes, if nobody else reads. Otherwise the guard comes back: by the contract its seat has found another reader, or the writer's bit
@@ -310,8 +280,7 @@ impl<T, R: Releases, O: Owns<Value = T, Runtime = R>> UpgradableGuard<T, R, O> {
         ensures same { (guard.new ≡ guard.old) × (reader.new ≡ reader.old) }
         ensures value { guard.new.value ≡ reader.new.value }
     {
-        let lock = guard.owner.lock();
-        guard.glance.agrees(&mut reader.glance, &lock.vault);
+        ReadGuard::agrees(&mut guard.reader, reader);
     }
 }
 
@@ -321,7 +290,7 @@ impl<T, R: Releases, O: Owns<Value = T, Runtime = R>> Deref for UpgradableGuard<
     ghost deref_gives = { λ guard value. value ≡ guard.value };
 
     fn deref(&self) -> &T {
-        self.glance.get(&self.owner.lock().vault)
+        &self.reader
     }
 }
 
@@ -374,7 +343,8 @@ impl<
             Ok(writer) => return Ok(writer),
             Err(guard) => guard,
         };
-        let Some(owner) = guard.owner.again() else {
+        let reader = &guard.reader;
+        let Some(owner) = reader.owner.again() else {
             return Err(Refusal::Memory);
         };
         let settled = wait_for(&owner.lock().rt, UpgradableGuard::upgrade(guard));

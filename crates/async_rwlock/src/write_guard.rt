@@ -14,7 +14,7 @@ use crate::upgradable_guard::UpgradableGuard;
 use access_vault::Grip;
 use futures::task::Context;
 use mutex_core::Vain;
-use rwlock_core::{Outcome, Pledge, RawRwLock, Reader, Seat, Upgradable, WaitsFor, Writer};
+use rwlock_core::{Outcome, Pledge, RawRwLock, Seat, Upgradable, WaitsFor, Writer};
 use std::fmt;
 use std::marker::{Model, PhantomData};
 use std::ops::Deref;
@@ -198,18 +198,14 @@ impl<T, R: Releases, O: Owns<Value = T, Runtime = R>> WriteGuard<T, R, O> {
     {
         let (owner, seat, mut noted) = guard.into_noted();
         let lock = owner.lock();
-        let (Reader { seat }, downgrading) = lock.raw.begin_downgrade(seat);
+        let (reader, downgrading) = lock.raw.begin_downgrade(seat);
         // While the writer lock is still there, the memo says that the value lent for reading is the one that was lent for writing.
-        let (mut glance, pledge) = lock.lend_read(seat);
-        noted.memo.agrees(&mut glance, &lock.vault);
+        let mut reader = ReadGuard::of(owner, reader);
+        reader.note(&mut noted.memo);
+        let lock = reader.owner.lock();
         let turn = lock.end_memo(noted);
         lock.rt.end_downgrade(&lock.raw, downgrading, turn);
-        ReadGuard {
-            owner,
-            glance,
-            pledge,
-            runtime: PhantomData,
-        }
+        reader
     }
 
     /// Reads in place of writing, with the right to upgrade, and notifies the readers that wait. It is the same seat, by one step
