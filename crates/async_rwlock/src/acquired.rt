@@ -10,17 +10,20 @@ use rwlock_core::{Outcome, RawRwLock};
 use std::sync::Wait;
 use std::time::Clock;
 
-/// A guard that a future waits for. Each call is one of [`RawRwLock`], by who wants this guard.
+/// A guard that a future waits for, and how a poll gets it. A read, an upgradable read and a write differ in this alone.
 ///
-/// It is implemented for the three guards of a lock.
+/// It is implemented for the guards of a lock, and for nothing else.
 pub trait Acquired {
     /// Who has the lock.
     type Owner: Owns;
-    /// The party with the right, before the guard is made.
+
+    /// A party that has the right.
     type Right;
-    /// What is left of a first look in vain.
+
+    /// A party that has looked in vain.
     type Vain;
-    /// Who waits.
+
+    /// A party that waits.
     type Waiting;
 
     ghost use Rattle.std.specs.Prelude.{ℕ, Option};
@@ -30,40 +33,40 @@ pub trait Acquired {
     ghost use Rattle.async_rwlock.specs.Guards.{Held};
     ghost use Rattle.async_rwlock.specs.Stages.{Listed};
 
-    /// The guard.
+    /// What contracts see of the guard.
     ghost held: { Self → Held Self.Owner.Value Self.Owner.Runtime };
 
-    /// The guard's seat came in as it may.
+    /// A seat that reads came in where it found room.
     ghost has_room: { Self → Type 0 };
 
-    /// The party has the right on this lock.
+    /// The party has got the right on this lock.
     ghost is_let_in: { RawRwLock → Self.Right → Type 0 };
 
-    /// The seat of the party.
+    /// Its seat.
     ghost seat_of: { Self.Right → Seated };
 
     /// The number of its seat of the writer lock, if it has that.
     ghost turn_of: { Self.Right → Option ℕ };
 
-    /// The look was one at this lock.
+    /// The party has looked at this lock, and has nothing.
     ghost has_looked: { RawRwLock → Self.Vain → Type 0 };
 
-    /// It waits at this lock.
+    /// The party waits at this lock.
     ghost waits_at: { RawRwLock → Self.Waiting → Type 0 };
 
-    /// The entry of what waits.
+    /// Its entry.
     ghost entry: { Self.Waiting → Listed };
 
-    /// For these reasons a poll is refused.
+    /// A poll may be refused for this reason.
     ghost refuses: { Refusal → Type 0 };
 
-    /// The future's name, where it borrows the lock.
+    /// Under which name a future is shown that borrows the lock.
     const NAME: &'static str;
 
-    /// Its name, where it has a share of the lock.
+    /// And one that has a share of the lock.
     const SHARED_NAME: &'static str;
 
-    /// The guard of a party that has got the right.
+    /// Returns the guard of a party that has got the right.
     fn new(owner: Self::Owner, right: Self::Right) -> Self
         requires { is_let_in (Self.Owner.lock_of owner).raw right }
         ensures lock { (held result).lock ≡ Self.Owner.lock_of owner }
@@ -71,7 +74,7 @@ pub trait Acquired {
         ensures turn { (held result).turn_seat ≡ turn_of right }
         ensures few { has_room result };
 
-    /// The first look of a future, and what follows at once.
+    /// The first look of a poll, and what whoever has got the writer lock by it does next.
     fn first_look<R: Wait>(
         raw: &RawRwLock,
         rt: &R,
@@ -80,7 +83,7 @@ pub trait Acquired {
         ensures outcome { MatchResult result (IsPolled is_let_in waits_at entry refuses raw.now cx.new) (has_looked raw.now) }
         ensures kept { Keeps cx.old cx.new };
 
-    /// The rest of a first poll whose look was in vain.
+    /// The rest of a first poll whose look was in vain. It isn't inlined, since what it takes room for would be cleared at each poll.
     fn first_poll<R: Wait + Clock>(
         raw: &RawRwLock,
         rt: &R,
@@ -91,7 +94,7 @@ pub trait Acquired {
         ensures outcome { IsPolled is_let_in waits_at entry refuses raw.now cx.new result }
         ensures kept { Keeps cx.old cx.new };
 
-    /// A poll of what waits.
+    /// A poll of a party that waits. It isn't inlined either, so that a poll is short where it is called that gets its right at once.
     fn later_poll<R: Wait + Clock>(
         raw: &RawRwLock,
         rt: &R,
@@ -103,7 +106,7 @@ pub trait Acquired {
         ensures same { GoesOn seat_of turn_of entry (entry waiting) result }
         ensures kept { Keeps cx.old cx.new };
 
-    /// Ends what waits.
+    /// Ends a party that waits: it gives back what it has.
     fn cancel<R: Wait>(raw: &RawRwLock, rt: &R, waiting: Self::Waiting)
         requires { waits_at raw.now waiting };
 }
