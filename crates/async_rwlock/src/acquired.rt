@@ -29,6 +29,7 @@ pub trait Acquired {
     ghost use Rattle.std.specs.Prelude.{ℕ, Option};
     ghost use Rattle.access_core.specs.Accesses.{Seated};
     ghost use Rattle.lock_program.specs.declared.refusal.Refusal.{Refusal};
+    ghost use Rattle.lock_program.specs.declared.refusal.Refusal.TheVariants as refusals;
     ghost use Rattle.rwlock_core.specs.declared.rwlock.RawRwLock.{RawRwLock};
     ghost use Rattle.async_rwlock.specs.Guards.{Held};
     ghost use Rattle.async_rwlock.specs.Stages.{Listed};
@@ -109,4 +110,10 @@ pub trait Acquired {
     /// Ends a party that waits: it gives back what it has.
     fn cancel<R: Wait>(raw: &RawRwLock, rt: &R, waiting: Self::Waiting)
         requires { waits_at raw.now waiting };
+
+    /// A poll may be refused for memory.
+    ghost for_memory: { refuses refusals.Memory };
+
+    /// And none is as finished: that is the future's to say.
+    ghost never_finished: { refuses refusals.Finished → ⊥ };
 }

@@ -118,6 +118,10 @@ impl<T, R: Releases, O: Owns<Value = T, Runtime = R>> Acquired for ReadGuard<T, 
     fn cancel<W: Wait>(raw: &RawRwLock, rt: &W, waiting: WaitsToRead) {
         raw.cancel_read(rt, waiting);
     }
+
+    ghost for_memory = { tt };
+
+    ghost never_finished = { λ no. no };
 }
 
 impl<T, R: Releases, O: Owns<Value = T, Runtime = R>> ReadGuard<T, R, O> {

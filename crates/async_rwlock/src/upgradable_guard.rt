@@ -131,6 +131,10 @@ impl<T, R: Releases, O: Owns<Value = T, Runtime = R>> Acquired for UpgradableGua
     fn cancel<W: Wait>(raw: &RawRwLock, rt: &W, waiting: Waiting<()>) {
         raw.turn.cancel(rt, waiting);
     }
+
+    ghost for_memory = { tt };
+
+    ghost never_finished = { λ no. no };
 }
 
 impl<T, R: Releases, O: Owns<Value = T, Runtime = R>> UpgradableGuard<T, R, O> {

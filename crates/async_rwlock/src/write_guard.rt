@@ -127,6 +127,10 @@ impl<T, R: Releases, O: Owns<Value = T, Runtime = R>> Acquired for WriteGuard<T,
     fn cancel<W: Wait>(raw: &RawRwLock, rt: &W, waiting: WaitsFor) {
         raw.cancel_write(rt, waiting);
     }
+
+    ghost for_memory = { tt };
+
+    ghost never_finished = { λ no. no };
 }
 
 impl<T, R: Releases, O: Owns<Value = T, Runtime = R>> WriteGuard<T, R, O> {
