@@ -129,8 +129,8 @@ abbrev pub IsIn : Side → Seated → Type 0
 IsIn sides.Readers s = (s.in_readers ≡ true) × (s.in_writer ≡ false)
 IsIn sides.Writer s = (s.in_writer ≡ true) × (s.in_readers ≡ false)
 
-abbrev pub Stands : Side → ℕ → Seated → Type 0
-Stands side n s = IsIn side s × (s.entry ≡ n)
+abbrev pub StandsIn : Side → ℕ → Seated → Type 0
+StandsIn side n s = IsIn side s × (s.entry ≡ n)
 
 -- it owes nothing, stands in no list, and isn't fresh
 abbrev pub IsCalm : Seated → Type 0

@@ -3,7 +3,7 @@
 ghost use Rattle.std.specs.Prelude.{◌≡◌, true, false, IfNone, IfOk, IfSome, OnErr};
 ghost use Rattle.futures.specs.Task.{Keeps};
 ghost use Rattle.lock_queue.specs.Receipts.{IsReceipt};
-ghost use Rattle.access_core.specs.Accesses.{IsOf, MayJoin, Stands, with_gone, with_joined, with_paid, with_told};
+ghost use Rattle.access_core.specs.Accesses.{IsOf, MayJoin, StandsIn, with_gone, with_joined, with_paid, with_told};
 
 use crate::access::Access;
 use crate::giving_back::{give_joined, give_left, give_paid, give_told};
@@ -101,7 +101,7 @@ impl Access {
         cx: &mut Context<'_>,
     ) -> Option<Whose>
         requires of { IsOf self.now seat.old }
-        requires stands { Stands side id.number seat.old }
+        requires stands { StandsIn side id.number seat.old }
         requires looked { seat.old.fresh ≡ false }
         ensures told { IfNone result ((seat.new ≡ with_told side seat.old) × (cx.new ≡ cx.old)) }
         ensures waits { IfSome result (λ whose. (seat.new ≡ seat.old) × IsReceipt self.now.source cx.new whose) }
@@ -132,7 +132,7 @@ impl Access {
     #[inline(never)]
     fn ask_again<R: Wait>(&self, rt: &R, side: Side, seat: &mut Seat, id: EntryId) -> bool
         requires of { IsOf self.now seat.old }
-        requires stands { Stands side id.number seat.old }
+        requires stands { StandsIn side id.number seat.old }
         requires looked { seat.old.fresh ≡ false }
         ensures told { result ≡ false → seat.new ≡ with_told side seat.old }
         ensures waits { result ≡ true → seat.new ≡ seat.old }
@@ -161,7 +161,7 @@ impl Access {
     /// its notification. Notified, it has left the list, and the seat owes.
     pub fn still_waits<R: Wait>(&self, rt: &R, side: Side, seat: &mut Seat, joined: &Joined) -> bool
         requires of { IsOf self.now seat.old }
-        requires stands { Stands side joined.now.id.number seat.old }
+        requires stands { StandsIn side joined.now.id.number seat.old }
         requires looked { seat.old.fresh ≡ false }
         ensures told { result ≡ false → seat.new ≡ with_told side seat.old }
         ensures waits { result ≡ true → seat.new ≡ seat.old }
@@ -174,7 +174,7 @@ impl Access {
     /// An entry leaves a list without asking: a notification that it had goes on to the next.
     pub fn leave<R: Wait>(&self, rt: &R, side: Side, seat: &mut Seat, id: EntryId)
         requires of { IsOf self.now seat.old }
-        requires stands { Stands side id.number seat.old }
+        requires stands { StandsIn side id.number seat.old }
         ensures { seat.new ≡ with_gone side seat.old }
     {
         let shared = &self.table.shared;

@@ -2,7 +2,7 @@
 
 ghost use Rattle.std.specs.Prelude.{◌≡◌, false};
 ghost use Rattle.atomic_table.specs.Table.{rest};
-ghost use Rattle.words_base.specs.Lists.{Pays, Joins, Leaves, GoesOn};
+ghost use Rattle.words_base.specs.Lists.{Pays, Joins, Leaves, HandsOn};
 ghost use Rattle.access_core.specs.Accesses.{IsIn, MayJoin, seated, with_gone, with_joined, with_paid, with_told};
 ghost use Rattle.access_core.specs.Contents.{CanGive};
 
@@ -58,7 +58,7 @@ pub(crate) fn give_told(shared: &Listing, inner: &mut Lister, side: Side, word: 
 #[inline]
 pub(crate) fn give_left(shared: &Listing, inner: &mut Lister, side: Side, word: u64) -> u64
     requires table { (inner.old.table_id ≡ shared.now.table_id) × (shared.now.table_id.words ≡ 2) × (shared.now.table_id.slots ≡ 1) }
-    requires lists { CanGive (GoesOn inner.old.me.0.entry) side inner.old.me word }
+    requires lists { CanGive (HandsOn inner.old.me.0.entry) side inner.old.me word }
     requires stands { IsIn side (seated inner.old.table_id inner.old.id inner.old.me.0) }
     ensures seat { (inner.new.table_id ≡ inner.old.table_id) × (inner.new.id ≡ inner.old.id) }
     ensures back { (inner.new.me.0.has_lists ≡ false) × (inner.new.me.1 ≡ rest inner.old.me.1) }

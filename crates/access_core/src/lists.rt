@@ -2,7 +2,7 @@
 
 ghost use Rattle.std.specs.Prelude.{◌≡◌, IfOk, OnErr};
 ghost use Rattle.futures.specs.Task.{Keeps};
-ghost use Rattle.words_base.specs.Lists.{nobody, Stays, Pays, Joins, Leaves, GoesOn};
+ghost use Rattle.words_base.specs.Lists.{nobody, Stays, Pays, Joins, Leaves, HandsOn};
 ghost use Rattle.lock_queue.specs.Asking.{ByHeard};
 ghost use Rattle.lock_queue.specs.Receipts.{IsReceipt};
 ghost use Rattle.access_core.specs.Contents.{readers_of, writer_of, Says, Changes};
@@ -138,7 +138,7 @@ impl Lists {
     }
 
     pub(crate) fn leave(&mut self, side: Side, id: EntryId) -> (Option<Waker>, Due)
-        ensures { Changes (GoesOn id.number) side self.old self.new }
+        ensures { Changes (HandsOn id.number) side self.old self.new }
     {
         match side {
             Side::Readers => self.readers.leave(id),

@@ -29,7 +29,7 @@ use Rattle.atomic_table.proofs.Roster.{Moved, moves, Joined, joins, apart}
 use Rattle.lock_place.specs.Held.{RoomId, age, seen_at}
 use Rattle.words_base.specs.Sums.{weight, number}
 use Rattle.words_base.proofs.Sums as word
-use Rattle.access_vault.specs.Vault.{Round, round_of, Cell, cell_coded, reading, writing, emptied, is_one, is_more, cell_reads, cell_writes, Fills, Rights, Excludes, seat, pledged, pledges, waits, sight, stock, desk, pledge, memo, shared, calm_with, calm, account_at, either_way, account, vault}
+use Rattle.access_vault.specs.Vault.{Round, round_of, Cell, cell_coded, reading, writing, emptied, is_one, is_more, cell_reads, cell_writes, Fills, Rights, Excludes, seat, pledged, pledges, is_shared_for, sight, stock, desk, pledge, memo, shared, calm_with, calm, account_at, either_way, account, vault}
 use Rattle.access_vault.proofs.Fills.{fills_more, fills_less, fills_all, whole_fills, number-more}
 
 module _ {M : Type 1} {𝓤 : Ura M} (𝓛 : Logic 𝓤) (R : RattleType) (L : RowLaws R) (z : RoomId) {V : Type 0} (cv : Coded V) (k : Rights V) (t : TableId) (δ μ : ℕ) (ρ : RoomId) where
@@ -137,7 +137,7 @@ module _ {M : Type 1} {𝓤 : Ura M} (𝓛 : Logic 𝓤) (R : RattleType) (L : R
   Sight = sight R z
 
   abbrev Wait : ℕ → Fml
-  Wait = waits R z
+  Wait = is_shared_for R z
 
   abbrev Obs : R.Denot → Fml
   Obs x = fobs z.name (R.coded.code x)

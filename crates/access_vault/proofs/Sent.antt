@@ -16,7 +16,7 @@ use Rattle.access_core.proofs.lists.Lists.TheSendSync.{the_send}
 use Rattle.access_core.specs.contracts.lists.Lists as slot
 use denote.Builtin.{unit}
 use Rattle.access_vault.specs.Vault.{Cell, pledged, pledges, keeps, mode}
-use Rattle.access_vault.specs.Kept.{VaultId, rights, views, Holds, body, inside, live, form, vault_owns, vault_shares, glance_owns, grip_owns, memo_owns}
+use Rattle.access_vault.specs.Kept.{VaultId, rights, views, IsRuled, body, inside, live, form, vault_owns, vault_shares, glance_owns, grip_owns, memo_owns}
 
 slot_send : IsSend slot.the_row
 slot_send = the_send
@@ -32,7 +32,7 @@ pledges_keyless t (x ∷ xs) = (pledged_keyless t x x.kind, pledges_keyless t xs
 
 body_keyless : (t : TableId) (u : Ptr × Ptr) → Keyless (body t u)
 unfolding Rattle.atomic_table.specs.Seated.seal
-body_keyless t u = (shares_keyless slot.the_row slot_send views.code t Holds u.0 u.1 []).1.1
+body_keyless t u = (shares_keyless slot.the_row slot_send views.code t IsRuled u.0 u.1 []).1.1
 
 module _ (R : RattleType) (s : IsSend R) (y : IsSync R) (z : VaultId) where
   mode_keyless : (l : List (Cell View)) (b : Bool) → Keyless (mode R z.room views rights z.table z.desk z.memo l b)

@@ -40,11 +40,11 @@ abbrev pub views : Coded View
 views = view.the_row.coded
 
 -- what always holds of the table
-abbrev pub Holds : State Lists View → Type 0
-Holds = Ruled readers_of writer_of
+abbrev pub IsRuled : State Lists View → Type 0
+IsRuled = Ruled readers_of writer_of
 
 abbrev pub body : TableId → Ptr × Ptr → Fml
-body t u = inner slot.the_row views.code Holds u.0 u.1 t
+body t u = inner slot.the_row views.code IsRuled u.0 u.1 t
 
 abbrev pub known_with : TableId → Ptr × Ptr → Fml
 known_with t u = finv (fbor (table.age t) (body t u))

@@ -12,8 +12,8 @@ use Rattle.lock_program.specs.declared.end.Next.TheVariants.{Do}
 use Rattle.lock_program.specs.declared.mutex.Place.TheVariants as at
 use Rattle.mutex_core.specs.Courses.{pending}
 use Rattle.mutex_core.specs.Locks.{IsOf, IsSameSeat, Seated}
-use Rattle.mutex_core.specs.Outcomes.{IsGivenUp, IsHeldOf, IsKept as IsStill}
-use Rattle.lock_queue.specs.Receipts.{IsKept}
+use Rattle.mutex_core.specs.Outcomes.{IsGivenUp, IsHeldOf, IsWakerFor as IsStill}
+use Rattle.lock_queue.specs.Receipts.{IsWakerFor}
 use Rattle.mutex_core.specs.declared.turn.Held.{Held}
 use Rattle.mutex_core.specs.declared.turn.Outcome.{Outcome}
 use Rattle.mutex_core.specs.declared.turn.Outcome.TheVariants as outcome
@@ -53,7 +53,7 @@ module _ {O T R : Type 0} (lock_of : O → Mutex T R) where
   -- Its entry is one of its mutex's list, and keeps a waker of the task that the context polls; its party stands where its program ends a
   -- poll as pending; and the task has registered with the mutex's source.
   abbrev pub HasReceipt : Stage O → Context → Option Listed → Type 0
-  HasReceipt (stages.Waits owner) cx entry = IsSomeAnd entry (λ e. IsOf (lock_of owner).words e.seat × (e.seat.listed ≡ true) × (e.seat.course ≡ pending e.seat.starved) × IsKept cx e.keeps) × Covers cx (λ s. s ≡ (lock_of owner).words.source)
+  HasReceipt (stages.Waits owner) cx entry = IsSomeAnd entry (λ e. IsOf (lock_of owner).words e.seat × (e.seat.listed ≡ true) × (e.seat.course ≡ pending e.seat.starved) × IsWakerFor cx e.keeps) × Covers cx (λ s. s ≡ (lock_of owner).words.source)
   HasReceipt _ cx entry = ⊥
 
   -- its party waits at its mutex between two polls
@@ -91,6 +91,6 @@ GoesOnBy seat_of seat Pending entry = IsSomeAnd entry (λ e. IsSameSeat seat e.s
 GoesOnBy seat_of seat (Refused refusal) entry = ⊤
 
 -- Whoever waits on, and isn't counted as starved, waits since then.
-abbrev pub WaitsOn : {G : Type 0} → Option Instant → Turn G → Option Listed → Type 0
-WaitsOn then Pending entry = IsSomeAnd entry (λ e. e.seat.starved ≡ false → IsStill then e.since)
-WaitsOn then _ entry = ⊤
+abbrev pub WaitsSinceThen : {G : Type 0} → Option Instant → Turn G → Option Listed → Type 0
+WaitsSinceThen then Pending entry = IsSomeAnd entry (λ e. e.seat.starved ≡ false → IsStill then e.since)
+WaitsSinceThen then _ entry = ⊤

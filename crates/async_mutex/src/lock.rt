@@ -4,7 +4,7 @@ ghost use Rattle.std.specs.Prelude.{◌≡◌, false, IfSome, None};
 ghost use Rattle.futures.specs.Task.{Covers, Keeps};
 ghost use Rattle.async_driver.specs.Stages.{IsOf, is_finished};
 ghost use Rattle.async_driver.specs.Turns.{IsTurn, OnPending, OnRefused};
-ghost use Rattle.async_mutex.specs.Futures.{GoesOnBy, HasReceipt, WaitsAt, WaitsOn, future};
+ghost use Rattle.async_mutex.specs.Futures.{GoesOnBy, HasReceipt, WaitsAt, WaitsSinceThen, future};
 ghost use Rattle.mutex_core.specs.Outcomes.{IsGivenUp};
 
 use crate::guard::Guard;
@@ -81,7 +81,7 @@ impl<T, R: Wait + Clock, O: Owns<Value = T, Runtime = R>> LockFuture<T, R, O> {
         ensures turn { IsTurn IsGivenUp (λ guard. IsOf O.lock_of self.old.stage guard.mutex) (is_finished self.old.stage) result (is_finished self.new.stage) }
         ensures share { is_finished self.new.stage ≡ false → self.new.stage ≡ self.old.stage }
         ensures same { IfSome self.old.entry (λ e. GoesOnBy (λ guard. guard.seat) e.seat result self.new.entry) }
-        ensures since { IfSome self.old.entry (λ e. WaitsOn e.since result self.new.entry) }
+        ensures since { IfSome self.old.entry (λ e. WaitsSinceThen e.since result self.new.entry) }
         ensures refused { OnRefused result (λ _. self.new.entry ≡ None) }
         ensures receipt { OnPending result (HasReceipt O.lock_of self.old.stage cx.new self.new.entry) }
         ensures registered { OnPending result (Covers cx.new (WaitsAt O.lock_of self.old.stage)) }

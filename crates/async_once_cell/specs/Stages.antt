@@ -27,10 +27,10 @@ pub record Listed : Type 0 where
 -- The receipt of one that waits to make, or for the value: an entry in the cell's list of those, which keeps a waker of the task that the context
 -- polls; and the task has registered with the cell's source.
 abbrev pub HasReceiptActive : Cell → Context → Option Listed → Type 0
-HasReceiptActive cell cx entry = IsSomeAnd entry (λ e. IsOf cell e.seat × (e.seat.in_active ≡ true) × receipts.IsKept cx e.keeps) × Covers cx (λ s. s ≡ cell.source)
+HasReceiptActive cell cx entry = IsSomeAnd entry (λ e. IsOf cell e.seat × (e.seat.in_active ≡ true) × receipts.IsWakerFor cx e.keeps) × Covers cx (λ s. s ≡ cell.source)
 
 abbrev pub HasReceiptPassive : Cell → Context → Option Listed → Type 0
-HasReceiptPassive cell cx entry = IsSomeAnd entry (λ e. IsOf cell e.seat × (e.seat.in_passive ≡ true) × receipts.IsKept cx e.keeps) × Covers cx (λ s. s ≡ cell.source)
+HasReceiptPassive cell cx entry = IsSomeAnd entry (λ e. IsOf cell e.seat × (e.seat.in_passive ≡ true) × receipts.IsWakerFor cx e.keeps) × Covers cx (λ s. s ≡ cell.source)
 
 -- its cell, whether it was ready before, its entry in the cell's list of those that would make the value, the seat by which it waits or makes, the one by
 -- which it has come to its end, and its maker
@@ -69,16 +69,16 @@ ended_in (parties.Rests r) = None
 ended_in (parties.Ended e) = Some e
 
 -- by which seat its party waits or makes
-abbrev pub seat_of : Option Resting → Option Seated
-seat_of None = None
-seat_of (Some r) = Some (seat_in r)
+abbrev pub resting_seat : Option Resting → Option Seated
+resting_seat None = None
+resting_seat (Some r) = Some (seat_in r)
 
 abbrev pub passive_of : Option Waiting → Option Listed
 passive_of None = None
 passive_of (Some w) = Some (record { seat = w.seat; keeps = w.whose })
 
 abbrev pub future : {C M : Type 0} → C → Stage M → Future C M
-future cell stage = record { cell = cell; is_over = is_over_in stage; entry = entry_of (resting_in stage.party); seat = seat_of (resting_in stage.party); ended = ended_in stage.party; maker = stage.maker }
+future cell stage = record { cell = cell; is_over = is_over_in stage; entry = entry_of (resting_in stage.party); seat = resting_seat (resting_in stage.party); ended = ended_in stage.party; maker = stage.maker }
 
 -- what a future keeps between its polls: a maker that was never polled, or one whose party waits, until it was ready
 abbrev pub KeptBy : {M : Type 0} → Purpose → (M → Type 0) → Cell → Option M → Option Resting → Type 0
@@ -87,8 +87,8 @@ KeptBy u new cell None (Some r) = ⊥
 KeptBy u new cell (Some m) None = new m
 KeptBy u new cell (Some m) (Some r) = RestsSo u new cell m r
 
-abbrev pub IsKept : {M : Type 0} → Purpose → (M → Type 0) → Cell → Stage M → Type 0
-IsKept u new cell stage = KeptBy u new cell stage.maker (resting_in stage.party)
+abbrev pub KeepsStage : {M : Type 0} → Purpose → (M → Type 0) → Cell → Stage M → Type 0
+KeepsStage u new cell stage = KeptBy u new cell stage.maker (resting_in stage.party)
 
 -- Its first look found the cell full, before its party had a seat: it is over.
 abbrev pub IsFound : {M : Type 0} → Stage M → Stage M → Type 0

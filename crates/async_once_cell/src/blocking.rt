@@ -55,14 +55,14 @@ pub(crate) struct Blocked<'a, T, E, R: Waits, M: Maker<T, E>> {
 
 impl<'a, T, E, R: Waits, M: Maker<T, E>> Model for Blocked<'a, T, E, R, M> {
     ghost use Rattle.async_once_cell.specs.Futures.{Initialising, initialising};
-    ghost use Rattle.async_once_cell.specs.Stages.{IsKept, future};
+    ghost use Rattle.async_once_cell.specs.Stages.{KeepsStage, future};
     ghost use Rattle.async_once_cell.specs.declared.cell.OnceCell.{OnceCell};
 
     ghost Value = { Initialising (OnceCell T R) M };
 
     ghost view = { λ b. initialising (future b.cell.now b.stage) };
 
-    ghost invariant = { λ b. IsKept M.purpose M.is_new b.cell.now.raw b.stage };
+    ghost invariant = { λ b. KeepsStage M.purpose M.is_new b.cell.now.raw b.stage };
 }
 
 impl<'a, T: Drop, E: Drop, R: Waits, M: Maker<T, E>> Blocked<'a, T, E, R, M> {

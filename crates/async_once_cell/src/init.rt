@@ -39,7 +39,7 @@ pub struct GetOrTryInit<'a, T, E, R: Wait, F, Fut> {
 impl<'a, T, E, R: Wait, F, Fut> Model for GetOrTryInit<'a, T, E, R, F, Fut> {
     ghost use Rattle.async_once_cell.specs.Closures.{is_new_try};
     ghost use Rattle.async_once_cell.specs.Futures.{Initialising, initialising};
-    ghost use Rattle.async_once_cell.specs.Stages.{IsKept, future};
+    ghost use Rattle.async_once_cell.specs.Stages.{KeepsStage, future};
     ghost use Rattle.async_once_cell.specs.declared.cell.OnceCell.{OnceCell};
     ghost use Rattle.async_once_cell.specs.declared.makers.Trying.{Trying};
     ghost use Rattle.cell_core.specs.declared.maker.Purpose.TheVariants as purposes;
@@ -48,7 +48,7 @@ impl<'a, T, E, R: Wait, F, Fut> Model for GetOrTryInit<'a, T, E, R, F, Fut> {
 
     ghost view = { λ g. initialising (future g.cell.now g.stage) };
 
-    ghost invariant = { λ g. IsKept purposes.Makes is_new_try g.cell.now.raw g.stage };
+    ghost invariant = { λ g. KeepsStage purposes.Makes is_new_try g.cell.now.raw g.stage };
 }
 
 impl<
@@ -174,7 +174,7 @@ pub struct GetOrInit<'a, T, R: Wait, F, Fut> {
 impl<'a, T, R: Wait, F, Fut> Model for GetOrInit<'a, T, R, F, Fut> {
     ghost use Rattle.async_once_cell.specs.Closures.{is_new_make};
     ghost use Rattle.async_once_cell.specs.Futures.{Initialising, initialising};
-    ghost use Rattle.async_once_cell.specs.Stages.{IsKept, future};
+    ghost use Rattle.async_once_cell.specs.Stages.{KeepsStage, future};
     ghost use Rattle.async_once_cell.specs.declared.cell.OnceCell.{OnceCell};
     ghost use Rattle.async_once_cell.specs.declared.makers.Making.{Making};
     ghost use Rattle.cell_core.specs.declared.maker.Purpose.TheVariants as purposes;
@@ -183,7 +183,7 @@ impl<'a, T, R: Wait, F, Fut> Model for GetOrInit<'a, T, R, F, Fut> {
 
     ghost view = { λ g. initialising (future g.cell.now g.stage) };
 
-    ghost invariant = { λ g. IsKept purposes.Makes is_new_make g.cell.now.raw g.stage };
+    ghost invariant = { λ g. KeepsStage purposes.Makes is_new_make g.cell.now.raw g.stage };
 }
 
 impl<'a, T: Drop, R: Wait, F: FnOnce() -> Fut, Fut: Future<Output = T>> GetOrInit<

@@ -30,7 +30,7 @@ pub struct Set<'a, T, R: Wait> {
 
 impl<'a, T, R: Wait> Model for Set<'a, T, R> {
     ghost use Rattle.async_once_cell.specs.Futures.{Setting, setting};
-    ghost use Rattle.async_once_cell.specs.Stages.{IsKept, future};
+    ghost use Rattle.async_once_cell.specs.Stages.{KeepsStage, future};
     ghost use Rattle.async_once_cell.specs.declared.cell.OnceCell.{OnceCell};
     ghost use Rattle.cell_core.specs.declared.maker.Purpose.TheVariants as purposes;
     ghost use Rattle.std.specs.Prelude.{IsSome};
@@ -39,7 +39,7 @@ impl<'a, T, R: Wait> Model for Set<'a, T, R> {
 
     ghost view = { λ s. setting (future s.cell.now s.stage) };
 
-    ghost invariant = { λ s. IsKept purposes.Sets (λ given. IsSome given.value) s.cell.now.raw s.stage };
+    ghost invariant = { λ s. KeepsStage purposes.Sets (λ given. IsSome given.value) s.cell.now.raw s.stage };
 }
 
 impl<'a, T: Drop, R: Wait> Set<'a, T, R> {

@@ -2,7 +2,7 @@
 
 ghost use Rattle.std.specs.Prelude.{◌≡◌, false, Some, IfNone, IfSome};
 ghost use Rattle.futures.specs.Task.{Keeps};
-ghost use Rattle.async_once_cell.specs.Stages.{CanDrop, GoesOn, IsFound, IsKept, KeptBy, OnAnswer, ended_in, fresh_stage, future, maker_in, resting_in, seat_of};
+ghost use Rattle.async_once_cell.specs.Stages.{CanDrop, GoesOn, IsFound, KeepsStage, KeptBy, OnAnswer, ended_in, fresh_stage, future, maker_in, resting_in, resting_seat};
 ghost use Rattle.async_once_cell.specs.declared.task.Party.TheVariants as parties;
 ghost use Rattle.cell_core.specs.Outcomes.{IsBySeat, OnOutcome, RestsAt};
 
@@ -116,12 +116,12 @@ pub(crate) fn poll_stage<'a, T: Drop, E: Drop, M: Maker<T, E>, R: Wait + Clock>(
     stage: &mut Stage<M>,
     cx: &mut Context<'_>,
 ) -> Answer<'a, T, E, M>
-    requires stage { IsKept M.purpose M.is_new cell.now.raw stage.old }
+    requires stage { KeepsStage M.purpose M.is_new cell.now.raw stage.old }
     requires ready { IfSome (maker_in stage.old) M.can_make }
-    ensures stage { IsKept M.purpose M.is_new cell.now.raw stage.new }
+    ensures stage { KeepsStage M.purpose M.is_new cell.now.raw stage.new }
     ensures ready { IfSome (maker_in stage.new) M.can_make }
     ensures answer { OnAnswer M.purpose M.is_new M.gives M.needs cell.now.raw cx.new (future cell.now stage.old) result (future cell.now stage.new) }
-    ensures same { GoesOn (seat_of (resting_in stage.old.party)) result (seat_of (resting_in stage.new.party)) (ended_in stage.new.party) }
+    ensures same { GoesOn (resting_seat (resting_in stage.old.party)) result (resting_seat (resting_in stage.new.party)) (ended_in stage.new.party) }
     ensures kept { Keeps cx.old cx.new }
 {
     let Some(maker) = stage.maker.take() else {
@@ -166,7 +166,7 @@ fn poll_on<'a, T: Drop, E: Drop, M: Maker<T, E>, R: Wait + Clock>(
     requires kept { KeptBy M.purpose M.is_new cell.now.raw (Some maker) waiting }
     requires ready { M.can_make maker }
     ensures outcome { OnOutcome M.purpose M.is_new M.can_make M.gives M.needs maker cell.now.raw cx.new result }
-    ensures same { IfSome (seat_of waiting) (λ s. IsBySeat s result) }
+    ensures same { IfSome (resting_seat waiting) (λ s. IsBySeat s result) }
     ensures kept { Keeps cx.old cx.new }
 {
     match waiting {

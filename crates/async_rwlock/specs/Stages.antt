@@ -7,7 +7,7 @@ use Rattle.async_driver.specs.declared.turn.Turn.TheVariants.{Pending, Ready, Re
 use Rattle.futures.specs.Task.{Covers}
 use Rattle.futures.specs.declared.task.context.Context.{Context}
 use Rattle.lock_program.specs.declared.refusal.Refusal.{Refusal}
-use Rattle.lock_queue.specs.Receipts.{IsKept}
+use Rattle.lock_queue.specs.Receipts.{IsWakerFor}
 use Rattle.lock_queue.specs.declared.whose.Whose.{Whose}
 use Rattle.mutex_core.specs.Locks as turn
 use Rattle.mutex_core.specs.declared.turn.Waiting.{Waiting}
@@ -79,7 +79,7 @@ IsListedAt raw (inr s) = turn.IsOf raw.turn s × (s.listed ≡ true)
 
 -- The entry is one of the lock's lists, and keeps a waker of the task that the context polls, which has registered with the source of that.
 abbrev pub HasReceipt : RawRwLock → Context → Listed → Type 0
-HasReceipt raw cx e = IsListedAt raw e.seat × IsKept cx e.keeps × Covers cx (λ s. s ≡ source_of raw e.seat)
+HasReceipt raw cx e = IsListedAt raw e.seat × IsWakerFor cx e.keeps × Covers cx (λ s. s ≡ source_of raw e.seat)
 
 -- how a poll by whoever wants a guard went: it has the right, waits, or gave up
 abbrev pub IsPolled : {G W : Type 0} → (RawRwLock → G → Type 0) → (RawRwLock → W → Type 0) → (W → Listed) → (Refusal → Type 0) → RawRwLock → Context → Outcome G W → Type 0
@@ -89,7 +89,7 @@ IsPolled let_in waits_at entry refuses raw cx (outcome.Refused refusal) = refuse
 
 -- Its entry is one of its lock's lists, and keeps a waker of the task that the context polls.
 abbrev pub HasReceiptAt : {O T R : Type 0} → (O → RwLock T R) → Stage O → Context → Option Listed → Type 0
-HasReceiptAt lock_of (Waits owner) cx waiting = IsSomeAnd waiting (λ e. IsListedAt (lock_of owner).raw e.seat × IsKept cx e.keeps)
+HasReceiptAt lock_of (Waits owner) cx waiting = IsSomeAnd waiting (λ e. IsListedAt (lock_of owner).raw e.seat × IsWakerFor cx e.keeps)
 HasReceiptAt lock_of _ cx waiting = ⊥
 
 -- What was got has the seat of whoever waited, and the writer lock by the same seat; what waited for the writer lock has that by the seat that waited.

@@ -75,10 +75,10 @@ OnPolled semaphore_of stage k cx (outcome.Waits w) = WaitsAs semaphore_of stage 
 OnPolled semaphore_of stage k cx (outcome.Refused refusal) = refusal ≡ Memory
 
 -- the seat of a first look
-abbrev pub seat_of : Tried → Seated
-seat_of (tried.Got seat) = seat
-seat_of (tried.Short seat) = seat
-seat_of (tried.Changed seat) = seat
+abbrev pub looking_seat : Tried → Seated
+looking_seat (tried.Got seat) = seat
+looking_seat (tried.Short seat) = seat
+looking_seat (tried.Changed seat) = seat
 
 -- Whoever waited by this seat goes on by it: the guard has it, or it waits still.
 abbrev pub GoesOnBy : {R : Type 0} → Seated → Turn (Held R) → Option Waiting → Type 0

@@ -3,7 +3,7 @@
 ghost use Rattle.std.specs.Prelude.{◌≡◌, IfNone, IfSome};
 ghost use Rattle.futures.specs.Task.{Keeps};
 ghost use Rattle.async_driver.specs.Stages.{HasNoShare};
-ghost use Rattle.async_semaphore.specs.Stages.{Gives, GotAt, OnPolled, OnTriedAt, WaitsAs, seat_of};
+ghost use Rattle.async_semaphore.specs.Stages.{Gives, GotAt, OnPolled, OnTriedAt, WaitsAs, looking_seat};
 ghost use Rattle.semaphore_core.specs.Outcomes.{IsBySeat, WaitsFor};
 
 use crate::guard::PermitGuard;
@@ -53,7 +53,7 @@ pub(crate) fn poll_first<R: Wait + Clock, O: Owns<Runtime = R>>(
 ) -> Outcome
     requires tried { OnTriedAt O.semaphore_of stage.now permits tried }
     ensures polled { OnPolled O.semaphore_of stage.now permits cx.new result }
-    ensures same { IsBySeat (seat_of tried) result }
+    ensures same { IsBySeat (looking_seat tried) result }
     ensures kept { Keeps cx.old cx.new }
 {
     let Stage::Waits(owner) = stage else {

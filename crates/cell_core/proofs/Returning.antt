@@ -1,7 +1,7 @@
 -- What is known of lists that are about to be given back.
 use Rattle.std.proofs.Common.{◌≡◌, ℕ, ◌∷◌, refl, sym, ap, ◌∙◌, subst, Bool, true, false, inl}
 use Rattle.atomic_table.specs.Table.{Me, rest}
-use Rattle.words_base.specs.Lists.{Listed, Stays, Pays, PaysAll, Joins, Leaves, GoesOn}
+use Rattle.words_base.specs.Lists.{Listed, Stays, Pays, PaysAll, Joins, Leaves, HandsOn}
 use Rattle.words_base.proofs.Holding.{same_out}
 use Rattle.words_cell.specs.Steps.{IsHeld, Out, LeftIf, CanLeave, CanStay}
 use Rattle.words_cell.specs.declared.view.View.{View}
@@ -47,13 +47,13 @@ module _ (m : Me Lists View) (held : IsHeld active_of passive_of m) (now left : 
   joins Active k f = (left, out, active (Joins k) f.this, passive Stays f.that)
   joins Passive k f = (left, out, active Stays f.that, passive (Joins k) f.this)
 
-  pub leaves : (list : ListName) (k : ℕ) → Changes (GoesOn k) list now left → HasEntryIn list k m.0 → CanLeave active_of passive_of After n
-  leaves Active k f is = (left, out, gone m.0.in_active k GoesOn m.0.active (active_of left) is.0 is.2 (active (GoesOn k) f.this), apart m.0.in_passive (Leaves m.0.entry) m.0.passive (passive_of left) is.1 (passive Stays f.that))
-  leaves Passive k f is = (left, out, apart m.0.in_active (GoesOn m.0.entry) m.0.active (active_of left) is.0 (active Stays f.that), gone m.0.in_passive k Leaves m.0.passive (passive_of left) is.1 is.2 (passive (Leaves k) f.this.leaves))
+  pub leaves : (list : ListName) (k : ℕ) → Changes (HandsOn k) list now left → HasEntryIn list k m.0 → CanLeave active_of passive_of After n
+  leaves Active k f is = (left, out, gone m.0.in_active k HandsOn m.0.active (active_of left) is.0 is.2 (active (HandsOn k) f.this), apart m.0.in_passive (Leaves m.0.entry) m.0.passive (passive_of left) is.1 (passive Stays f.that))
+  leaves Passive k f is = (left, out, apart m.0.in_active (HandsOn m.0.entry) m.0.active (active_of left) is.0 (active Stays f.that), gone m.0.in_passive k Leaves m.0.passive (passive_of left) is.1 is.2 (passive (Leaves k) f.this.leaves))
 
   pub hears : (list : ListName) (k : ℕ) → Changes (Leaves k) list now left → HasEntryIn list k m.0 → CanHear list After n
   hears Active k f is = (left, out, subst (λ j. Leaves j m.0.active (active_of left)) (sym is.2) (active (Leaves k) f.this), passive Stays f.that)
-  hears Passive k f is = (left, out, apart m.0.in_active (GoesOn m.0.entry) m.0.active (active_of left) is.0 (active Stays f.that), gone m.0.in_passive k Leaves m.0.passive (passive_of left) is.1 is.2 (passive (Leaves k) f.this))
+  hears Passive k f is = (left, out, apart m.0.in_active (HandsOn m.0.entry) m.0.active (active_of left) is.0 (active Stays f.that), gone m.0.in_passive k Leaves m.0.passive (passive_of left) is.1 is.2 (passive (Leaves k) f.this))
 
   pub pays : (list : ListName) → Changes Pays list now left → CanPay list After n
   pays Active f = (left, out, active Pays f.this, passive Stays f.that)

@@ -1,7 +1,7 @@
 //! What lies in the slot of a cell's table: its two lists.
 
 ghost use Rattle.std.specs.Prelude.{◌≡◌, IfOk, OnErr};
-ghost use Rattle.words_base.specs.Lists.{GoesOn, Joins, Leaves, Pays, PaysAll, nobody};
+ghost use Rattle.words_base.specs.Lists.{HandsOn, Joins, Leaves, Pays, PaysAll, nobody};
 ghost use Rattle.futures.specs.Task.{Keeps};
 ghost use Rattle.lock_queue.specs.Asking.{ByHeard};
 ghost use Rattle.cell_core.specs.Contents.{active_of, passive_of, Says, AreKept, Changes};
@@ -122,7 +122,7 @@ impl Lists {
     }
 
     pub(crate) fn leave(&mut self, list: ListName, id: EntryId) -> (Option<Waker>, Due)
-        ensures { Changes (GoesOn id.number) list self.old self.new }
+        ensures { Changes (HandsOn id.number) list self.old self.new }
     {
         match list {
             ListName::Active => self.active.leave(id),

@@ -6,7 +6,7 @@ use Rattle.slab.specs.Slab.{Slab, get, with_value, slab_len}
 use Rattle.slab.proofs.SlabLemmas.{Updates-with_value, ContainsKey-within}
 use Rattle.lock_event.specs.declared.slots.Node.{Node}
 use Rattle.lock_event.specs.Nodes.{Changes}
-use Rattle.lock_event.specs.Lends.{node_with, put_in, nodes_with}
+use Rattle.lock_event.specs.Lends.{node_with, put_back, nodes_with}
 
 module _ {W : Type 0} where
   put_len : (s : Slab (Node W)) (key : ℕ) (n m : Node W) → get s key ≡ Some n → slab_len (with_value s key m) ≡ slab_len s
@@ -27,4 +27,4 @@ module _ {W : Type 0} where
 
   -- a write through the reference changes what that slot's entry keeps, and nothing else
   pub put_changes : (s : Slab (Node W)) (key : ℕ) (w : Option W) (n : Node W) → get s key ≡ Some n → Changes key (node_with w) s (nodes_with s key w)
-  put_changes s key w n has = subst (λ o. Changes key (node_with w) s (record s { slots = put_in s.slots key w o })) (sym has) (changed s key w n has)
+  put_changes s key w n has = subst (λ o. Changes key (node_with w) s (record s { slots = put_back s.slots key w o })) (sym has) (changed s key w n has)

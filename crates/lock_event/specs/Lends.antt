@@ -14,13 +14,13 @@ module _ {W : Type 0} where
   abbrev pub node_with : Option W → Node W → Node W
   node_with w n = node_of (entry (slot_of n.entry.key.id w) n.entry.mark) n.prev n.next
 
-  abbrev pub put_in : List (Option (Node W)) → ℕ → Option W → Option (Node W) → List (Option (Node W))
-  put_in slots key w None = slots
-  put_in slots key w (Some n) = slice_set slots key (Some (node_with w n))
+  abbrev pub put_back : List (Option (Node W)) → ℕ → Option W → Option (Node W) → List (Option (Node W))
+  put_back slots key w None = slots
+  put_back slots key w (Some n) = slice_set slots key (Some (node_with w n))
 
   -- The nodes where this slot's entry keeps w.
   abbrev pub nodes_with : Slab (Node W) → ℕ → Option W → Slab (Node W)
-  nodes_with s key w = record s { slots = put_in s.slots key w (get s key) }
+  nodes_with s key w = record s { slots = put_back s.slots key w (get s key) }
 
   -- The slots where this one's entry keeps w.
   abbrev pub slots_with : Slots W → ℕ → Option W → Slots W

@@ -15,7 +15,7 @@ use denote.Memory.{mem, part_at}
 use denote.Steps.{nothing}
 use denote.Struct.OwningLaws.{part_out, part_in}
 use Rattle.lock_place.specs.Held.{RoomId, age, held, hold_owns}
-use Rattle.lock_place.specs.Spared.{waits, spare_owns}
+use Rattle.lock_place.specs.Spared.{is_spared_for, spare_owns}
 use Rattle.lock_place.specs.Lent.{spare_with}
 use Rattle.lock_place.specs.contracts.spare.Spare as spare
 use Rattle.lock_place.proofs.Fields.{SpareData}
@@ -69,7 +69,7 @@ module _ (R : RattleType) (s₀ : (spare.the_row R).Denot) (z : RoomId) (same : 
       way : ent 𝓤 (emp 𝓤) ⟦ fwand (fsep (fdead κ) (fseps (Is ∷ []))) (fupd Was) ⟧
       unfolding fseps
       way = qed 𝓛 [] ∵ assume ! (‵ (fsep (fdead κ) (fsep Is ftrue))) $ suffices ! ⟦ Was ⟧ (upd_i 𝓤 ⟦ Was ⟧) $ fsplit3 ! $ move ! (1 ∷ []) $ fpick ! (λ s. fsplit ! $ fpick ! (λ w. fsplit3 ! $ feq_l ! (λ e.
-          rewrite ! 2 (λ (u : Sp.Denot). ‵ (fauth γ (Sp.coded.code u))) e refl $ move ! (1 ∷ []) $ rewrite ! 0 (λ (i : RoomId). ‵ (hold_owns R i w)) (sym same) refl $ fpack ! Bool (waits R s₀.room_id s₀.deed w) true $ move ! (1 ∷ 0 ∷ []) $
+          rewrite ! 2 (λ (u : Sp.Denot). ‵ (fauth γ (Sp.coded.code u))) e refl $ move ! (1 ∷ []) $ rewrite ! 0 (λ (i : RoomId). ‵ (hold_owns R i w)) (sym same) refl $ fpack ! Bool (is_spared_for R s₀.room_id s₀.deed w) true $ move ! (1 ∷ 0 ∷ []) $
           use2 𝓛 (‵ (part_at Sp full_share (F w) b o)) (part_in 𝓛 (spare.the_type R) full_share (F w) b o) $ fjoin ! $ fpack ! Sp.Denot (λ (u : Sp.Denot). fsep ((mem Sp).own_at u b o) (fauth γ (Sp.coded.code u))) (F w) $ keep ! (0 ∷ []) $ done !)))
 
       pub fills : (q : Share) (x : R.Denot) → ent 𝓤 (sep 𝓤 (A.obs γ (Sp.coded.code s₀)) (sep 𝓤 (A.bor κ Was) (sep 𝓤 ⟦ hold_owns R z x ⟧ (A.lft κ q)))) (H.⇛ (sep 𝓤 (A.obs γ (Sp.coded.code (F x))) (sep 𝓤 (A.bor κ Is) (A.lft κ q))))

@@ -6,7 +6,7 @@ use denote.RawPtr.{Ptr}
 use denote.Param.Send.{IsSend, part_keyless}
 use Rattle.lock_place.specs.Held.{RoomId, held, room_owns, hold_owns}
 use Rattle.lock_place.specs.Rests.{rested_owns}
-use Rattle.lock_place.specs.Spared.{waits, spare_owns}
+use Rattle.lock_place.specs.Spared.{is_spared_for, spare_owns}
 use Rattle.std.specs.Prelude.{ℕ, Option, Some, None}
 use mathlib.Core.Bool.{Bool, true, false}
 
@@ -19,7 +19,7 @@ room_keyless R s p z = (tt, ((λ _. tt), held_keyless R s z))
 pub hold_keyless : (R : RattleType) → IsSend R → (z : RoomId) (x : R.Denot) → Keyless (hold_owns R z x)
 hold_keyless R s z x = (tt, held_keyless R s z)
 
-waits_keyless : (R : RattleType) → IsSend R → (z : RoomId) (d : ℕ) (x : R.Denot) (y : Bool) → Keyless (waits R z d x y)
+waits_keyless : (R : RattleType) → IsSend R → (z : RoomId) (d : ℕ) (x : R.Denot) (y : Bool) → Keyless (is_spared_for R z d x y)
 waits_keyless R s z d x true = hold_keyless R s z x
 waits_keyless R s z d x false = (tt, tt)
 

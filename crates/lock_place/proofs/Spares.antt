@@ -19,7 +19,7 @@ use denote.SharingLaws.{some_shr_laws, beside_shr_laws, ends_shr_laws, always_sh
 use denote.Struct.Lending.{Lends}
 use Rattle.lock_place.specs.Held.{RoomId, age, hold_owns}
 use Rattle.lock_place.specs.Rests.{rested_owns, IsRightAt}
-use Rattle.lock_place.specs.Spared.{ticket_owns, waits, spare_owns, spare_shares}
+use Rattle.lock_place.specs.Spared.{ticket_owns, is_spared_for, spare_owns, spare_shares}
 
 pub spare_laws : (R : RattleType) (z : RoomId) (d : ℕ) (v : Option R.Denot) → ShrLaws (spare_shares R z d v)
 spare_laws R z d v = let P : Fml = spare_owns R z d v in
@@ -42,8 +42,8 @@ module _ {M : Type 1} {𝓤 : Ura M} (𝓛 : Logic 𝓤) (R : RattleType) (z : R
     abbrev Got : SProp 𝓤
     Got = sep 𝓤 ⟦ P ⟧ (sep 𝓤 (emp 𝓤) ⟦ hold_owns R z x ⟧)
 
-    swaps : (y : Bool) → ent 𝓤 (sep 𝓤 ⟦ waits R z d x y ⟧ ⟦ ticket_owns d ⟧) (upd 𝓤 Got)
-    swaps true = qed 𝓛 (‵ (hold_owns R z x) ∷ ‵ (ticket_owns d) ∷ []) ∵ suffices ! _ (upd_i 𝓤 Got) $ move ! (1 ∷ []) $ fpack ! Bool (waits R z d x) false $ frame ! $ use0 𝓛 (‵ ftrue) (id⊢ 𝓤 (emp 𝓤)) $ frame ! $ done !
+    swaps : (y : Bool) → ent 𝓤 (sep 𝓤 ⟦ is_spared_for R z d x y ⟧ ⟦ ticket_owns d ⟧) (upd 𝓤 Got)
+    swaps true = qed 𝓛 (‵ (hold_owns R z x) ∷ ‵ (ticket_owns d) ∷ []) ∵ suffices ! _ (upd_i 𝓤 Got) $ move ! (1 ∷ []) $ fpack ! Bool (is_spared_for R z d x) false $ frame ! $ use0 𝓛 (‵ ftrue) (id⊢ 𝓤 (emp 𝓤)) $ frame ! $ done !
     swaps false = out_once 𝓛 d Got
 
     -- the ticket stays behind
@@ -52,7 +52,7 @@ module _ {M : Type 1} {𝓤 : Ura M} (𝓛 : Logic 𝓤) (R : RattleType) (z : R
         suffices ! _ (𝓛.invs.invs_bor_acc n κ₀ s P [] ⟦ hold_owns R z x ⟧ ((λ m. not-mem-nil m), tt)) $ use0 𝓛 (‵ ftrue) (id⊢ 𝓤 (emp 𝓤)) $ move ! (1 ∷ 0 ∷ []) $ fjoin ! $ frame ! $ frame ! $
         assume ! (‵ P ⊛ ‵ ftrue) $ split ! $ keep ! (0 ∷ 2 ∷ []) $ fpick ! (λ y. by ! (swaps y)))
 
-    -- the value of the hold that comes out of where a right rests: the parked one's, or the one that waits in the spare
+    -- the value of the hold that comes out of where a right rests: the parked one's, or the one that is_spared_for in the spare
     abbrev pub woken : Option R.Denot → R.Denot
     woken (Some w) = w
     woken None = x
@@ -79,7 +79,7 @@ module _ {M : Type 1} {𝓤 : Ura M} (𝓛 : Logic 𝓤) (R : RattleType) (z : R
     abbrev Out : SProp 𝓤
     Out = sep 𝓤 (sem 𝓛 (hold_owns R z v)) (sep 𝓤 (sem 𝓛 (ticket_owns d)) (A.lft (age z) full_share))
 
-    finds : (y : Bool) → ent 𝓤 (sep 𝓤 (sem 𝓛 (waits R z d x y)) (sep 𝓤 (sem 𝓛 (hold_owns R z v)) (A.lft (age z) full_share))) (H.⇛ Out)
+    finds : (y : Bool) → ent 𝓤 (sep 𝓤 (sem 𝓛 (is_spared_for R z d x y)) (sep 𝓤 (sem 𝓛 (hold_owns R z v)) (A.lft (age z) full_share))) (H.⇛ Out)
     finds true = one_hold x v Out
     finds false = qed 𝓛 (‵ (ticket_owns d) ∷ ‵ (hold_owns R z v) ∷ ‵ (flft (age z) full_share) ∷ []) {P = H.⇛ Out} (updating ! $ now ! $ move ! (1 ∷ 0 ∷ []) $ done !)
 

@@ -11,12 +11,12 @@ use Rattle.lock_place.specs.Held.{RoomId, hold_owns}
 abbrev pub ticket_owns : ℕ → Fml
 ticket_owns d = out d
 
-abbrev pub waits : (R : RattleType) → RoomId → ℕ → R.Denot → Bool → Fml
-waits R z d x true = hold_owns R z x
-waits R z d x false = ticket_owns d
+abbrev pub is_spared_for : (R : RattleType) → RoomId → ℕ → R.Denot → Bool → Fml
+is_spared_for R z d x true = hold_owns R z x
+is_spared_for R z d x false = ticket_owns d
 
 abbrev pub spare_owns : (R : RattleType) → RoomId → ℕ → Option R.Denot → Fml
-spare_owns R z d (Some x) = fex Bool (waits R z d x)
+spare_owns R z d (Some x) = fex Bool (is_spared_for R z d x)
 spare_owns R z d None = ftrue
 
 abbrev pub spare_shares : (R : RattleType) → RoomId → ℕ → Option R.Denot → Lft → Fml

@@ -1,6 +1,6 @@
 -- What the calls on a list do to those that wait in it.
 use Rattle.words_base.specs.Waiting.{Has, NoneWaits, Fewer, StaysTold, unless, last_of}
-use Rattle.words_base.specs.Lists.{GoesOn, Joins, Leaves, Pays, PaysAll, Stays}
+use Rattle.words_base.specs.Lists.{HandsOn, Joins, Leaves, Pays, PaysAll, Stays}
 use Rattle.std.proofs.Common.{◌≡◌, ◌≢◌, ℕ, ◌+◌, ◌-◌, ◌<◌, ◌≤◌, ◌==◌, ◌||◌, if◌then◌else◌, Bool, true, false, not, List, [], ◌∷◌, ◌++◌, length, refl, sym, ap, ◌∙◌, subst, arith, ◌⊎◌, inl, inr, ⊎_elim, Option, Some, None, Result, Ok, Err, IfOk, eq-eqb, ne_eqb, true≢false}
 use mathlib.Core.Logic.{dite}
 use native.Mathlib.Decide.{ℕ_discrete}
@@ -135,7 +135,7 @@ module _ {W : Type 0} where
   told_without_waker old es t = let w = waits-without_waker es in let m = (waker_size es).1 in
       record { fewer = λ n h. t.fewer n (subst (Has n) w h); settled = ⊎_elim (λ some. inl (omega arith)) (λ none. inr (λ n h. none n (subst (Has n) w h))) t.settled; entries = numbers-without_waker es ∙ t.entries }
 
-  pub left_without_waker : (old es : List (Entry (Slot W))) (k : ℕ) → Becomes (GoesOn k) old es → Becomes (GoesOn k) old (without_waker es)
+  pub left_without_waker : (old es : List (Entry (Slot W))) (k : ℕ) → Becomes (HandsOn k) old es → Becomes (HandsOn k) old (without_waker es)
   left_without_waker old es k t = let w = waits-without_waker es in let m = (waker_size es).1 in record {
     leaves = record { left = λ n h. t.leaves.left n (subst (Has n) w h); entries = numbers-without_waker es ∙ t.leaves.entries };
     told = λ some. ⊎_elim (λ more. inl (omega arith)) (λ none. inr (λ n h. none n (subst (Has n) w h))) (t.told some);
@@ -173,7 +173,7 @@ module _ {W : Type 0} where
   not_there id (e ∷ es) away = gone_head id e es (has_id id e.key) (is_marked e.mark) refl away (not_there id es)
 
   -- it has left, and no entry has the number
-  pub left_once : (id : EntryId) (es new : List (Entry (Slot W))) → new ≡ left (has_id id) es → is_listed (has_id id) new ≡ false → Becomes (GoesOn id.number) es new
+  pub left_once : (id : EntryId) (es new : List (Entry (Slot W))) → new ≡ left (has_id id) es → is_listed (has_id id) new ≡ false → Becomes (HandsOn id.number) es new
   left_once id es new is away =
       let fewer : Less es new = subst (Less es) (sym is) (fewer-left (has_id id) es) in
       record { leaves = record { left = λ n h. (fewer n h, not_there id new away n h); entries = left_by_id id es new is away }; told = subst (λ l. StaysTold (marked_count es) (waiting_in l) (marked_count l)) (sym is) (told-left (has_id id) es) }

@@ -6,11 +6,11 @@ use Rattle.futures.specs.declared.task.waker.Origin.{Origin}
 use Rattle.futures.specs.declared.task.waker.Waker.{Waker}
 use Rattle.async_driver.specs.Tasks.{woken_by}
 use Rattle.lock_queue.proofs.Keeping.{same_task}
-use Rattle.lock_queue.specs.Receipts.{IsKept}
+use Rattle.lock_queue.specs.Receipts.{IsWakerFor}
 use Rattle.lock_queue.specs.declared.whose.Whose.{Whose}
 
 pub is_kept : (old new : Context) (waker : Option Waker) (whose : Whose) → Keeps old new → whose.task ≡ woken_by waker
-    → (new.lacks_waker ≡ true) ⊎ IsSomeAnd waker (λ w. Wakes w old) → IsKept new whose
+    → (new.lacks_waker ≡ true) ⊎ IsSomeAnd waker (λ w. Wakes w old) → IsWakerFor new whose
 is_kept old new waker whose kept of (inl lacks) = inl lacks
 is_kept old new None whose kept of (inr wakes) = absurd wakes
 is_kept old new (Some w) whose kept of (inr wakes) =

@@ -16,9 +16,9 @@ abbrev pub KeepsAt : EntryId → Whose → List (Entry (Slot Waker)) → Type 0
 KeepsAt id whose es = whose.task ≡ woken_by (waker_at id es)
 
 -- what is kept is of the task that the context polls, unless no waker could be made, and the task is polled again without
-abbrev pub IsKept : Context → Whose → Type 0
-IsKept cx whose = (cx.lacks_waker ≡ true) ⊎ IsSomeAnd whose.task (IsPolledBy cx)
+abbrev pub IsWakerFor : Context → Whose → Type 0
+IsWakerFor cx whose = (cx.lacks_waker ≡ true) ⊎ IsSomeAnd whose.task (IsPolledBy cx)
 
 -- an entry keeps a waker of the task that the context polls, and the task has registered with this source
 abbrev pub IsReceipt : ℕ → Context → Whose → Type 0
-IsReceipt source cx whose = IsKept cx whose × Covers cx (λ s. s ≡ source)
+IsReceipt source cx whose = IsWakerFor cx whose × Covers cx (λ s. s ≡ source)

@@ -8,7 +8,7 @@ ghost use Rattle.lock_queue.specs.Asking.{ByHeard};
 ghost use Rattle.lock_queue.specs.Queues.{Becomes};
 ghost use Rattle.lock_queue.specs.Receipts.{KeepsAt, IsReceipt};
 ghost use Rattle.lock_queue.specs.Sizes.{IsOneMore, IsOneNotified, IsSameSize, StaysNotified};
-ghost use Rattle.words_base.specs.Lists.{GoesOn, Joins, Leaves, Pays, PaysAll, Stays};
+ghost use Rattle.words_base.specs.Lists.{HandsOn, Joins, Leaves, Pays, PaysAll, Stays};
 
 use crate::due::{AllDue, Due};
 use crate::heard::Heard;
@@ -100,7 +100,7 @@ pub(crate) fn next_due(event: &mut Event<Waker>) -> Option<Waker>
 
 // An entry leaves: what it kept, and the waker that is due.
 pub(crate) fn leave(event: &mut Event<Waker>, id: EntryId) -> (Option<Waker>, Option<Waker>)
-    ensures { Becomes (GoesOn id.number) event.old.entries event.new.entries × StaysNotified event.old.entries event.new.entries }
+    ensures { Becomes (HandsOn id.number) event.old.entries event.new.entries × StaysNotified event.old.entries event.new.entries }
 {
     let kept = event.withdraw(id);
     (kept, event.next_waker())

@@ -6,7 +6,7 @@ ghost use Rattle.lock_queue.specs.Asking.{ByHeard};
 ghost use Rattle.lock_queue.specs.Queues.{entries_of, listed_in};
 ghost use Rattle.lock_queue.specs.Receipts.{KeepsAt, IsReceipt};
 ghost use Rattle.lock_queue.specs.Sizes.{IsOneMore, IsOneNotified, IsSameSize, StaysNotified};
-ghost use Rattle.words_base.specs.Lists.{GoesOn, Joins, Leaves, Pays, PaysAll, Stays};
+ghost use Rattle.words_base.specs.Lists.{HandsOn, Joins, Leaves, Pays, PaysAll, Stays};
 
 use crate::due::{AllDue, Due};
 use crate::heard::Heard;
@@ -149,7 +149,7 @@ impl Queue {
 
     /// An entry leaves: what it kept, and the waker that is due.
     pub fn leave(&mut self, id: EntryId) -> (Option<Waker>, Due)
-        ensures { GoesOn id.number (listed_in self.old) (listed_in self.new) × StaysNotified (entries_of self.old) (entries_of self.new) }
+        ensures { HandsOn id.number (listed_in self.old) (listed_in self.new) × StaysNotified (entries_of self.old) (entries_of self.new) }
     {
         match &mut self.entries {
             Some(event) => {

@@ -17,7 +17,7 @@ use Rattle.lockrun_script.specs.Lines.{lines_of, words_of, is_byte, IsPrintable,
 use Rattle.lock_program.specs.declared.refusal.Refusal.{Refusal}
 use Rattle.lock_program.specs.declared.refusal.Refusal.TheVariants.{Permits}
 use Rattle.lockrun_play.specs.Openings.{world_of, HasTooManyPermits, IsRefusedFor}
-use Rattle.lockrun_play.specs.Plays.{Leads, Makes, Plays, PlaysLine, IsPlayed}
+use Rattle.lockrun_play.specs.Plays.{LeadsTo, Makes, Plays, PlaysLine, IsPlayed}
 use Rattle.lockrun_play.proofs.Texts.{Appends-more}
 
 -- of nothing
@@ -26,8 +26,8 @@ Appends-nothing None = tt
 Appends-nothing (Some xs) = sym (append-nil xs)
 
 -- a new World that is made, or refused by its number, is told of
-pub leads_new : {A E : Type 0} (model : Model) (command : Command) (old new : Option World) (before after : Option (List ℕ)) (r : Result A E) → command ≡ New model → OnOk r ((text : List ℕ) × Makes model old new text × Appends before after (text ++ 10 ∷ [])) → OnOk r ((text : List ℕ) × Leads command old new text × Appends before after (text ++ 10 ∷ []))
-leads_new model command old new before after (Ok v) c (text, m, p) = (text, subst (λ k. Leads k old new text) (sym c) m, p)
+pub leads_new : {A E : Type 0} (model : Model) (command : Command) (old new : Option World) (before after : Option (List ℕ)) (r : Result A E) → command ≡ New model → OnOk r ((text : List ℕ) × Makes model old new text × Appends before after (text ++ 10 ∷ [])) → OnOk r ((text : List ℕ) × LeadsTo command old new text × Appends before after (text ++ 10 ∷ []))
+leads_new model command old new before after (Ok v) c (text, m, p) = (text, subst (λ k. LeadsTo k old new text) (sym c) m, p)
 leads_new model command old new before after (Err e) c h = tt
 
 -- one that is made
@@ -41,7 +41,7 @@ made_none model refusal n old before after (Ok v) h e f p = (codes "refused " ++
 made_none model refusal n old before after (Err w) h e f p = tt
 
 -- a line whose command leads so is played
-pub answered : {A E : Type 0} (line : List ℕ) (command : Command) (old new : Option World) (before after : Option (List ℕ)) (r : Result A E) → Asks (words_of line) command → IsPrintable line → IsTrimmed line → OnOk r ((text : List ℕ) × Leads command old new text × Appends before after (text ++ 10 ∷ [])) → OnOk r ((bytes : List ℕ) × PlaysLine line old new bytes × Appends before after bytes)
+pub answered : {A E : Type 0} (line : List ℕ) (command : Command) (old new : Option World) (before after : Option (List ℕ)) (r : Result A E) → Asks (words_of line) command → IsPrintable line → IsTrimmed line → OnOk r ((text : List ℕ) × LeadsTo command old new text × Appends before after (text ++ 10 ∷ [])) → OnOk r ((bytes : List ℕ) × PlaysLine line old new bytes × Appends before after bytes)
 answered line command old new before after (Ok v) a p t (text, leads, appended) = (
   text ++ 10 ∷ [],
   inr (record { asked = record { command = command; asks = a; printable = p; trimmed = t }; text = text; leads = leads; printed = refl }),

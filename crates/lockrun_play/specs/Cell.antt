@@ -12,12 +12,12 @@ use Rattle.lockrun_play.specs.Answers.{list_text}
 use Rattle.lockrun_play.specs.States.{cell_text}
 
 -- a value takes the place of the one in the cell, if there is one, exactly where nobody is inside a call
-abbrev pub put_in : Option ℕ → World → ℕ → Reply × World
-put_in (Some found) w v = (Done, world_with w (Some v))
-put_in None w v = (Nothing, world_with w None)
+abbrev pub value_put : Option ℕ → World → ℕ → Reply × World
+value_put (Some found) w v = (Done, world_with w (Some v))
+value_put None w v = (Nothing, world_with w None)
 
 abbrev pub put_gives : World → ℕ → Reply × World
-put_gives w v = if is_at_rest w then put_in (value_in w.cell) w v else (NotPossible, w)
+put_gives w v = if is_at_rest w then value_put (value_in w.cell) w v else (NotPossible, w)
 
 -- the value is taken out, if there is one, exactly where nobody is inside a call
 abbrev pub reply_of : Option ℕ → Reply

@@ -19,16 +19,16 @@ Makes model old new text = ((¬ HasTooManyPermits model) × (new ≡ Some (world
     ⊎ (HasTooManyPermits model × (new ≡ old) × (text ≡ codes "refused " ++ decimal 4))
 
 -- a command leads from the World that stands, if one does, to another, and is answered by this text; where none stands only a new one can be asked for
-abbrev pub Leads : Command → Option World → Option World → List ℕ → Type 0
-Leads (New model) old new text = Makes model old new text
-Leads (On request) None new text = ⊥
-Leads (On request) (Some old) new text = (v : World) × (new ≡ Some v) × CarriesOut request old v text
+abbrev pub LeadsTo : Command → Option World → Option World → List ℕ → Type 0
+LeadsTo (New model) old new text = Makes model old new text
+LeadsTo (On request) None new text = ⊥
+LeadsTo (On request) (Some old) new text = (v : World) × (new ≡ Some v) × CarriesOut request old v text
 
 -- the line asks for a command that leads so, and the answer is printed with a line feed, the byte 10
 pub record IsAnswered (line : List ℕ) (old new : Option World) (bytes : List ℕ) : Type 0 where
   pub asked : IsCommand line
   pub text : List ℕ
-  pub leads : Leads asked.command old new text
+  pub leads : LeadsTo asked.command old new text
   pub printed : bytes ≡ text ++ 10 ∷ []
 
 -- the line is skipped: nothing is printed, and nothing changes

@@ -3,7 +3,7 @@
 ghost use Rattle.std.specs.Prelude.{◌≡◌, ◌≢◌, ◌⊎◌, ◌+◌, ◌<◌, ◌≤◌, ◌++◌, ℕ, List, [], ◌∷◌, All, length, vec_len, Some, None, Ok, Err, IsOk, IsErr, IfOk, IfErr, OnOk, OnErr, IfSome};
 ghost use Rattle.std.specs.Io.{StartsWith, appended_bytes};
 ghost use Rattle.std.specs.Io.KnownBytes.{Appends, Consumes, IsAtEnd, Keeps};
-ghost use Rattle.lockrun_play.specs.Plays.{IsAtFault, IsBad, IsPlayed, Leads, Makes, PlaysLine, PrintsThis, Tells, TellsOfLine};
+ghost use Rattle.lockrun_play.specs.Plays.{IsAtFault, IsBad, IsPlayed, LeadsTo, Makes, PlaysLine, PrintsThis, Tells, TellsOfLine};
 ghost use Rattle.lockrun_play.specs.Scripts.{IsLine, IsScript, IsStartOfScript};
 ghost use Rattle.lockrun_script.specs.Lines.{lines_of};
 ghost use Rattle.lockrun_script.specs.declared.command.Command.TheVariants.{On};
@@ -233,7 +233,7 @@ fn answer_command<O: Write>(
     world: &mut Option<World>,
     output: &mut O,
 ) -> Result<(), Fault>
-    ensures leads { OnOk result ((text : List ℕ) × Leads command world.old world.new text
+    ensures leads { OnOk result ((text : List ℕ) × LeadsTo command world.old world.new text
         × Appends (O.contents output.old) (O.contents output.new) (text ++ 10 ∷ [])) }
     ensures fault { IfErr result (λ fault.
         TellsOfLine (λ n. (n ≡ number) × ((request : Request) × (command ≡ On request) × (world.old ≡ None))) fault

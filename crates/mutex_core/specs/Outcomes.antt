@@ -44,13 +44,13 @@ IsBySeat seat (Waits waiting) = IsSameSeat seat waiting.seat
 IsBySeat seat (Refused refusal) = ⊤
 
 -- What was known of when a party first waited is known still.
-abbrev pub IsKept : Option Instant → Option Instant → Type 0
-IsKept None since = ⊤
-IsKept (Some then) since = since ≡ Some then
+abbrev pub IsStillKnown : Option Instant → Option Instant → Type 0
+IsStillKnown None since = ⊤
+IsStillKnown (Some then) since = since ≡ Some then
 
 -- Whoever waits, and isn't counted as starved, waits since then.
 abbrev pub WaitsSince : {T : Type 0} → Option Instant → Outcome T → Type 0
-WaitsSince then (Waits waiting) = waiting.is_starved ≡ false → IsKept then waiting.since
+WaitsSince then (Waits waiting) = waiting.is_starved ≡ false → IsStillKnown then waiting.since
 WaitsSince then outcome = ⊤
 
 -- A poll by this seat went so, and the task's context was kept.

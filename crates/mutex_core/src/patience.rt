@@ -4,7 +4,7 @@ ghost use Rattle.std.specs.Prelude.{◌≡◌, ◌⊎◌, true, false};
 ghost use Rattle.lock_program.specs.declared.mutex.Found.TheVariants as finds;
 ghost use Rattle.lock_program.specs.declared.mutex.Place.TheVariants as at;
 ghost use Rattle.mutex_core.specs.Locks.{IsOf, goes, with_got, with_held, with_look};
-ghost use Rattle.mutex_core.specs.Outcomes.{IsKept, IsRightOf};
+ghost use Rattle.mutex_core.specs.Outcomes.{IsStillKnown, IsRightOf};
 ghost use Rattle.lock_program.specs.declared.end.Next.TheVariants.{Do};
 ghost use Rattle.words_base.specs.Tries.{OnTaking};
 
@@ -58,7 +58,7 @@ pub(crate) fn now<R: Clock>(rt: &R) -> Option<Instant> {
 // When a party first waited, which waits now.
 #[inline]
 pub(crate) fn first_of<R: Clock>(rt: &R, since: Option<Instant>) -> Option<Instant>
-    ensures { IsKept since result }
+    ensures { IsStillKnown since result }
 {
     match since {
         Some(since) => Some(since),

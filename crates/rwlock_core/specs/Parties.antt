@@ -87,11 +87,11 @@ abbrev pub WritesOn : WaitsFor → Writer → Type 0
 WritesOn (Turn w) writer = turn.IsSameSeat w.seat writer.turn.seat
 WritesOn (Readers w held) writer = IsSeatOf w.seat writer.seat × (writer.turn ≡ held)
 
-abbrev pub WaitsOn : WaitsFor → WaitsFor → Type 0
-WaitsOn (Turn w) (Turn v) = turn.IsSameSeat w.seat v.seat
-WaitsOn (Turn w) (Readers v held) = turn.IsSameSeat w.seat held.seat
-WaitsOn (Readers w held) (Readers v still) = IsSeatOf w.seat v.seat × (still ≡ held)
-WaitsOn (Readers w held) (Turn v) = ⊥
+abbrev pub GoesOnFrom : WaitsFor → WaitsFor → Type 0
+GoesOnFrom (Turn w) (Turn v) = turn.IsSameSeat w.seat v.seat
+GoesOnFrom (Turn w) (Readers v held) = turn.IsSameSeat w.seat held.seat
+GoesOnFrom (Readers w held) (Readers v still) = IsSeatOf w.seat v.seat × (still ≡ held)
+GoesOnFrom (Readers w held) (Turn v) = ⊥
 
 abbrev pub IsSameSeat : Seated → Begun → Type 0
 IsSameSeat s (Writes w) = IsSeatOf s w.seat

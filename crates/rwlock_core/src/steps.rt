@@ -14,7 +14,7 @@ ghost use Rattle.sync_program.specs.declared.rwlock.Place.TheVariants as at;
 ghost use Rattle.mutex_core.specs.Courses.{IsOutside};
 ghost use Rattle.mutex_core.specs.Locks.{IsOf as IsTurnOf};
 ghost use Rattle.mutex_core.specs.Outcomes.{IsHeldOf};
-ghost use Rattle.access_core.specs.Accesses.{IsOf, IsIdle, IsReading, IsMarking, IsWriting, MayJoin, Stands, with_found, with_saw_writer, with_saw_readers, with_reading, with_writing, with_down, with_unmarked, with_joined, with_told, with_gone, with_paid};
+ghost use Rattle.access_core.specs.Accesses.{IsOf, IsIdle, IsReading, IsMarking, IsWriting, MayJoin, StandsIn, with_found, with_saw_writer, with_saw_readers, with_reading, with_writing, with_down, with_unmarked, with_joined, with_told, with_gone, with_paid};
 ghost use Rattle.access_core.specs.Found.{OnEntering, OnLeft, OnReaders};
 ghost use Rattle.rwlock_core.specs.Courses.{IsAt, Goes, HasLeftLast, asks, joins, leaves, next_in};
 
@@ -323,7 +323,7 @@ impl RawRwLock {
     ) -> Option<Whose>
         requires of { IsOf self.now.access seat.old }
         requires course { IsAt at (asks side) course.old }
-        requires stands { Stands side id.number seat.old }
+        requires stands { StandsIn side id.number seat.old }
         requires looked { seat.old.fresh ≡ false }
         ensures told { IfNone result ((seat.new ≡ with_told side seat.old) × (cx.new ≡ cx.old) × Goes at finds.Yes course.new) }
         ensures waits { IfSome result (λ whose. (seat.new ≡ seat.old) × IsReceipt self.now.access.source cx.new whose × Goes at finds.No course.new) }
@@ -354,7 +354,7 @@ impl RawRwLock {
     ) -> bool
         requires of { IsOf self.now.access seat.old }
         requires course { IsAt at (asks side) course.old }
-        requires stands { Stands side joined.now.id.number seat.old }
+        requires stands { StandsIn side joined.now.id.number seat.old }
         requires looked { seat.old.fresh ≡ false }
         ensures { MatchBool result ((seat.new ≡ seat.old) × Goes at finds.No course.new) ((seat.new ≡ with_told side seat.old) × Goes at finds.Yes course.new) }
     {
@@ -379,7 +379,7 @@ impl RawRwLock {
     )
         requires of { IsOf self.now.access seat.old }
         requires course { IsAt at (leaves side) course.old }
-        requires stands { Stands side id.number seat.old }
+        requires stands { StandsIn side id.number seat.old }
         ensures step { seat.new ≡ with_gone side seat.old }
         ensures goes { Goes at finds.Done course.new }
     {

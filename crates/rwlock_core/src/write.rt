@@ -13,7 +13,7 @@ ghost use Rattle.lock_program.specs.declared.end.Next.TheVariants as next;
 ghost use Rattle.sync_program.specs.declared.rwlock.Place.TheVariants as at;
 ghost use Rattle.rwlock_core.specs.Courses.{next_in, without_memory};
 ghost use Rattle.rwlock_core.specs.Outcomes.{OnAwaited, OnOutcome, IsUpgradableRefusal, IsWriteRefusal};
-ghost use Rattle.rwlock_core.specs.Parties.{AreSeatsOf, HasTurn, IsTaking, WaitsAs, WaitsOn, WritesAs, WritesOn, IsDowngradingOf, IsReaderOf, IsUpgradableLetIn, IsUpgradableOf, IsWriterOf, WaitsAt, HasReceipt};
+ghost use Rattle.rwlock_core.specs.Parties.{AreSeatsOf, HasTurn, IsTaking, WaitsAs, GoesOnFrom, WritesAs, WritesOn, IsDowngradingOf, IsReaderOf, IsUpgradableLetIn, IsUpgradableOf, IsWriterOf, WaitsAt, HasReceipt};
 ghost use Rattle.rwlock_core.specs.Vain.{IsVainUpgradable, IsVainWrite};
 
 use crate::course::Course;
@@ -270,7 +270,7 @@ impl RawRwLock {
     ) -> Outcome<Writer, WaitsFor>
         requires { WaitsAt self.now waits }
         ensures outcome { OnOutcome result (IsWriterOf self.now) (λ waits. WaitsAt self.now waits × HasReceipt self.now cx.new waits) IsWriteRefusal }
-        ensures same { OnOutcome result (WritesOn waits) (WaitsOn waits) (λ _. ⊤) }
+        ensures same { OnOutcome result (WritesOn waits) (GoesOnFrom waits) (λ _. ⊤) }
         ensures kept { Keeps cx.old cx.new }
     {
         match waits {

@@ -19,7 +19,7 @@ use Rattle.words_base.specs.Sums.{weight, number}
 use Rattle.words_permits.specs.Waiters.{Waiter, waiter, is_of, StandsIn, HasNo, all_but}
 use Rattle.words_base.specs.Waiting.{unless}
 use Rattle.words_permits.proofs.Owners.{all-stay}
-use Rattle.semaphore_core.specs.Entries.{waiters_in, HasJoined, HasLeft, IsGone, IsSame, IsTold}
+use Rattle.semaphore_core.specs.Entries.{waiters_in, HasJoined, HasLeft, IsGone, IsUnchanged, IsTold}
 
 apart : (a b : Bool) → (a || b) ≡ false → (a ≡ false) × (b ≡ false)
 apart true b h = absurd (cc)
@@ -55,13 +55,13 @@ module _ {W : Type 0} where
       by r true is = ap (λ (n : ℕ). waiter n (weight_of e.key) ∷ waiters_in es) (sym (eqb-true e.key.id.number id.number is))
       by r false is = ap (λ (l : List Waiter). waiter e.key.id.number (weight_of e.key) ∷ l) r
 
-  pub same-keyed : (old new : List (Entry (Slot (Load W)))) (id : EntryId) (w : Option W) → new ≡ with_key (has_id id) (laden id (weight_at id old) w) old → IsSame old new
+  pub same-keyed : (old new : List (Entry (Slot (Load W)))) (id : EntryId) (w : Option W) → new ≡ with_key (has_id id) (laden id (weight_at id old) w) old → IsUnchanged old new
   same-keyed old new id w is = (ap waiters_in is ∙ waiters-with_key old id w, ap marked_count is ∙ marked_count-with_key (has_id id) (laden id (weight_at id old) w) old)
 
-  pub same-twice : (old mid new : List (Entry (Slot (Load W)))) → IsSame old mid → IsSame mid new → IsSame old new
+  pub same-twice : (old mid new : List (Entry (Slot (Load W)))) → IsUnchanged old mid → IsUnchanged mid new → IsUnchanged old new
   same-twice old mid new a b = (b.0 ∙ a.0, b.1 ∙ a.1)
 
-  pub joined-keyed : (old mid new : List (Entry (Slot (Load W)))) (n k : ℕ) → HasJoined old mid n k → IsSame mid new → HasJoined old new n k
+  pub joined-keyed : (old mid new : List (Entry (Slot (Load W)))) (n k : ℕ) → HasJoined old mid n k → IsUnchanged mid new → HasJoined old new n k
   joined-keyed old mid new n k a b = (b.0 ∙ a.0, b.1 ∙ a.1, a.2)
 
   -- ---- leaving

@@ -1,8 +1,8 @@
 -- What is known of a list that is about to be given back.
 use Rattle.std.proofs.Common.{◌≡◌, ℕ, ◌<◌, ◌≤◌, Bool, true, false, List, [], ◌∷◌, ◌++◌, refl, sym, ap, ◌∙◌, subst, Result, Ok, Err, IfOk, OnErr, MatchBool, MatchResult}
 use Rattle.atomic_table.specs.Table.{Me, rest}
-use Rattle.words_permits.specs.Steps.{Says, IsHeld, CanJoin, CanHear, CanLeave, CanPay, CanStay, Has}
-use Rattle.words_permits.specs.Waiters.{Waiter, waiter, StandsIn, HasNo, all_but, IsSound}
+use Rattle.words_permits.specs.Steps.{Says, IsHeld, CanJoin, CanHear, CanLeave, CanPay, CanStay, Out}
+use Rattle.words_permits.specs.Waiters.{Waiter, waiter, StandsIn, HasNo, all_but, AreWaiters}
 use Rattle.words_permits.specs.declared.view.View.{View}
 use Rattle.words_base.proofs.Holding.{same_out}
 use Rattle.lock_queue.specs.Asking.{ByHeard}
@@ -24,13 +24,13 @@ module _ {S : Type 0} (waiters_of : S → List Waiter) (marked_of : S → ℕ) (
   marked-now : (now : S) → m.1 ≡ (0, now) ∷ rest m.1 → marked_of now ≡ m.0.marked
   marked-now now e = ap marked_of (sym (same now e)) ∙ sym held.3
 
-  sound-now : (now : S) → m.1 ≡ (0, now) ∷ rest m.1 → IsSound (waiters_of now)
-  sound-now now e = subst (λ (l : S). IsSound (waiters_of l)) (same now e) held.5
+  sound-now : (now : S) → m.1 ≡ (0, now) ∷ rest m.1 → AreWaiters (waiters_of now)
+  sound-now now e = subst (λ (l : S). AreWaiters (waiters_of l)) (same now e) held.5
 
   abbrev After : S → Me S View
   After left = (m.0, (0, left) ∷ rest m.1)
 
-  has : (left : S) (n : ℕ) → Says (waiters_of left) n → Has waiters_of marked_of (After left) n left
+  has : (left : S) (n : ℕ) → Says (waiters_of left) n → Out waiters_of marked_of (After left) n left
   has left n says = (held.1, refl, says)
 
   pub stays : (now left : S) (n : ℕ) → m.1 ≡ (0, now) ∷ rest m.1 → Says (waiters_of left) n → (waiters_of left ≡ waiters_of now) × (marked_of left ≡ marked_of now) → CanStay waiters_of marked_of (After left) n
@@ -61,7 +61,7 @@ module _ {S : Type 0} (waiters_of : S → List Waiter) (marked_of : S → ℕ) (
   pays available now left n e says f = (left, has left n says, f.0 ∙ waiters-now now e, subst (λ (k : ℕ). k ≤ marked_of left) (marked-now now e) f.1, f.2, (λ before after. f.3 (marked-now now e ∙ before) after))
 
   abbrev Goes : S → S → ℕ → Type 0
-  Goes now left entry = IsSound (waiters_of now) → waiters_of left ≡ all_but entry (waiters_of now)
+  Goes now left entry = AreWaiters (waiters_of now) → waiters_of left ≡ all_but entry (waiters_of now)
 
   goes : (entry : ℕ) (now left : S) → m.1 ≡ (0, now) ∷ rest m.1 → Goes now left entry → waiters_of left ≡ all_but entry m.0.waiters
   goes entry now left e f = f (sound-now now e) ∙ ap (all_but entry) (waiters-now now e)

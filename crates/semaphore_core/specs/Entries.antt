@@ -5,7 +5,7 @@ use Rattle.weighted_event.specs.Loads.{weight_of}
 use Rattle.lock_event.specs.declared.event.Entry.{Entry}
 use Rattle.lock_event.specs.declared.event.Slot.{Slot}
 use Rattle.weighted_event.specs.declared.weighted.Load.{Load}
-use Rattle.words_permits.specs.Waiters.{Waiter, waiter, StandsIn, HasNo, all_but, IsSound}
+use Rattle.words_permits.specs.Waiters.{Waiter, waiter, StandsIn, HasNo, all_but, AreWaiters}
 
 module _ {W : Type 0} where
   -- who stands in the entries
@@ -19,12 +19,12 @@ module _ {W : Type 0} where
     HasJoined entry k = (waiters_in new ≡ waiters_in old ++ waiter entry k ∷ []) × (marked_count new ≡ marked_count old) × HasNo entry (waiters_in old)
 
     -- The same stand in the list, and as many are notified.
-    abbrev pub IsSame : Type 0
-    IsSame = (waiters_in new ≡ waiters_in old) × (marked_count new ≡ marked_count old)
+    abbrev pub IsUnchanged : Type 0
+    IsUnchanged = (waiters_in new ≡ waiters_in old) × (marked_count new ≡ marked_count old)
 
     -- The entry of this number has left, and each other stands where it did, if no two had one number.
     abbrev pub IsGone : ℕ → Type 0
-    IsGone entry = IsSound (waiters_in old) → waiters_in new ≡ all_but entry (waiters_in old)
+    IsGone entry = AreWaiters (waiters_in old) → waiters_in new ≡ all_but entry (waiters_in old)
 
     -- This entry has left, which was not notified.
     abbrev pub HasLeft : ℕ → Type 0

@@ -5,7 +5,7 @@ ghost use Rattle.futures.specs.Task.{Keeps};
 ghost use Rattle.lock_event.specs.Lists.{is_marked_at, is_waiting_at};
 ghost use Rattle.lock_event.specs.Slots.{has_id};
 ghost use Rattle.lock_queue.specs.Asking.{ByHeard};
-ghost use Rattle.semaphore_core.specs.Entries.{HasJoined, HasLeft, IsGone, IsSame, IsTold};
+ghost use Rattle.semaphore_core.specs.Entries.{HasJoined, HasLeft, IsGone, IsUnchanged, IsTold};
 ghost use Rattle.lock_queue.specs.Receipts.{IsReceipt};
 ghost use Rattle.semaphore_core.specs.Receipts.{KeepsAt};
 
@@ -53,7 +53,7 @@ fn keep(
     cx: &mut Context<'_>,
 ) -> Whose
     requires { is_waiting_at (has_id id) event.old.entries ≡ true }
-    ensures same { IsSame event.old.entries event.new.entries }
+    ensures same { IsUnchanged event.old.entries event.new.entries }
     ensures keeps { KeepsAt id result event.new.entries × IsReceipt source.now.id cx.new result }
     ensures kept { Keeps cx.old cx.new }
 {
@@ -92,7 +92,7 @@ pub(crate) fn ask(
     cx: &mut Context<'_>,
 ) -> Heard<Whose>
     ensures answer { ByHeard result ⊤ (λ _. is_marked_at (has_id id) event.old.entries ≡ false) }
-    ensures asked { ByHeard result (IsGone event.old.entries event.new.entries id.number) (λ _. IsSame event.old.entries event.new.entries) }
+    ensures asked { ByHeard result (IsGone event.old.entries event.new.entries id.number) (λ _. IsUnchanged event.old.entries event.new.entries) }
     ensures waits { ByHeard result (cx.new ≡ cx.old) (λ whose. KeepsAt id whose event.new.entries × IsReceipt source.now.id cx.new whose) }
     ensures kept { Keeps cx.old cx.new }
 {
@@ -112,7 +112,7 @@ fn ask_apart(
     cx: &mut Context<'_>,
 ) -> Heard<Whose>
     ensures answer { ByHeard result ⊤ (λ _. is_marked_at (has_id id) event.old.entries ≡ false) }
-    ensures asked { ByHeard result (IsGone event.old.entries event.new.entries id.number) (λ _. IsSame event.old.entries event.new.entries) }
+    ensures asked { ByHeard result (IsGone event.old.entries event.new.entries id.number) (λ _. IsUnchanged event.old.entries event.new.entries) }
     ensures waits { ByHeard result (cx.new ≡ cx.old) (λ whose. KeepsAt id whose event.new.entries × IsReceipt source.now.id cx.new whose) }
     ensures kept { Keeps cx.old cx.new }
 {
@@ -133,7 +133,7 @@ fn ask_apart(
 // The same, of an entry that keeps the waker that it has.
 pub(crate) fn ask_again(event: &mut WeightedEvent<Waker>, id: EntryId) -> Heard<()>
     ensures answer { ByHeard result ⊤ (λ _. is_marked_at (has_id id) event.old.entries ≡ false) }
-    ensures asked { ByHeard result (IsGone event.old.entries event.new.entries id.number) (λ _. IsSame event.old.entries event.new.entries) }
+    ensures asked { ByHeard result (IsGone event.old.entries event.new.entries id.number) (λ _. IsUnchanged event.old.entries event.new.entries) }
 {
     if event.contains(id) && !event.is_notified(id) {
         return Heard::Waits(());

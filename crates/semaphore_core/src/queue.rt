@@ -5,7 +5,7 @@ ghost use Rattle.futures.specs.Task.{Keeps};
 ghost use Rattle.lock_event.specs.Lists.{is_marked_at};
 ghost use Rattle.lock_event.specs.Slots.{has_id};
 ghost use Rattle.lock_queue.specs.Asking.{ByHeard};
-ghost use Rattle.semaphore_core.specs.Entries.{HasJoined, HasLeft, IsGone, IsSame, IsTold, waiters_in};
+ghost use Rattle.semaphore_core.specs.Entries.{HasJoined, HasLeft, IsGone, IsUnchanged, IsTold, waiters_in};
 ghost use Rattle.semaphore_core.specs.Queues.{entries_of};
 ghost use Rattle.lock_queue.specs.Receipts.{IsReceipt};
 ghost use Rattle.semaphore_core.specs.Receipts.{KeepsAt};
@@ -92,7 +92,7 @@ impl Queue {
     // An entry joins at the back for so many permits, with no waker.
     pub(crate) fn join(&mut self, alloc: Global, permits: u64) -> Result<EntryId, Memory>
         ensures joined { IfOk result (λ id. HasJoined (entries_of self.old) (entries_of self.new) id.number permits) }
-        ensures refused { OnErr result (IsSame (entries_of self.old) (entries_of self.new)) }
+        ensures refused { OnErr result (IsUnchanged (entries_of self.old) (entries_of self.new)) }
     {
         match self.make(alloc) {
             Ok(()) => self.join_made(permits),
@@ -127,7 +127,7 @@ impl Queue {
         cx: &mut Context<'_>,
     ) -> Result<(EntryId, Whose), Memory>
         ensures joined { IfOk result (λ joined. HasJoined (entries_of self.old) (entries_of self.new) joined.0.number permits) }
-        ensures refused { OnErr result (IsSame (entries_of self.old) (entries_of self.new)) }
+        ensures refused { OnErr result (IsUnchanged (entries_of self.old) (entries_of self.new)) }
         ensures keeps { IfOk result (λ joined. KeepsAt joined.0 joined.1 (entries_of self.new) × IsReceipt source.now.id cx.new joined.1) }
         ensures kept { Keeps cx.old cx.new }
     {
@@ -161,7 +161,7 @@ impl Queue {
     // An entry asks for its notification. One that waits keeps a waker of the task of `cx`, which registers with `source`.
     pub(crate) fn ask(&mut self, id: EntryId, source: &Source, cx: &mut Context<'_>) -> Heard<Whose>
         ensures answer { ByHeard result ⊤ (λ _. is_marked_at (has_id id) (entries_of self.old) ≡ false) }
-        ensures asked { ByHeard result (IsGone (entries_of self.old) (entries_of self.new) id.number) (λ _. IsSame (entries_of self.old) (entries_of self.new)) }
+        ensures asked { ByHeard result (IsGone (entries_of self.old) (entries_of self.new) id.number) (λ _. IsUnchanged (entries_of self.old) (entries_of self.new)) }
         ensures waits { ByHeard result (cx.new ≡ cx.old) (λ whose. KeepsAt id whose (entries_of self.new) × IsReceipt source.now.id cx.new whose) }
         ensures kept { Keeps cx.old cx.new }
     {
@@ -174,7 +174,7 @@ impl Queue {
     // The same, of an entry that keeps what it has.
     pub(crate) fn ask_again(&mut self, id: EntryId) -> Heard<()>
         ensures answer { ByHeard result ⊤ (λ _. is_marked_at (has_id id) (entries_of self.old) ≡ false) }
-        ensures asked { ByHeard result (IsGone (entries_of self.old) (entries_of self.new) id.number) (λ _. IsSame (entries_of self.old) (entries_of self.new)) }
+        ensures asked { ByHeard result (IsGone (entries_of self.old) (entries_of self.new) id.number) (λ _. IsUnchanged (entries_of self.old) (entries_of self.new)) }
     {
         match &mut self.entries {
             Some(event) => list::ask_again(event, id),

@@ -70,5 +70,5 @@ pub record IsRow (weights : List ℕ) (items : List (Option Item)) (places : Lis
   pub room : length items ≡ 2 * length places
 
 -- And there are no more items than keys.
-abbrev pub IsSound : List ℕ → List (Option Item) → List ℕ → ℕ → Type 0
-IsSound weights items places end = IsRow weights items places end × (length (gathered items) ≤ length places)
+abbrev pub IsIndexed : List ℕ → List (Option Item) → List ℕ → ℕ → Type 0
+IsIndexed weights items places end = IsRow weights items places end × (length (gathered items) ≤ length places)

@@ -2,7 +2,7 @@
 use Rattle.std.specs.Prelude.{◌≡◌, ◌≢◌, ℕ, ◌+◌, ◌*◌, ◌^◌, ◌<◌, ◌≤◌, min, List, length, slice_index, Option, Some, None}
 
 -- What a contract sees of a tree: what each place weighs, and how many nodes stand on the way from the root to a place.
-pub record Leaves : Type 0 where
+pub record Weights : Type 0 where
   pub weights : List ℕ
   pub path : ℕ
 

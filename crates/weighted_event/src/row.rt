@@ -42,13 +42,13 @@ pub struct Row {
 
 impl Model for Row {
     ghost use Rattle.std.specs.Prelude.{length};
-    ghost use Rattle.weighted_event.specs.Rows.{Weighed, gathered, IsSound};
+    ghost use Rattle.weighted_event.specs.Rows.{Weighed, gathered, IsIndexed};
 
     ghost Value = { Weighed };
 
     ghost view = { λ r. record { items = gathered r.items.items; room = length r.places.items; path = r.tree.path } };
 
-    ghost invariant = { λ r. IsSound r.tree.weights r.items.items r.places.items r.end };
+    ghost invariant = { λ r. IsIndexed r.tree.weights r.items.items r.places.items r.end };
 }
 
 // The least power of two that is so great, and of which power it is; none if that is too great for any memory.

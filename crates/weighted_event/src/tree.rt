@@ -29,9 +29,9 @@ pub(crate) struct Tree {
 
 impl Model for Tree {
     ghost use Rattle.std.specs.Prelude.{drop};
-    ghost use Rattle.weighted_event.specs.Trees.{Leaves, IsTree};
+    ghost use Rattle.weighted_event.specs.Trees.{Weights, IsTree};
 
-    ghost Value = { Leaves };
+    ghost Value = { Weights };
 
     ghost view = { λ t. record { weights = drop t.places t.nodes.items; path = t.path } };
 

@@ -6,7 +6,7 @@ use Rattle.atomic_table.specs.Table.{State, Me, keeps, takes, gives, stepped, pu
 use Rattle.atomic_table.proofs.Lists.{set_here, set_else, at_set}
 use Rattle.words_base.specs.Sums.{weight, number}
 use Rattle.words_base.specs.Waiting.{Has, NoneWaits, SomeSeat, all_but, Matched}
-use Rattle.words_base.specs.Lists.{Listed, nobody, IsSettled, Stays, Pays, Joins, Leaves, GoesOn}
+use Rattle.words_base.specs.Lists.{Listed, nobody, IsSettled, Stays, Pays, Joins, Leaves, HandsOn}
 use Rattle.words_base.proofs.Sums.{number-set, number-at}
 use Rattle.words_access.specs.Rule.{first_view, marks_of, reads_of, writes_of, has_lists_out, OwesReaders, TellsWriter, IsEntryOfReaders, IsEntryOfWriter, IsFreshReader, IsFreshWriter, LosesNone, Nested, AllNested, IsState, SaysEmpty, Ruled}
 use Rattle.words_access.specs.Seats.{having_found, saw_writer_of, saw_readers_of, reading_of, left_of, last_left_of, writing_of, marking_of, upgraded_of, down_of, unmarked_of, eased_of, listing_of, back, joined_readers_of, joined_writer_of, told_reader_of, told_writer_of, gone_reader_of, gone_writer_of, paid_readers_of, paid_writer_of}
@@ -464,13 +464,13 @@ module _ (S : Type 0) (readers_of writer_of : S → Listed) where
           returned w refl (refl, refl, refl) (t, omega arith) (readers_stay w readers (λ o. o) (refl, λ _. (refl, λ f. f))) (writer_leaves w writer (λ _. inr (inl (inl refl))) (λ _. inl refl) was refl)
 
       -- its entry has left, and what it was told has gone on
-      pub leaves_readers : GoesOn me.0.entry me.0.readers new_readers → Stays me.0.writer new_writer → me.0.in_readers ≡ true → me.0.in_writer ≡ false → R (stepped s 1 n id me.1 (gone_reader_of me.0) gives)
+      pub leaves_readers : HandsOn me.0.entry me.0.readers new_readers → Stays me.0.writer new_writer → me.0.in_readers ≡ true → me.0.in_writer ≡ false → R (stepped s 1 n id me.1 (gone_reader_of me.0) gives)
       leaves_readers readers writer was off = let w : View = gone_reader_of me.0 in
           returned w refl (refl, refl, refl) mine
           (readers_leave w readers.leaves (λ m. settled OwesReaders in_readers me.0.readers new_readers w (readers.told m)) (λ o. o) was refl)
           (writer_stays w writer (λ o. o) (refl, λ is. never (sym off ∙ is)))
 
-      pub leaves_writer : Stays me.0.readers new_readers → GoesOn me.0.entry me.0.writer new_writer → me.0.in_writer ≡ true → me.0.in_readers ≡ false → R (stepped s 1 n id me.1 (gone_writer_of me.0) gives)
+      pub leaves_writer : Stays me.0.readers new_readers → HandsOn me.0.entry me.0.writer new_writer → me.0.in_writer ≡ true → me.0.in_readers ≡ false → R (stepped s 1 n id me.1 (gone_writer_of me.0) gives)
       leaves_writer readers writer was away = let w : View = gone_writer_of me.0 in let t = mine.0 in
           returned w refl (refl, refl, refl) (t, omega arith)
           (readers_stay w readers (λ o. o) (refl, λ is. never (sym away ∙ is)))

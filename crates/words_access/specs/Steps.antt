@@ -1,7 +1,7 @@
 -- What steps tell, and what a seat has that has the lists out.
 use Rattle.std.specs.Prelude.{◌≡◌, ◌≢◌, ℕ, ◌%◌, ◌<◌, ◌≤◌, true, [], ◌∷◌}
 use Rattle.atomic_table.specs.Table.{Me, rest}
-use Rattle.words_base.specs.Lists.{Listed, Stays, Pays, Joins, Leaves, GoesOn}
+use Rattle.words_base.specs.Lists.{Listed, Stays, Pays, Joins, Leaves, HandsOn}
 use Rattle.words_access.specs.Rule.{SaysEmpty}
 use Rattle.words_access.specs.Seats.{having_found, saw_writer_of, saw_readers_of, reading_of, left_of, last_left_of, writing_of, marking_of, upgraded_of, eased_of, listing_of}
 use Rattle.words_access.specs.declared.view.View.{View}
@@ -82,10 +82,10 @@ module _ {S : Type 0} (readers_of writer_of : S → Listed) (m : Me S View) (n :
 
   -- The seat's entry has left the readers: what it was notified of has gone on.
   abbrev pub CanLeaveReaders : Type 0
-  CanLeaveReaders = (lists : S) × Out lists × GoesOn m.0.entry m.0.readers (readers_of lists) × Stays m.0.writer (writer_of lists)
+  CanLeaveReaders = (lists : S) × Out lists × HandsOn m.0.entry m.0.readers (readers_of lists) × Stays m.0.writer (writer_of lists)
 
   abbrev pub CanLeaveWriter : Type 0
-  CanLeaveWriter = (lists : S) × Out lists × Stays m.0.readers (readers_of lists) × GoesOn m.0.entry m.0.writer (writer_of lists)
+  CanLeaveWriter = (lists : S) × Out lists × Stays m.0.readers (readers_of lists) × HandsOn m.0.entry m.0.writer (writer_of lists)
 
   -- A reader is notified.
   abbrev pub CanPayReaders : Type 0

@@ -50,6 +50,6 @@ pub record Leaves (k : ℕ) (old new : Listed) : Type 0 where
   pub left : LeftBy k old.waiting new.waiting
 
 -- The same, and what it was notified of has gone on: if one was notified, one is, or nobody waits.
-pub record GoesOn (k : ℕ) (old new : Listed) : Type 0 where
+pub record HandsOn (k : ℕ) (old new : Listed) : Type 0 where
   pub leaves : Leaves k old new
   pub told : StaysTold old.notified new.waiting new.notified

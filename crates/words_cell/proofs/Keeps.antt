@@ -6,7 +6,7 @@ use Rattle.atomic_table.specs.Table.{State, Me, keeps, takes, gives, stepped, pu
 use Rattle.atomic_table.proofs.Lists.{set_here, at_set}
 use Rattle.words_base.specs.Sums.{weight, number, total}
 use Rattle.words_base.proofs.Sums.{number-set, number-at, total-set}
-use Rattle.words_base.specs.Lists.{Listed, nobody, Stays, Pays, PaysAll, Joins, Leaves, GoesOn}
+use Rattle.words_base.specs.Lists.{Listed, nobody, Stays, Pays, PaysAll, Joins, Leaves, HandsOn}
 use Rattle.words_base.specs.Waiting.{Has, NoneWaits, Fewer, LeftBy, StaysTold, SomeSeat, AreOf, Matched, all_but}
 use Rattle.words_cell.specs.Rule.{first_view, makes_of, has_lists_out, filled_of, taken_of, Owes, OwesActive, OwesPassive, IsActiveEntryOf, IsPassiveEntryOf, IsFreshActive, IsFreshPassive, LosesNoneEmpty, LosesNoneFull, IsCell, SaysEmpty, Ruled}
 use Rattle.words_cell.specs.Seats.{saw_of, saw_full_of, claimed_of, missed_of, late_of, filled_by, emptied_by, taken_by, having_found, eased_of, listing_of, back, joined_active_of, joined_passive_of, told_of, gone_of, paid_of, paid_active_of, paid_passive_of}
@@ -21,7 +21,7 @@ left_if : (b : Bool) (k : ℕ) (Left : Listed → Listed → Type 0) (old new : 
 left_if true k Left old new left f n h = let l = left f n h in (l.0, λ _. l.1)
 left_if false k Left old new left f n h = (f.fewer n h, λ b. never b)
 
-told_if : (b : Bool) (k : ℕ) (old new : Listed) → LeftIf b (GoesOn k) old new → StaysTold old.notified new.waiting new.notified
+told_if : (b : Bool) (k : ℕ) (old new : Listed) → LeftIf b (HandsOn k) old new → StaysTold old.notified new.waiting new.notified
 told_if true k old new f = f.told
 told_if false k old new f = f.told
 
@@ -428,12 +428,12 @@ module _ (S : Type 0) (active_of passive_of : S → Listed) where
             returned w refl (refl, refl, refl) match (emptying w (λ _. inr (inl (inl refl))) (λ _. inr (inl (inl refl))) act) (filling w (λ o. inl o) (λ o. inl o) act pas)
 
         -- its entry has left, and what it was told has gone on
-        pub leaves : LeftIf me.0.in_active (GoesOn me.0.entry) me.0.active new_active → LeftIf me.0.in_passive (Leaves me.0.entry) me.0.passive new_passive → R (stepped s 1 n id me.1 (gone_of me.0) gives)
+        pub leaves : LeftIf me.0.in_active (HandsOn me.0.entry) me.0.active new_active → LeftIf me.0.in_passive (Leaves me.0.entry) me.0.passive new_passive → R (stepped s 1 n id me.1 (gone_of me.0) gives)
         leaves active passive = let w : View = gone_of me.0 in
-            let a = left_if me.0.in_active me.0.entry (GoesOn me.0.entry) me.0.active new_active (λ l. l.leaves.left) active in let p = left_if me.0.in_passive me.0.entry (Leaves me.0.entry) me.0.passive new_passive (λ l. l.left) passive in
+            let a = left_if me.0.in_active me.0.entry (HandsOn me.0.entry) me.0.active new_active (λ l. l.leaves.left) active in let p = left_if me.0.in_passive me.0.entry (Leaves me.0.entry) me.0.passive new_passive (λ l. l.left) passive in
             let act : Active w = λ j h. let l = a j h in inl (l.0, λ f. absurd (l.1 f.1.0 (sym f.1.1))) in let pas : Passive w = λ j h. let l = p j h in inl (l.0, λ f. absurd (l.1 f.1.0 (sym f.1.1))) in
             let match : Match w = (
-              left_if_match (λ v. v.in_active) me.0.active new_active active_known w me.0.in_active (GoesOn me.0.entry) refl refl (λ l. l.leaves.entries) active,
+              left_if_match (λ v. v.in_active) me.0.active new_active active_known w me.0.in_active (HandsOn me.0.entry) refl refl (λ l. l.leaves.entries) active,
               left_if_match (λ v. v.in_passive) me.0.passive new_passive passive_known w me.0.in_passive (Leaves me.0.entry) refl refl (λ l. l.entries) passive,
             ) in
             returned w refl (refl, refl, refl) match (emptying w (told_still w (told_if me.0.in_active me.0.entry me.0.active new_active active)) (λ o. inr (inl o)) act) (filling w (λ o. inl o) (λ o. inl o) act pas)

@@ -1,7 +1,7 @@
 -- What steps tell, and what a seat has that has the lists out.
 use Rattle.std.specs.Prelude.{◌≡◌, ◌≢◌, ℕ, ◌%◌, ◌<◌, ◌≤◌, Bool, true, false, [], ◌∷◌}
 use Rattle.atomic_table.specs.Table.{Me, rest}
-use Rattle.words_base.specs.Lists.{Listed, Stays, Pays, PaysAll, Joins, Leaves, GoesOn}
+use Rattle.words_base.specs.Lists.{Listed, Stays, Pays, PaysAll, Joins, Leaves, HandsOn}
 use Rattle.words_cell.specs.Rule.{SaysEmpty}
 use Rattle.words_cell.specs.Seats.{saw_of, saw_full_of, claimed_of, missed_of, late_of, taken_by, having_found, eased_of, listing_of}
 use Rattle.words_cell.specs.declared.view.View.{View}
@@ -65,7 +65,7 @@ module _ {S : Type 0} (active_of passive_of : S → Listed) (m : Me S View) (n :
 
   -- The seat's entry has left the list in which it stood: of those that would make, what it was notified of has gone on.
   abbrev pub CanLeave : Type 0
-  CanLeave = (lists : S) × Out lists × LeftIf m.0.in_active (GoesOn m.0.entry) m.0.active (active_of lists) × LeftIf m.0.in_passive (Leaves m.0.entry) m.0.passive (passive_of lists)
+  CanLeave = (lists : S) × Out lists × LeftIf m.0.in_active (HandsOn m.0.entry) m.0.active (active_of lists) × LeftIf m.0.in_passive (Leaves m.0.entry) m.0.passive (passive_of lists)
 
   -- One that would make is notified.
   abbrev pub CanPay : Type 0

@@ -16,7 +16,7 @@ use Rattle.words_base.proofs.Matched.{nobody_stands, longer, kept, joined, left,
 use Rattle.words_base.proofs.MutexWord as word
 use Rattle.words_base.proofs.MutexWord.{or_one}
 use Rattle.words_base.proofs.Sums.{number-set, number-at, number-none}
-use Rattle.words_mutex.specs.Rule.{first_view, is_holder, is_starved, is_owing, is_listed, is_fresh, has_list_out, Stands, IsListWord, LosesNone, SaysEmpty, IsKeyed, IsEntryOf, Ruled}
+use Rattle.words_mutex.specs.Rule.{first_view, is_holder, is_starved, is_owing, is_listed, is_fresh, has_list_out, KeepsPlace, IsListWord, LosesNone, SaysEmpty, IsKeyed, IsEntryOf, Ruled}
 use Rattle.words_mutex.specs.Seats.{saw_held_of, saw_starved_of, got_of, cleared_of, counted_listed_of, counted_unlisted_of, uncounted_of, listing_of, back, joined_of, told_of, paid_of, gone_of, looking, peeking}
 use Rattle.words_mutex.specs.Steps.{Looked, Got, Grabbed, Kept}
 use Rattle.words_mutex.specs.declared.view.View.{View}
@@ -61,7 +61,7 @@ module _ (S : Type 0) (entries_of : S → List ℕ) (marked_of : S → ℕ) (is_
   abbrev first : View
   first = first_view room deed
 
-  nothing : Stands first
+  nothing : KeepsPlace first
   nothing = ((λ f. never f), (λ st _ _. never st))
 
   -- what is so of the first seat is so of all seats at the start
@@ -76,7 +76,7 @@ module _ (S : Type 0) (entries_of : S → List ℕ) (marked_of : S → ℕ) (is_
     list_word = (omega arith, omega arith, refl);
     entries = entries_of list;
     marked = marked_of list;
-    stands = at_first Stands nothing;
+    stands = at_first KeepsPlace nothing;
     keyed = at_first (IsKeyed room deed) (refl, refl);
     matched = nobody_stands IsEntryOf first (entries_of list) is (λ n q. never q.0);
     wakes = inr (omega arith);
@@ -99,15 +99,15 @@ module _ (S : Type 0) (entries_of : S → List ℕ) (marked_of : S → ℕ) (is_
     abbrev len : ℕ
     len = length r.entries
 
-    mine : Stands me.0
+    mine : KeepsPlace me.0
     mine = r.stands id me.0 at
 
     -- the seats keep their entries
     matched_as : (w : View) → w.listed ≡ me.0.listed → w.entry ≡ me.0.entry → Matched IsEntryOf r.entries (after w)
     matched_as w l e = kept IsEntryOf r.entries s.views id me.0 at r.matched w (λ n is. (l ∙ is.0, e ∙ is.1)) (λ n is. (sym l ∙ is.0, sym e ∙ is.1))
 
-    stands_set : (w : View) → Stands w → (i : ℕ) (v : View) → get_elem? (after w) i ≡ some v → Stands v
-    stands_set w good i v e = ⊎_elim (λ here. subst Stands here.1 good) (λ else. r.stands i v else.1) (at_set s.views id i w v e)
+    stands_set : (w : View) → KeepsPlace w → (i : ℕ) (v : View) → get_elem? (after w) i ≡ some v → KeepsPlace v
+    stands_set w good i v e = ⊎_elim (λ here. subst KeepsPlace here.1 good) (λ else. r.stands i v else.1) (at_set s.views id i w v e)
 
     out_set : (w : View) → (w.has_list ≡ true → (w.entries ≡ r.entries) × (w.marked ≡ r.marked)) → (i : ℕ) (v : View) → get_elem? (after w) i ≡ some v → v.has_list ≡ true → (v.entries ≡ r.entries) × (v.marked ≡ r.marked)
     out_set w good i v e is = ⊎_elim (λ here. subst (λ (u : View). (u.entries ≡ r.entries) × (u.marked ≡ r.marked)) here.1 (good (ap (λ (u : View). u.has_list) here.1 ∙ is))) (λ else. r.out i v else.1 is) (at_set s.views id i w v e)
@@ -155,7 +155,7 @@ module _ (S : Type 0) (entries_of : S → List ℕ) (marked_of : S → ℕ) (is_
 
     -- the mutex's word becomes n; what is known of the list stays
     moved : (n : ℕ) (w : View) (a : Act S) → IsWord is_holder is_starved most 0 (set s.words 0 n) (after w) → Leaves w → get_elem? (homes_after s.homes me.1 a) 0 ≡ get_elem? s.homes 0
-        → (number is_holder (after w) ≡ 0 → Lies (homes_after s.homes me.1 a)) → Stands w → LosesNone len r.marked (after w) → R (stepped s 0 n id me.1 w a)
+        → (number is_holder (after w) ≡ 0 → Lies (homes_after s.homes me.1 a)) → KeepsPlace w → LosesNone len r.marked (after w) → R (stepped s 0 n id me.1 w a)
     moved n w a good left home right stands wakes =
         let c = number-set has_list_out s.views id me.0 w at in let l' : weight (has_list_out w) ≡ weight (has_list_out me.0) = ap weight left.0 in
         let lw = r.list_word in
@@ -175,7 +175,7 @@ module _ (S : Type 0) (entries_of : S → List ℕ) (marked_of : S → ℕ) (is_
         }
 
     -- and so does the right
-    unmoved : (n : ℕ) (w : View) → IsWord is_holder is_starved most 0 (set s.words 0 n) (after w) → Leaves w → w.holds ≡ me.0.holds → Stands w → LosesNone len r.marked (after w) → R (stepped s 0 n id me.1 w keeps)
+    unmoved : (n : ℕ) (w : View) → IsWord is_holder is_starved most 0 (set s.words 0 n) (after w) → Leaves w → w.holds ≡ me.0.holds → KeepsPlace w → LosesNone len r.marked (after w) → R (stepped s 0 n id me.1 w keeps)
     unmoved n w good left hs stands wakes = moved n w keeps good left refl (λ absent. r.right (sym (same_holders w hs) ∙ absent)) stands wakes
 
     -- A look finds the lock held: the seat owes nothing any more, and has looked. Who is counted as starved has an entry.
@@ -297,7 +297,7 @@ module _ (S : Type 0) (entries_of : S → List ℕ) (marked_of : S → ℕ) (is_
 
     -- what stays where the list's word becomes n, and who has the list out stays
     at_list : (n : ℕ) (w : View) → n % 2 ≡ y % 2 → (SaysEmpty n → SaysEmpty y) → Leaves w → w.holds ≡ me.0.holds → w.starved ≡ me.0.starved
-        → Stands w → LosesNone len r.marked (after w) → R (stepped s 1 n id me.1 w keeps)
+        → KeepsPlace w → LosesNone len r.marked (after w) → R (stepped s 1 n id me.1 w keeps)
     at_list n w parity below left h t stands wakes =
         let c = number-set has_list_out s.views id me.0 w at in let c' : weight (has_list_out w) ≡ weight (has_list_out me.0) = ap weight left.0 in
         let one = r.list_word.1 in let is = r.list_word.2 in
@@ -359,7 +359,7 @@ module _ (S : Type 0) (entries_of : S → List ℕ) (marked_of : S → ℕ) (is_
 
     -- the seat gives the list back, and has this view then
     module _ (list : S) (n : ℕ) (lists : me.0.has_list ≡ true) (has : me.1 ≡ (0, list) ∷ rest me.1) (wide : 0 < length s.homes) (four : n % 4 ≡ 0) (low : SaysEmpty n → entries_of list ≡ []) where
-      returned : (w : View) → w.has_list ≡ false → IsKeyed me.0.room me.0.deed w → w.holds ≡ me.0.holds → w.starved ≡ me.0.starved → Stands w → Matched IsEntryOf (entries_of list) (after w) → LosesNone (len_of list) (marked_of list) (after w) → R (stepped s 1 n id me.1 w gives)
+      returned : (w : View) → w.has_list ≡ false → IsKeyed me.0.room me.0.deed w → w.holds ≡ me.0.holds → w.starved ≡ me.0.starved → KeepsPlace w → Matched IsEntryOf (entries_of list) (after w) → LosesNone (len_of list) (marked_of list) (after w) → R (stepped s 1 n id me.1 w gives)
       returned w off key h t stands matched wakes =
           let c = number-set has_list_out s.views id me.0 w at in let c' : weight (has_list_out w) ≡ 0 = ap weight off in let l : weight (has_list_out me.0) ≡ 1 = ap weight lists in
           let one = r.list_word.1 in
@@ -578,7 +578,7 @@ module _ (S : Type 0) (entries_of : S → List ℕ) (marked_of : S → ℕ) (is_
           list_word = (lw.0, omega arith, omega arith);
           entries = r.entries;
           marked = r.marked;
-          stands = λ j v e. ⊎_elim (λ old. r.stands j v old) (λ same. subst Stands same nothing) (at_snoc s.views w v j e);
+          stands = λ j v e. ⊎_elim (λ old. r.stands j v old) (λ same. subst KeepsPlace same nothing) (at_snoc s.views w v j e);
           keyed = λ j v e. ⊎_elim (λ old. r.keyed j v old) (λ same. subst (IsKeyed room deed) same (refl, refl)) (at_snoc s.views w v j e);
           matched = longer IsEntryOf r.entries s.views w (λ n q. never q.0) r.matched;
           wakes = ⊎_elim (λ a. inl (omega arith)) (λ b. inr (omega arith)) r.wakes;

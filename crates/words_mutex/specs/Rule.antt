@@ -32,8 +32,8 @@ abbrev pub has_list_out : View → Bool
 has_list_out v = v.has_list
 
 -- A seat that has joined and not looked yet has an entry. A seat that is counted as starved, holds nothing and owes nothing has an entry and has looked.
-abbrev pub Stands : View → Type 0
-Stands v = (v.fresh ≡ true → v.listed ≡ true) × (v.starved ≡ true → v.owes ≡ false → v.holds ≡ false → (v.listed ≡ true) × (v.fresh ≡ false))
+abbrev pub KeepsPlace : View → Type 0
+KeepsPlace v = (v.fresh ≡ true → v.listed ≡ true) × (v.starved ≡ true → v.owes ≡ false → v.holds ≡ false → (v.listed ≡ true) × (v.fresh ≡ false))
 
 -- The word 1 is odd while a seat has the list out. Its bit 2 says that somebody may sleep for the list, its bit 4 that the list may have entries, and
 -- eight times the notifications that the list has had are added to it.
@@ -65,7 +65,7 @@ pub record Ruled {S : Type 0} (entries_of : S → List ℕ) (marked_of : S → �
   pub list_word : IsListWord s.words s.views
   pub entries : List ℕ
   pub marked : ℕ
-  pub stands : (i : ℕ) (v : View) → get_elem? s.views i ≡ some v → Stands v
+  pub stands : (i : ℕ) (v : View) → get_elem? s.views i ≡ some v → KeepsPlace v
   pub keyed : (i : ℕ) (v : View) → get_elem? s.views i ≡ some v → IsKeyed room deed v
   pub matched : Matched IsEntryOf entries s.views
   pub wakes : LosesNone (length entries) marked s.views

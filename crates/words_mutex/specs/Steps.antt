@@ -28,8 +28,8 @@ abbrev pub IsSame : View → View → Type 0
 IsSame v w = (w.holds ≡ v.holds) × (w.starved ≡ v.starved) × (w.owes ≡ v.owes) × (w.listed ≡ v.listed) × (w.fresh ≡ v.fresh) × (w.entry ≡ v.entry) × (w.room ≡ v.room) × (w.deed ≡ v.deed) × (w.passed ≡ v.passed)
 
 -- The list is out with the seat.
-abbrev pub Has : {S : Type 0} → Me S View → S → Type 0
-Has m list = (m.0.has_list ≡ true) × (m.1 ≡ (0, list) ∷ rest m.1)
+abbrev pub Out : {S : Type 0} → Me S View → S → Type 0
+Out m list = (m.0.has_list ≡ true) × (m.1 ≡ (0, list) ∷ rest m.1)
 
 -- What may be written into the list's word as the list is given back.
 abbrev pub Says : {S : Type 0} → (S → List ℕ) → S → ℕ → Type 0
@@ -48,16 +48,16 @@ module _ {S : Type 0} (entries_of : S → List ℕ) (marked_of : S → ℕ) wher
 -- and what it was notified of has gone on, or nothing has changed.
 module _ {S : Type 0} (entries_of : S → List ℕ) (marked_of : S → ℕ) (m : Me S View) (n : ℕ) where
   abbrev pub CanJoin : ℕ → Type 0
-  CanJoin k = (list : S) × Has m list × Says entries_of list n × (entries_of list ≡ m.0.entries ++ k ∷ []) × (marked_of list ≡ m.0.marked) × IsNew k m.0.entries
+  CanJoin k = (list : S) × Out m list × Says entries_of list n × (entries_of list ≡ m.0.entries ++ k ∷ []) × (marked_of list ≡ m.0.marked) × IsNew k m.0.entries
 
   abbrev pub CanHear : Type 0
-  CanHear = (list : S) × Has m list × Says entries_of list n × (entries_of list ≡ all_but m.0.entry m.0.entries)
+  CanHear = (list : S) × Out m list × Says entries_of list n × (entries_of list ≡ all_but m.0.entry m.0.entries)
 
   abbrev pub CanPay : Type 0
-  CanPay = (list : S) × Has m list × Says entries_of list n × (entries_of list ≡ m.0.entries) × (0 < length (entries_of list) → 0 < marked_of list)
+  CanPay = (list : S) × Out m list × Says entries_of list n × (entries_of list ≡ m.0.entries) × (0 < length (entries_of list) → 0 < marked_of list)
 
   abbrev pub CanLeave : Type 0
-  CanLeave = (list : S) × Has m list × Says entries_of list n × (entries_of list ≡ all_but m.0.entry m.0.entries) × (0 < length (entries_of list) → 0 < m.0.marked → 0 < marked_of list)
+  CanLeave = (list : S) × Out m list × Says entries_of list n × (entries_of list ≡ all_but m.0.entry m.0.entries) × (0 < length (entries_of list) → 0 < m.0.marked → 0 < marked_of list)
 
   abbrev pub CanStay : Type 0
-  CanStay = (list : S) × Has m list × Says entries_of list n × (entries_of list ≡ m.0.entries) × (marked_of list ≡ m.0.marked)
+  CanStay = (list : S) × Out m list × Says entries_of list n × (entries_of list ≡ m.0.entries) × (marked_of list ≡ m.0.marked)

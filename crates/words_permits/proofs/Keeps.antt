@@ -17,7 +17,7 @@ use Rattle.words_mutex.proofs.Flags.{never, and_true, many-owes, SetsLow}
 use Rattle.words_permits.specs.Rule.{permits_of, under_way_of, added_of, forgotten_of, has_list_out, SaysEmpty, OwesOf, IsEntryOf, IsNumberOf, IsFreshIn, AreOfSeats, LosesNone, Ruled}
 use Rattle.words_permits.specs.Seats.{first_view, looking, having_taken, having_given, having_given_new, having_lowered, having_raised, having_found_limit, peeking, listing_of, back, joined_of, told_of, gone_of, paid_of}
 use Rattle.words_permits.specs.Steps.{Takes, Gives, GivesNew, Raises, Says, Grabbed, newest, CanJoin, CanHear, CanLeave, CanPay, CanStay}
-use Rattle.words_permits.specs.Waiters.{Waiter, waiter, StandsIn, last_or, HasNo, numbers, all_but, IsSound}
+use Rattle.words_permits.specs.Waiters.{Waiter, waiter, StandsIn, last_or, HasNo, numbers, all_but, AreWaiters}
 use Rattle.words_permits.specs.declared.view.View.{View}
 use Rattle.words_permits.proofs.Owners.{some-set, some-mine, some-snoc, stands-snoc, nobody-stands, last-snoc, sound-snoc, numbers-snoc, numbers-but, new-number, left-by, sound-but}
 
@@ -174,7 +174,7 @@ module _ (S : Type 0) (waiters_of : S → List Waiter) (marked_of : S → ℕ) (
         }
 
     -- the list's word becomes n, and this stands in the list now
-    list_word : (w : View) (n : ℕ) (a : Act S) (l : List Waiter) (m : ℕ) → Counts w → number has_list_out (after w) ≤ 1 → n % 2 ≡ number has_list_out (after w) → IsSound l → AreOfSeats (after w) l → Matched IsNumberOf (numbers l) (after w) → LosesNone (after w) x l m → (SaysEmpty n → l ≡ [])
+    list_word : (w : View) (n : ℕ) (a : Act S) (l : List Waiter) (m : ℕ) → Counts w → number has_list_out (after w) ≤ 1 → n % 2 ≡ number has_list_out (after w) → AreWaiters l → AreOfSeats (after w) l → Matched IsNumberOf (numbers l) (after w) → LosesNone (after w) x l m → (SaysEmpty n → l ≡ [])
         → (number has_list_out (after w) ≡ 0 → (list : S) × (get_elem? (homes_after s.homes me.1 a) 0 ≡ some (some list)) × (waiters_of list ≡ l) × (marked_of list ≡ m))
         → ((i : ℕ) (v : View) → get_elem? (after w) i ≡ some v → v.has_list ≡ true → (v.waiters ≡ l) × (v.marked ≡ m)) → R (stepped s 1 n id me.1 w a)
     list_word w n a l m counts one odd sound standing matched wakes low home out =
@@ -267,7 +267,7 @@ module _ (S : Type 0) (waiters_of : S → List Waiter) (marked_of : S → ℕ) (
     listing list = listing_of (waiters_of list) (marked_of list) me.0
 
     -- the seat takes the list out
-    pub grabbed : y % 2 ≡ 0 → (n : ℕ) → n % 2 ≡ 1 → (SaysEmpty n → SaysEmpty y) → (list : S) × (get_elem? s.homes 0 ≡ some (some list)) × R (stepped s 1 n id me.1 (listing list) (takes 0 list)) × IsSound (waiters_of list)
+    pub grabbed : y % 2 ≡ 0 → (n : ℕ) → n % 2 ≡ 1 → (SaysEmpty n → SaysEmpty y) → (list : S) × (get_elem? s.homes 0 ≡ some (some list)) × R (stepped s 1 n id me.1 (listing list) (takes 0 list)) × AreWaiters (waiters_of list)
     grabbed even n odd below = let h = lies even in let w : View = listing h.0 in
         let c = number-set has_list_out s.views id me.0 w at in let c' : weight (has_list_out w) ≡ 1 = refl in
         let m = number-at has_list_out s.views id me.0 at in let is = r.is_out in
@@ -277,12 +277,12 @@ module _ (S : Type 0) (waiters_of : S → List Waiter) (marked_of : S → ℕ) (
           list_word w n (takes 0 h.0) r.waiters r.marked (refl, refl, refl, refl) (omega arith) (omega arith) r.sound (stand-by r.waiters w (λ e stands. (stands, λ f. f))) (matched-as w refl refl) (wakes-by x w (omega arith) (λ o. o) (λ _ _ f. f)) (λ low. r.unlisted (below low)) (λ absent. absurd (omega arith))
               (λ i v e has. ⊎_elim (λ here. subst (λ (u : View). (u.waiters ≡ r.waiters) × (u.marked ≡ r.marked)) here.1 (h.2, h.3))
               (λ else. let n = number-at has_list_out s.views i v else.1 in let q : weight (has_list_out v) ≡ 1 = ap weight has in absurd (omega arith)) (at_set s.views id i w v e)),
-          subst IsSound (sym h.2) r.sound,
+          subst AreWaiters (sym h.2) r.sound,
         )
 
     -- the seat gives the list back, and has this view then
     module _ (list : S) (n : ℕ) (lists : me.0.has_list ≡ true) (has : me.1 ≡ (0, list) ∷ rest me.1) (wide : 0 < length s.homes) (says : Says (waiters_of list) n) where
-      returned : (w : View) → w.has_list ≡ false → Counts w → IsSound (waiters_of list) → AreOfSeats (after w) (waiters_of list) → Matched IsNumberOf (numbers (waiters_of list)) (after w) → LosesNone (after w) x (waiters_of list) (marked_of list) → R (stepped s 1 n id me.1 w gives)
+      returned : (w : View) → w.has_list ≡ false → Counts w → AreWaiters (waiters_of list) → AreOfSeats (after w) (waiters_of list) → Matched IsNumberOf (numbers (waiters_of list)) (after w) → LosesNone (after w) x (waiters_of list) (marked_of list) → R (stepped s 1 n id me.1 w gives)
       returned w off counts sound standing matched wakes =
           let c = number-set has_list_out s.views id me.0 w at in let c' : weight (has_list_out w) ≡ 0 = ap weight off in let l : weight (has_list_out me.0) ≡ 1 = ap weight lists in
           let one = r.one_out in let four = says.0 in
@@ -303,8 +303,8 @@ module _ (S : Type 0) (waiters_of : S → List Waiter) (marked_of : S → ℕ) (
       knew e = subst (λ (m : List Waiter). StandsIn m e) known.0
 
       -- the seat's own entry has left
-      gone-sound : waiters_of list ≡ all_but me.0.entry me.0.waiters → IsSound (waiters_of list)
-      gone-sound gone = subst IsSound (sym (gone ∙ ap (all_but me.0.entry) known.0)) (sound-but me.0.entry r.waiters r.sound)
+      gone-sound : waiters_of list ≡ all_but me.0.entry me.0.waiters → AreWaiters (waiters_of list)
+      gone-sound gone = subst AreWaiters (sym (gone ∙ ap (all_but me.0.entry) known.0)) (sound-but me.0.entry r.waiters r.sound)
 
       others : waiters_of list ≡ all_but me.0.entry me.0.waiters → (e : Waiter) → StandsIn (waiters_of list) e → StandsIn me.0.waiters e × (e.entry ≢ me.0.entry)
       others gone e stands = left-by me.0.entry me.0.waiters e (subst (λ (l : List Waiter). StandsIn l e) gone stands)
@@ -330,7 +330,7 @@ module _ (S : Type 0) (waiters_of : S → List Waiter) (marked_of : S → ℕ) (
       -- its entry has joined: it has not looked yet
       pub joins : (j : Waiter) → waiters_of list ≡ me.0.waiters ++ j ∷ [] → marked_of list ≡ me.0.marked → HasNo j.entry me.0.waiters → 0 < j.weight → me.0.listed ≡ false → R (stepped s 1 n id me.1 (joined_of j me.0) gives)
       joins j longer same absent counts away = let w : View = joined_of j me.0 in
-          returned w refl (refl, refl, refl, refl) (subst IsSound (sym longer) (sound-snoc me.0.waiters j (subst IsSound (sym known.0) r.sound) absent counts))
+          returned w refl (refl, refl, refl, refl) (subst AreWaiters (sym longer) (sound-snoc me.0.waiters j (subst AreWaiters (sym known.0) r.sound) absent counts))
           (λ e stands. ⊎_elim
           (λ old. some-set (IsEntryOf e) (IsEntryOf e) s.views id me.0 w at (λ f. never (sym away ∙ f.0)) (λ u f. f) (r.standing e (knew e old)))
           (λ new. some-mine (IsEntryOf e) s.views id me.0 w at (refl, ap (λ (u : Waiter). u.entry) new, ap (λ (u : Waiter). u.weight) new))
@@ -361,7 +361,7 @@ module _ (S : Type 0) (waiters_of : S → List Waiter) (marked_of : S → ℕ) (
       -- it has notified of as many as it saw
       pub pays : waiters_of list ≡ me.0.waiters → me.0.marked ≤ marked_of list → ((e : Waiter) → StandsIn (waiters_of list) e → e.weight ≤ me.0.found → 1 ≤ marked_of list) → me.0.seen ≡ true → R (stepped s 1 n id me.1 (paid_of me.0) gives)
       pays same more fits seen = let w : View = paid_of me.0 in
-          returned w refl (refl, refl, refl, refl) (subst IsSound (sym (same ∙ known.0)) r.sound) (unmoved w (λ _ f. f) same) (matched-still w refl refl same)
+          returned w refl (refl, refl, refl, refl) (subst AreWaiters (sym (same ∙ known.0)) r.sound) (unmoved w (λ _ f. f) same) (matched-still w refl refl same)
           (dite (dec_le 1 (marked_of list)) (λ m. inl m)
           (λ none. inr (⊎_elim (λ m. absurd (none (let k = known.1 in omega arith)))
           (λ rest. ⊎_elim
@@ -375,7 +375,7 @@ module _ (S : Type 0) (waiters_of : S → List Waiter) (marked_of : S → ℕ) (
       -- nothing has changed
       pub stays : waiters_of list ≡ me.0.waiters → marked_of list ≡ me.0.marked → R (stepped s 1 n id me.1 (back me.0) gives)
       stays same marks = let w : View = back me.0 in
-          returned w refl (refl, refl, refl, refl) (subst IsSound (sym (same ∙ known.0)) r.sound) (unmoved w (λ _ f. f) same) (matched-still w refl refl same)
+          returned w refl (refl, refl, refl, refl) (subst AreWaiters (sym (same ∙ known.0)) r.sound) (unmoved w (λ _ f. f) same) (matched-still w refl refl same)
           (subst (λ (l : List Waiter). LosesNone (after w) x l (marked_of list)) (sym (same ∙ known.0)) (subst (λ (m : ℕ). LosesNone (after w) x r.waiters m) (sym (marks ∙ known.1)) (wakes-by x w (omega arith) (λ o. o) (λ _ _ f. f))))
 
   -- ---- the steps

@@ -10,7 +10,7 @@ use Rattle.words_base.proofs.Sums.{number-snoc}
 use Rattle.words_base.specs.Waiting as waiting
 use Rattle.words_base.specs.Waiting.{unless}
 use Rattle.words_permits.specs.Rule.{SomeSeat}
-use Rattle.words_permits.specs.Waiters.{Waiter, StandsIn, last_or, is_of, numbers, all_but, HasNo, IsSound}
+use Rattle.words_permits.specs.Waiters.{Waiter, StandsIn, last_or, is_of, numbers, all_but, HasNo, AreWaiters}
 use Rattle.words_permits.specs.declared.view.View.{View}
 
 pub set_at : {A : Type 0} (l : List A) (i : ℕ) (v w : A) → get_elem? l i ≡ some v → get_elem? (set l i w) i ≡ some w
@@ -48,7 +48,7 @@ weight-le true = omega arith
 weight-le false = omega arith
 
 -- one joins whose number no entry has
-pub sound-snoc : (l : List Waiter) (w : Waiter) → IsSound l → HasNo w.entry l → 0 < w.weight → IsSound (l ++ w ∷ [])
+pub sound-snoc : (l : List Waiter) (w : Waiter) → AreWaiters l → HasNo w.entry l → 0 < w.weight → AreWaiters (l ++ w ∷ [])
 sound-snoc l w sound absent counts = (
   (λ e s. ⊎_elim (λ old. sound.0 e old) (λ new. subst (λ (u : Waiter). 0 < u.weight) new counts) (stands-snoc l w e s)),
   λ n. let k = number-snoc (is_of n) l w in let one = sound.1 n in let small = weight-le (is_of n w) in
@@ -97,7 +97,7 @@ fewer-but : (test : Waiter → Bool) (n : ℕ) (l : List Waiter) → number test
 fewer-but test n [] = omega arith
 fewer-but test n (x ∷ xs) = fewer_head test (is_of n x) x xs (all_but n xs) (fewer-but test n xs)
 
-pub sound-but : (n : ℕ) (l : List Waiter) → IsSound l → IsSound (all_but n l)
+pub sound-but : (n : ℕ) (l : List Waiter) → AreWaiters l → AreWaiters (all_but n l)
 sound-but n l sound = ((λ w s. sound.0 w (left-by n l w s).0), λ k. let f = fewer-but (is_of k) n l in let one = sound.1 k in omega arith)
 
 -- nobody leaves where no entry has the number

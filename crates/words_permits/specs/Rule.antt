@@ -5,7 +5,7 @@ use lib.ListN.{get_elem?}
 use Rattle.atomic_table.specs.Table.{State}
 use Rattle.words_base.specs.Sums.{number, total}
 use Rattle.words_base.specs.Waiting.{Matched}
-use Rattle.words_permits.specs.Waiters.{Waiter, StandsIn, IsSound, numbers}
+use Rattle.words_permits.specs.Waiters.{Waiter, StandsIn, AreWaiters, numbers}
 use Rattle.words_permits.specs.declared.view.View.{View}
 
 abbrev pub permits_of : View → ℕ
@@ -71,7 +71,7 @@ pub record Ruled {S : Type 0} (waiters_of : S → List Waiter) (marked_of : S �
   pub is_out : slice_index s.words 1 % 2 ≡ number has_list_out s.views
   pub waiters : List Waiter
   pub marked : ℕ
-  pub sound : IsSound waiters
+  pub sound : AreWaiters waiters
   -- each entry of the list, notified or not, is of a seat that stands in it for as many permits
   pub standing : AreOfSeats s.views waiters
   -- each seat that stands in it has its entry there, and no two have one

@@ -48,5 +48,5 @@ all_but entry [] = []
 all_but entry (w ∷ ws) = unless (is_of entry w) w (all_but entry ws)
 
 -- an entry waits for one permit at least, and no two have one number
-abbrev pub IsSound : List Waiter → Type 0
-IsSound l = ((w : Waiter) → StandsIn l w → 0 < w.weight) × ((entry : ℕ) → number (is_of entry) l ≤ 1)
+abbrev pub AreWaiters : List Waiter → Type 0
+AreWaiters l = ((w : Waiter) → StandsIn l w → 0 < w.weight) × ((entry : ℕ) → number (is_of entry) l ≤ 1)

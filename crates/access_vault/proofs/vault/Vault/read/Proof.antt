@@ -22,7 +22,7 @@ use Rattle.access_core.specs.declared.lists.Lists.{Lists}
 use Rattle.access_core.specs.contracts.lists.ListsContent.TheImpl as content
 use Rattle.access_vault.specs.Vault.{round_of, reading, pledge, sight}
 use Rattle.access_vault.proofs.Lending.{reads}
-use Rattle.access_vault.specs.Kept.{VaultId, rights, views, Holds, glance_with}
+use Rattle.access_vault.specs.Kept.{VaultId, rights, views, IsRuled, glance_with}
 use Rattle.access_vault.specs.contracts.vault.Vault as vault
 use Rattle.access_vault.specs.contracts.vault.Glance as glance
 use Rattle.access_vault.proofs.Fields.{token_val, glance_made, VaultData}
@@ -64,7 +64,7 @@ read_spec 𝓤 𝓛 𝓜 𝓡 wired T L =
     -- seat, data, cell, obor, obs, auth, n, m, open, token, κ0, others
     move ! (9 ∷ 0 ∷ []) $ join ! $ move ! (6 ∷ 7 ∷ 0 ∷ []) $
     use3 𝓛 (later (some (λ (u : ℕ × (Share × (ℕ × T.Denot))). ‵ (pledge R z.room views rights z.table z.desk u.0 (reading d.id v u.1.0 (round_of R u.1.1.0 u.1.1.1))) ⊛ ‵ (flft (u.1.1.0 ∷ []) u.1.0) ⊛ ‵ (sight R z.room u.1.1.0 u.1.1.1)) ⊛ ‵ (flft α q')))
-    (reads 𝓛 R (param_laws 0 T L).shr_laws z.room views rights z.table z.desk z.memo z.turn So Holds (alone_with Lists readers_of writer_of) x.0.0 x.0.1 x.1.0 x.1.1 ne q' d.id v right.2) $ await ! tt $ split ! $ pick ! (λ u. split3 ! $
+    (reads 𝓛 R (param_laws 0 T L).shr_laws z.room views rights z.table z.desk z.memo z.turn So IsRuled (alone_with Lists readers_of writer_of) x.0.0 x.0.1 x.1.0 x.1.1 ne q' d.id v right.2) $ await ! tt $ split ! $ pick ! (λ u. split3 ! $
     -- account, token of the round, sight, token, data, cell, obor, obs, auth, open, κ0, others
     fjoin3 ! $ fpack ! (ℕ × (Share × ℕ)) (glance_with R z d.id v u.1.1.1) (u.0, (u.1.0, u.1.1.0)) $ move ! (7 ∷ 1 ∷ []) $ obor_close ! tt $ drop ! $
     -- κ1, glance, data, cell, obor, obs, auth, κ0, others

@@ -24,7 +24,7 @@ use Rattle.access_vault.specs.Vault.{writing, pledge, stock, memo}
 use base.Fraction.{full_share}
 use Rattle.access_vault.proofs.Grips.{grips}
 use Rattle.access_vault.proofs.Lending.{writes}
-use Rattle.access_vault.specs.Kept.{VaultId, rights, views, Holds, grip_owns, memo_owns}
+use Rattle.access_vault.specs.Kept.{VaultId, rights, views, IsRuled, grip_owns, memo_owns}
 use Rattle.access_vault.specs.contracts.vault.Vault as vault
 use Rattle.access_vault.specs.contracts.vault.Grip as grip
 use Rattle.access_vault.specs.contracts.memo.Memo as memos
@@ -70,7 +70,7 @@ write_spec 𝓤 𝓛 𝓜 𝓡 wired T L =
     -- what the step asks, the turn's borrow, the memo's data, cell, obor, obs, auth, data, cell, obor, obs, auth, n, m, open, κ0, others
     move ! (12 ∷ 13 ∷ 0 ∷ []) $
     use3 𝓛 (later (some (λ (u : ℕ × ℕ). ‵ (pledge R z.room views rights z.table z.desk u.0 (writing d.id v)) ⊛ ‵ (stock R z.room u.1 full_share w) ⊛ ‵ (memo R z.memo w)) ⊛ ‵ (flft α q')))
-    (writes 𝓛 R (param_laws 0 T L).shr_laws z.room views rights z.table z.desk z.memo z.turn So Holds (alone_with Lists readers_of writer_of) x.0.0 x.0.1 x.1.0 x.1.1 ne q' d.id v w right.2) $ await ! tt $ split ! $
+    (writes 𝓛 R (param_laws 0 T L).shr_laws z.room views rights z.table z.desk z.memo z.turn So IsRuled (alone_with Lists readers_of writer_of) x.0.0 x.0.1 x.1.0 x.1.1 ne q' d.id v w right.2) $ await ! tt $ split ! $
     pick ! (λ u. split3 ! $ use2 𝓛 (later (‵ (grip_owns R z d.id v w))) (grips 𝓛 R z d.id v w u) $ await ! tt $
     -- grip, memo, token, the turn's borrow, the memo's data, cell, obor, obs, auth, data, cell, obor, obs, auth, open, κ0, others
     move ! (1 ∷ 3 ∷ []) $ fjoin ! $ rewrite ! 0 (λ (i : VaultId). ‵ (memo_owns R i w)) (sym mine) refl $ move ! (3 ∷ 0 ∷ []) $ fjoin ! $ move ! (3 ∷ 0 ∷ 4 ∷ 5 ∷ 6 ∷ []) $
