@@ -21,7 +21,7 @@ import sys
 # The types whose drops give back, by crate.
 GIVE_BACK = {
     "async_mutex": ["Guard", "LockFuture"],
-    "async_rwlock": ["ReadGuard", "UpgradableGuard", "WriteGuard", "ReadFuture", "UpgradableFuture", "WriteFuture", "UpgradeFuture"],
+    "async_rwlock": ["ReadGuard", "UpgradableGuard", "WriteGuard", "GuardFuture", "UpgradeFuture"],
     "async_semaphore": ["PermitGuard", "AcquireFuture"],
     "async_once_cell": ["GetOrInit", "GetOrTryInit", "Set", "Wait"],
     "async_barrier": ["BarrierWait"],
