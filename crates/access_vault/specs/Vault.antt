@@ -1,6 +1,6 @@
 -- What a vault keeps under its invariant. A vault lends its value for reading or for writing against a seat of a table, which it keeps in pledge meanwhile. Its desk is a list of cells, one for each pledge that there ever was.
 -- While nobody writes, the value is shared for a round: a lifetime of its own, whose token is cut among those who read. Who writes has the whole token, ends the round, and begins another one before it gives the value back.
--- What the value is has a name of its own. The vault has one half of it, which follows the value. The memo is the other half, without which nobody writes: so it knows the value whatever its owner's right is meanwhile. It is_shared_for here for the right to the writer lock's room, of which there is one.
+-- What the value is has a name of its own. The vault has one half of it, which follows the value. The memo is the other half, without which nobody writes: so it knows the value whatever its owner's right is meanwhile. It waits here for the right to the writer lock's room, of which there is one.
 use Rattle.core.specs.Prelude.{◌≡◌, ◌≢◌, ℕ, zero, suc, List, [], ◌∷◌}
 use mathlib.Core.Bool.{Bool, true, false}
 use mathlib.Core.Option.{some}
@@ -104,7 +104,7 @@ module _ {V : Type 0} (c : V → Gv) (k : Rights V) (t : TableId) where
 abbrev pub memo : (R : RattleType) → ℕ → R.Denot → Fml
 memo R μ x = fobs μ (R.coded.code x)
 
--- the memo is_shared_for here, or it was given for the right to this room
+-- the memo waits here, or it was given for the right to this room
 abbrev pub keeps : (R : RattleType) → ℕ → RoomId → Bool → Fml
 keeps R μ ρ true = fex R.Denot (memo R μ)
 keeps R μ ρ false = fex Gv (fobs ρ.name)

@@ -12,7 +12,7 @@ use Rattle.lock_program.specs.declared.end.Next.TheVariants.{Do}
 use Rattle.lock_program.specs.declared.mutex.Place.TheVariants as at
 use Rattle.mutex_core.specs.Courses.{pending}
 use Rattle.mutex_core.specs.Locks.{IsOf, IsSameSeat, Seated}
-use Rattle.mutex_core.specs.Outcomes.{IsGivenUp, IsHeldOf, IsWakerFor as IsStill}
+use Rattle.mutex_core.specs.Outcomes.{IsGivenUp, IsHeldOf, IsStillKnown as IsStill}
 use Rattle.lock_queue.specs.Receipts.{IsWakerFor}
 use Rattle.mutex_core.specs.declared.turn.Held.{Held}
 use Rattle.mutex_core.specs.declared.turn.Outcome.{Outcome}

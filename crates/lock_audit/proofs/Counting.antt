@@ -2,7 +2,7 @@
 use Rattle.std.proofs.Common.{◌≡◌, ℕ, ◌++◌, List, [], ◌∷◌, arith, refl}
 use Rattle.world_base.specs.declared.moves.Answer.{Answer}
 use Rattle.world_base.specs.declared.moves.Move.{Move}
-use Rattle.lock_audit.specs.Numbers.{Numbers, plus, counts_of, numbers_of, sums}
+use Rattle.lock_audit.specs.Numbers.{Numbers, plus, counted, numbers_of, sums}
 
 numbers : ℕ → ℕ → ℕ → ℕ → ℕ → ℕ → Numbers
 numbers a b c d e f = record { moves = a; calls = b; grants = c; refusals = d; gives_back = e; granted = f }
@@ -20,9 +20,9 @@ swapped : (a b c : Numbers) → plus a (plus b c) ≡ plus b (plus a c)
 swapped a b c = each_equal _ _ (omega arith) (omega arith) (omega arith) (omega arith) (omega arith) (omega arith)
 
 -- one recorded move more
-pub numbers_more : (es : List (Move × Answer)) (m : Move) (a : Answer) → numbers_of (es ++ (m, a) ∷ []) ≡ plus (counts_of m a) (numbers_of es)
+pub numbers_more : (es : List (Move × Answer)) (m : Move) (a : Answer) → numbers_of (es ++ (m, a) ∷ []) ≡ plus (counted m a) (numbers_of es)
 numbers_more [] m a = refl
-numbers_more (e ∷ es) m a = rw (numbers_more es m a) (swapped (counts_of e.0 e.1) (counts_of m a) (numbers_of es))
+numbers_more (e ∷ es) m a = rw (numbers_more es m a) (swapped (counted e.0 e.1) (counted m a) (numbers_of es))
 
 -- one more in a list
 pub sums_more : (ns : List Numbers) (n : Numbers) → sums (ns ++ n ∷ []) ≡ plus (sums ns) n

@@ -1,4 +1,4 @@
--- What is counts_of of moves and their answers.
+-- What is counted of moves and their answers.
 use Rattle.std.specs.Prelude.{ℕ, ◌+◌, List, [], ◌∷◌}
 use Rattle.world_base.specs.declared.moves.Answer.{Answer}
 use Rattle.world_base.specs.declared.moves.Answer.TheVariants as answer
@@ -51,8 +51,8 @@ gives_back_of answer.GivenBack = 1
 gives_back_of a = 0
 
 -- What one move with this answer counts.
-abbrev pub counts_of : Move → Answer → Numbers
-counts_of m a = record { moves = 1; calls = calls_of m.what a; grants = grants_of a; refusals = refusals_of a; gives_back = gives_back_of a; granted = granted_of a }
+abbrev pub counted : Move → Answer → Numbers
+counted m a = record { moves = 1; calls = calls_of m.what a; grants = grants_of a; refusals = refusals_of a; gives_back = gives_back_of a; granted = granted_of a }
 
 abbrev pub nothing : Numbers
 nothing = record { moves = 0; calls = 0; grants = 0; refusals = 0; gives_back = 0; granted = 0 }
@@ -69,4 +69,4 @@ sums (n ∷ ns) = plus n (sums ns)
 -- The numbers of a history: the sums of what its moves count.
 abbrev pub numbers_of : List (Move × Answer) → Numbers
 numbers_of [] = nothing
-numbers_of (e ∷ es) = plus (counts_of e.0 e.1) (numbers_of es)
+numbers_of (e ∷ es) = plus (counted e.0 e.1) (numbers_of es)

@@ -1,8 +1,8 @@
-//! A book under one lock, for any number of threads, each with a share of what is counts_of.
+//! A book under one lock, for any number of threads, each with a share of what is counted.
 
 ghost use Rattle.std.specs.Prelude.{◌≡◌, ◌++◌, [], ◌∷◌, IfOk, OnErr, vec_len};
 ghost use Rattle.std.specs.List.{All};
-ghost use Rattle.lock_audit.specs.Numbers.{Numbers, nothing, plus, counts_of, numbers_of, sums};
+ghost use Rattle.lock_audit.specs.Numbers.{Numbers, nothing, plus, counted, numbers_of, sums};
 
 use crate::book::Book;
 use crate::ledgers::{Blanks, Ledgers};
@@ -13,7 +13,7 @@ use std::marker::Model;
 use std::sync::{Mutex, Wait};
 use world_base::{Answer, AnyWorld, Move};
 
-/// One share of an audit. Contracts see the numbers that were counts_of on it. It takes no bytes.
+/// One share of an audit. Contracts see the numbers that were counted on it. It takes no bytes.
 ///
 /// A share that is dropped is never handed in again, so its book can't be closed.
 #[derive(Drop)]
@@ -57,7 +57,7 @@ impl<W: AnyWorld, L: Ledgers> Counted<W, L> {
     /// Records a move, and counts it on this share.
     fn step(&mut self, share: &mut Share<L>, m: Move) -> Result<Answer, Memory>
         ensures recorded { IfOk result (λ a. self.new.history ≡ self.old.history ++ (m, a) ∷ []) }
-        ensures counts_of { IfOk result (λ a. share.new ≡ plus (counts_of m a) share.old) }
+        ensures counted { IfOk result (λ a. share.new ≡ plus (counted m a) share.old) }
         ensures refused { OnErr result ((self.new ≡ self.old) × (share.new ≡ share.old)) }
     {
         let answer = self.book.record(m)?;
@@ -69,12 +69,12 @@ impl<W: AnyWorld, L: Ledgers> Counted<W, L> {
 /// A book of a World of any lock, under one lock, for any number of threads.
 #[derive(Drop)]
 pub struct Audited<W: AnyWorld, L: Ledgers> {
-    counts_of: Mutex<Counted<W, L>>,
+    counted: Mutex<Counted<W, L>>,
 }
 
 impl<W: AnyWorld + Drop, L: Ledgers> Audited<W, L> {
     /// A book of this World, which is as its constructor left it, and so many shares, on which nothing is
-    /// counts_of. The blanks are those of the ledgers, cut into as many parts.
+    /// counted. The blanks are those of the ledgers, cut into as many parts.
     ///
     /// [`Memory`] comes only where memory for the list of shares was refused. The World is dropped.
     pub fn new(
@@ -93,40 +93,40 @@ impl<W: AnyWorld + Drop, L: Ledgers> Audited<W, L> {
         let Ok(all) = cut_shares(alloc, &mut rest, shares) else {
             return Err(Memory);
         };
-        let counts_of = Mutex::new(Counted {
+        let counted = Mutex::new(Counted {
             book: Book::new(alloc, world),
             totals,
             rest,
         });
-        Ok((Audited { counts_of }, all))
+        Ok((Audited { counted }, all))
     }
 
     /// Makes a move and records it with its answer, and counts it on this share.
     pub fn step<R: Wait>(&self, rt: &R, share: &mut Share<L>, m: Move) -> Result<Answer, Memory>
-        ensures counts_of { IfOk result (λ a. share.new ≡ plus (counts_of m a) share.old) }
+        ensures counted { IfOk result (λ a. share.new ≡ plus (counted m a) share.old) }
         ensures refused { OnErr result (share.new ≡ share.old) }
     {
         self.counted.lock(rt).step(share, m)
     }
 
-    /// The book, once all shares are handed in: its numbers are the sums of what was counts_of on them.
+    /// The book, once all shares are handed in: its numbers are the sums of what was counted on them.
     pub fn close(self, shares: Vec<Share<L>>) -> Book<W>
         requires { vec_len shares ≡ L.names.parts }
         ensures { numbers_of result.history ≡ sums shares.items }
     {
-        let Audited { counts_of } = self;
+        let Audited { counted } = self;
         let Counted {
             book,
             mut totals,
             rest,
-        } = counts_of.into_inner();
+        } = counted.into_inner();
         let mut all = merged(rest, shares);
         totals.audit(&mut all);
         book
     }
 }
 
-// Cuts so many shares off these tokens, which are as many parts, and on which nothing is counts_of.
+// Cuts so many shares off these tokens, which are as many parts, and on which nothing is counted.
 fn cut_shares<L: Ledgers>(
     alloc: Global,
     rest: &mut Tokens<L>,

@@ -2,7 +2,7 @@
 
 ghost use Rattle.std.specs.Prelude.{◌≡◌, ◌+◌, ◌<◌};
 ghost use Rattle.lock_audit.specs.Ledgers.{Cut};
-ghost use Rattle.lock_audit.specs.Numbers.{Numbers, nothing, plus, counts_of, calls_of, grants_of, granted_of, refusals_of, gives_back_of};
+ghost use Rattle.lock_audit.specs.Numbers.{Numbers, nothing, plus, counted, calls_of, grants_of, granted_of, refusals_of, gives_back_of};
 
 use crate::ledgers::{Blanks, Calls, GivesBack, Granted, Grants, Ledgers, Moves, Refusals};
 use std::marker::Model;
@@ -117,7 +117,7 @@ pub fn open<L: Ledgers>(blanks: Blanks) -> (Totals<L>, Tokens<L>)
 }
 
 impl<L: Ledgers> Tokens<L> {
-    /// Cuts one part off that has counts_of nothing, of tokens that have counts_of nothing.
+    /// Cuts one part off that has counted nothing, of tokens that have counted nothing.
     pub fn cut(&mut self) -> Tokens<L>
         requires some { 0 < self.old.parts }
         requires nothing { self.old.numbers ≡ nothing }
@@ -136,7 +136,7 @@ impl<L: Ledgers> Tokens<L> {
         }
     }
 
-    /// Takes in others, with what they counts_of.
+    /// Takes in others, with what they counted.
     pub fn merge(&mut self, other: Tokens<L>)
         ensures parts { self.new.parts ≡ self.old.parts + other.parts }
         ensures numbers { self.new.numbers ≡ plus self.old.numbers other.numbers }
@@ -162,8 +162,8 @@ impl<L: Ledgers> Totals<L> {
     /// Counts a move with its answer, on these tokens.
     pub fn count(&mut self, tokens: &mut Tokens<L>, m: Move, answer: Answer)
         requires { 0 < tokens.old.parts }
-        ensures totals { self.new ≡ plus (counts_of m answer) self.old }
-        ensures numbers { tokens.new.numbers ≡ plus (counts_of m answer) tokens.old.numbers }
+        ensures totals { self.new ≡ plus (counted m answer) self.old }
+        ensures numbers { tokens.new.numbers ≡ plus (counted m answer) tokens.old.numbers }
         ensures parts { tokens.new.parts ≡ tokens.old.parts }
     {
         self.moves.add(&mut tokens.moves, 1);
@@ -175,7 +175,7 @@ impl<L: Ledgers> Totals<L> {
         self.granted.add(&mut tokens.granted, granted(answer));
     }
 
-    /// All tokens together have counts_of what the totals are.
+    /// All tokens together have counted what the totals are.
     pub fn audit(&mut self, all: &mut Tokens<L>)
         requires { all.old.parts ≡ L.names.parts }
         ensures all { self.old ≡ all.old.numbers }

@@ -52,7 +52,7 @@ module _ {M : Type 1} {𝓤 : Ura M} (𝓛 : Logic 𝓤) (R : RattleType) (z : R
         suffices ! _ (𝓛.invs.invs_bor_acc n κ₀ s P [] ⟦ hold_owns R z x ⟧ ((λ m. not-mem-nil m), tt)) $ use0 𝓛 (‵ ftrue) (id⊢ 𝓤 (emp 𝓤)) $ move ! (1 ∷ 0 ∷ []) $ fjoin ! $ frame ! $ frame ! $
         assume ! (‵ P ⊛ ‵ ftrue) $ split ! $ keep ! (0 ∷ 2 ∷ []) $ fpick ! (λ y. by ! (swaps y)))
 
-    -- the value of the hold that comes out of where a right rests: the parked one's, or the one that is_spared_for in the spare
+    -- the value of the hold that comes out of where a right rests: the parked one's, or the one that waits in the spare
     abbrev pub woken : Option R.Denot → R.Denot
     woken (Some w) = w
     woken None = x

@@ -44,12 +44,12 @@ listed CancelLeave = 1
 listed _ = 0
 
 -- it stands in the list and has looked at the word since it joined
-abbrev pub waits_at : Place → ℕ
-waits_at (Look told) = 0
-waits_at LookAlone = 0
-waits_at (Uncount stands) = 0
-waits_at Leave = 0
-waits_at p = listed p
+abbrev pub waits : Place → ℕ
+waits (Look told) = 0
+waits LookAlone = 0
+waits (Uncount stands) = 0
+waits Leave = 0
+waits p = listed p
 
 -- its program still has to notify, or to look on behalf of the others
 abbrev pub owes : Place → ℕ
@@ -65,7 +65,7 @@ owes RefuseNotifyStarved = 1
 owes ReleaseNotify = 1
 owes _ = 0
 
--- it is inside no program: it holds the lock, is out, or waits_at to be notified
+-- it is inside no program: it holds the lock, is out, or waits to be notified
 abbrev pub is_resting : Place → Bool
 is_resting Out = true
 is_resting Holding = true

@@ -11,7 +11,7 @@ pub use Rattle.std.proofs.lemmas.List.Sums.{sum_by-set, sum_by-cons, get_or-le-s
 pub use Rattle.lock_event.specs.Lists.{is_marked_at, marked_count, without, IsMarkedFirst, mark_at, joined, notified, entry, mark_waiting}
 pub use Rattle.lock_event.specs.declared.event.Entry.{Entry}
 pub use Rattle.lock_event.specs.declared.event.Mark.TheVariants.{Waiting, Notified}
-pub use Rattle.lock_program.specs.MutexRoles.{bit, holds, listed, counted, is_resting, waits_at, owes}
+pub use Rattle.lock_program.specs.MutexRoles.{bit, holds, listed, counted, is_resting, waits, owes}
 pub use Rattle.lock_program.specs.declared.end.End.{End}
 pub use Rattle.lock_program.specs.declared.end.End.TheVariants.{Pending, Refused, Got, GivenBack, NotFree}
 pub use Rattle.lock_program.specs.declared.mutex.Action.{Action}

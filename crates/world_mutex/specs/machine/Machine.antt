@@ -1,11 +1,11 @@
--- A mutex: where each party stands, and who waits_at in its list.
+-- A mutex: where each party stands, and who waits in its list.
 use Rattle.std.specs.Prelude.{◌≡◌, ℕ, ◌≤◌, List, [], length, slice_index_or, replicate}
 use Rattle.lock_event.specs.declared.event.Entry.{Entry}
 use Rattle.lock_event.specs.Lists.{marked_count}
 use Rattle.lock_program.specs.declared.mutex.Place.{Place}
 use Rattle.lock_program.specs.declared.mutex.Place.TheVariants.{Out}
 use Rattle.world_mutex.specs.declared.program.word.Word.{Word}
-use Rattle.lock_program.specs.MutexRoles.{holds, counted, listed, waits_at, owes}
+use Rattle.lock_program.specs.MutexRoles.{holds, counted, listed, waits, owes}
 use Rattle.world_base.specs.queue.Parties.{entries_of}
 use Rattle.world_base.specs.queue.Queues.{Queue}
 use Rattle.world_mutex.specs.machine.Tally.{IsSound, tally_of, counts_of}
@@ -29,7 +29,7 @@ pub record SameRoles (p q : Place) : Type 0 where
   pub holding : holds p ≡ holds q
   pub starving : counted p ≡ counted q
   pub standing : listed p ≡ listed q
-  pub waiting : waits_at p ≡ waits_at q
+  pub waiting : waits p ≡ waits q
   pub owing : owes p ≡ owes q
   pub counting : is_counting p ≡ is_counting q
   pub telling : may_tell p ≡ may_tell q
