@@ -26,8 +26,8 @@ HEAD = """# Wrong bodies
 
 Each of these {count} bodies turns the meaning of the code in one place, and the prover refuses each (`bench/try-edits.py`). The clause is the contract that
 carries the promise; "the table" is that of `start`, `action_at` and `decide` (docs/PROGRAMS.md). The goal that fails is one of the function that the
-edit turns, which may be a private one below that contract. Of a few, the goal has a proof by hand, and what is refused is that proof: it is no longer of the
-goal, which says less than that the goal has none. The edits are the files crates/NAME/wrong/*.edit; this page is written from them by
+edit turns, which may be a private one below that contract. Of a few, the goal has a proof by hand, and what is refused is that proof, or the search for a
+proof gives up at a limit: that says less. `bench/try-edits.py` tells which. The edits are the files crates/NAME/wrong/*.edit; this page is written from them by
 generators/wrong_bodies.py. docs/GUARANTEES.md has the promises by lock.
 """
 
