@@ -37,10 +37,10 @@ pub trait Acquired {
     /// What contracts see of the guard.
     ghost held: { Self → Held Self.Owner.Value Self.Owner.Runtime };
 
-    /// A seat that reads came in where it found room.
+    /// That a seat that reads came in where it found room.
     ghost has_room: { Self → Type 0 };
 
-    /// The party has got the right on this lock.
+    /// That a party got the right at this lock.
     ghost is_let_in: { RawRwLock → Self.Right → Type 0 };
 
     /// Its seat.
@@ -49,22 +49,22 @@ pub trait Acquired {
     /// The number of its seat of the writer lock, if it has that.
     ghost turn_of: { Self.Right → Option ℕ };
 
-    /// The party has looked at this lock, and has nothing.
+    /// That a party has looked at this lock, and has nothing.
     ghost has_looked: { RawRwLock → Self.Vain → Type 0 };
 
-    /// The party waits at this lock.
+    /// That a party waits at this lock.
     ghost waits_at: { RawRwLock → Self.Waiting → Type 0 };
 
     /// Its entry.
     ghost entry: { Self.Waiting → Listed };
 
-    /// A poll may be refused for this reason.
+    /// That a poll may be refused for this reason.
     ghost refuses: { Refusal → Type 0 };
 
-    /// Under which name a future is shown that borrows the lock.
+    /// The name that `Debug` shows of a future that borrows the lock.
     const NAME: &'static str;
 
-    /// And one that has a share of the lock.
+    /// And of one that has a share of the lock.
     const SHARED_NAME: &'static str;
 
     /// Returns the guard of a party that has got the right.

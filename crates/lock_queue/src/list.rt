@@ -93,7 +93,7 @@ fn all_due(event: &mut Event<Waker>, alloc: Global) -> AllDue
 
 // The next waker that is due.
 pub(crate) fn next_due(event: &mut Event<Waker>) -> Option<Waker>
-    ensures { Becomes Stays event.old.entries event.new.entries }
+    ensures { Becomes Stays event.old.entries event.new.entries × IsSameSize event.old.entries event.new.entries }
 {
     event.next_waker()
 }

@@ -139,7 +139,7 @@ impl Queue {
 
     /// The next waker that is due.
     pub fn next_due(&mut self) -> Option<Waker>
-        ensures { Stays (listed_in self.old) (listed_in self.new) }
+        ensures { Stays (listed_in self.old) (listed_in self.new) × IsSameSize (entries_of self.old) (entries_of self.new) }
     {
         match &mut self.entries {
             Some(event) => list::next_due(event),
