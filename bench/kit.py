@@ -186,15 +186,18 @@ def try_fast(words):
     with tempfile.TemporaryDirectory(prefix='kit-') as room:
         linked(FOLDER, room, 'toolchain')
         linked(f'{FOLDER}/toolchain', f'{room}/toolchain', 'bin')
-        linked(f'{FOLDER}/toolchain/bin', f'{room}/toolchain/bin', 'clang')
-        with open(f'{room}/toolchain/bin/clang', 'w', encoding='utf-8') as file:
-            file.write(FAST.format(FOLDER))
-        os.chmod(f'{room}/toolchain/bin/clang', 0o755)
+        linked(f'{FOLDER}/toolchain/bin', f'{room}/toolchain/bin', *FAST)
+        for name, text in FAST.items():
+            with open(f'{room}/toolchain/bin/{name}', 'w', encoding='utf-8') as file:
+                file.write(text.format(FOLDER))
+            os.chmod(f'{room}/toolchain/bin/{name}', 0o755)
         rt.rtlib.KIT = room
         return try_alone(words)
 
 
-FAST = """#!/bin/bash
+# The compiler and the linker, with these words in place of their own: what checks addresses also hands out blocks of memory, slowly.
+FAST = {
+    'clang': """#!/bin/bash
 for word; do
     case $word in
     -O0) words+=(-O2) ;;
@@ -203,14 +206,25 @@ for word; do
     esac
 done
 exec {0}/toolchain/bin/clang "${{words[@]}}"
-"""
+""",
+    'ld.lld': """#!/bin/bash
+for word; do
+    case $word in
+    --whole-archive) skips=1 ;;
+    --no-whole-archive) skips= ;;
+    *) [ "$skips" ] || words+=("$word") ;;
+    esac
+done
+exec {0}/toolchain/bin/ld.lld "${{words[@]}}"
+""",
+}
 
 
-def linked(folder, to, apart):
-    """Makes a folder with a link to each thing in another one, but for one."""
+def linked(folder, to, *apart):
+    """Makes a folder with a link to each thing in another one, but for these."""
     os.makedirs(to, exist_ok=True)
     for name in os.listdir(folder):
-        if name != apart:
+        if name not in apart:
             os.symlink(f'{folder}/{name}', f'{to}/{name}')
 
 
