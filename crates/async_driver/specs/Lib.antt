@@ -1,4 +1,3 @@
 pub mod Stages
-pub mod Tasks
 pub mod Turns
 pub mod Waited

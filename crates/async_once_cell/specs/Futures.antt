@@ -15,17 +15,7 @@ pub record Waiting (C : Type 0) : Type 0 where
   pub entry : Option Listed
   pub ended : Option Seated
 
--- an initialisation: its cell, whether it was ready before, its entry in the cell's list of those that would make the value, the seat by which it waits or
--- makes, the one by which it has come to its end, and its maker
-pub record Initialising (C M : Type 0) : Type 0 where
-  pub cell : C
-  pub is_over : Bool
-  pub entry : Option Listed
-  pub seat : Option Seated
-  pub ended : Option Seated
-  pub maker : Option M
-
--- a set: as an initialisation, with its value until it is ready
+-- a set: as another future that has a maker, with its value until it is ready
 pub record Setting (C T : Type 0) : Type 0 where
   pub cell : C
   pub is_over : Bool
@@ -33,9 +23,6 @@ pub record Setting (C T : Type 0) : Type 0 where
   pub seat : Option Seated
   pub ended : Option Seated
   pub value : Option T
-
-abbrev pub initialising : {C M : Type 0} → Future C M → Initialising C M
-initialising f = record { cell = f.cell; is_over = f.is_over; entry = f.entry; seat = f.seat; ended = f.ended; maker = f.maker }
 
 abbrev pub value_in : {T : Type 0} → Option (Given T) → Option T
 value_in None = None

@@ -32,8 +32,8 @@ HasReceiptActive cell cx entry = IsSomeAnd entry (λ e. IsOf cell e.seat × (e.s
 abbrev pub HasReceiptPassive : Cell → Context → Option Listed → Type 0
 HasReceiptPassive cell cx entry = IsSomeAnd entry (λ e. IsOf cell e.seat × (e.seat.in_passive ≡ true) × receipts.IsWakerFor cx e.keeps) × Covers cx (λ s. s ≡ cell.source)
 
--- its cell, whether it was ready before, its entry in the cell's list of those that would make the value, the seat by which it waits or makes, the one by
--- which it has come to its end, and its maker
+-- a future that has a maker: its cell, whether it was ready before, its entry in the cell's list of those that would make the value, the seat by which it
+-- waits or makes, the one by which it has come to its end, and its maker until it is ready
 pub record Future (C M : Type 0) : Type 0 where
   pub cell : C
   pub is_over : Bool
@@ -42,7 +42,11 @@ pub record Future (C M : Type 0) : Type 0 where
   pub ended : Option Seated
   pub maker : Option M
 
--- how far a future is that was never polled
+-- a future that was never polled
+abbrev pub new_future : {C M : Type 0} → C → M → Future C M
+new_future cell maker = record { cell = cell; is_over = false; entry = None; seat = None; ended = None; maker = Some maker }
+
+-- how far that is
 abbrev pub fresh_stage : {M : Type 0} → M → Stage M
 fresh_stage maker = record { maker = Some maker; party = parties.Out }
 

@@ -2,6 +2,7 @@
 
 ghost use Rattle.std.specs.Prelude.{◌≡◌, IfErr, IfOk, IfSome, IsSomeAnd, Option, Some, None, false};
 ghost use Rattle.async_once_cell.specs.Faults.{EndsWith, FailedSo};
+ghost use Rattle.async_once_cell.specs.Stages.{new_future};
 ghost use Rattle.async_driver.specs.Turns.{CanRefuse, IsForMemory};
 ghost use Rattle.futures.specs.Poll.{IfReady, OnPending};
 ghost use Rattle.futures.specs.Task.{Covers, Keeps};
@@ -54,13 +55,12 @@ pub(crate) struct Blocked<'a, T, E, R: Waits, M: Maker<T, E>> {
 }
 
 impl<'a, T, E, R: Waits, M: Maker<T, E>> Model for Blocked<'a, T, E, R, M> {
-    ghost use Rattle.async_once_cell.specs.Futures.{Initialising, initialising};
-    ghost use Rattle.async_once_cell.specs.Stages.{KeepsStage, future};
+    ghost use Rattle.async_once_cell.specs.Stages.{Future, KeepsStage, future};
     ghost use Rattle.async_once_cell.specs.declared.cell.OnceCell.{OnceCell};
 
-    ghost Value = { Initialising (OnceCell T R) M };
+    ghost Value = { Future (OnceCell T R) M };
 
-    ghost view = { λ b. initialising (future b.cell.now b.stage) };
+    ghost view = { λ b. future b.cell.now b.stage };
 
     ghost invariant = { λ b. KeepsStage M.purpose M.is_new b.cell.now.raw b.stage };
 }
@@ -68,7 +68,7 @@ impl<'a, T, E, R: Waits, M: Maker<T, E>> Model for Blocked<'a, T, E, R, M> {
 impl<'a, T: Drop, E: Drop, R: Waits, M: Maker<T, E>> Blocked<'a, T, E, R, M> {
     pub(crate) fn new(cell: &'a OnceCell<T, R>, maker: M) -> Blocked<'a, T, E, R, M>
         requires { M.is_new maker }
-        ensures { result ≡ record { cell = cell.now; is_over = false; entry = None; seat = None; ended = None; maker = Some maker } }
+        ensures { result ≡ new_future cell.now maker }
     {
         Blocked {
             cell,

@@ -2,6 +2,7 @@
 
 ghost use Rattle.std.specs.Prelude.{◌≡◌, Some, None, IfErr, IfOk, IfSome, false, true};
 ghost use Rattle.async_once_cell.specs.Faults.{FaultOf, HasBack};
+ghost use Rattle.async_once_cell.specs.Stages.{new_future};
 ghost use Rattle.lock_program.specs.declared.refusal.Refusal.{Refusal};
 ghost use Rattle.async_once_cell.specs.declared.makers.Trying.TheVariants as tries;
 ghost use Rattle.async_once_cell.specs.declared.makers.Making.TheVariants as makes;
@@ -201,7 +202,7 @@ impl<T: Drop, R: Waits> OnceCell<T, R> {
     ) -> GetOrTryInit<'_, T, E, R, F, Fut>
         requires call { F.pre closure }
         requires poll { (fut : _) → F.post closure fut → Fut.can_poll fut }
-        ensures { result ≡ record { cell = self.now; is_over = false; entry = None; seat = None; ended = None; maker = Some (tries.Closure closure) } }
+        ensures { result ≡ new_future self.now (tries.Closure closure) }
     {
         GetOrTryInit::new(self, closure)
     }
@@ -218,7 +219,7 @@ impl<T: Drop, R: Waits> OnceCell<T, R> {
     ) -> GetOrInit<'_, T, R, F, Fut>
         requires call { F.pre closure }
         requires poll { (fut : _) → F.post closure fut → Fut.can_poll fut }
-        ensures { result ≡ record { cell = self.now; is_over = false; entry = None; seat = None; ended = None; maker = Some (makes.Closure closure) } }
+        ensures { result ≡ new_future self.now (makes.Closure closure) }
     {
         GetOrInit::new(self, closure)
     }

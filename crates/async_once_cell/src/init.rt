@@ -1,11 +1,11 @@
 //! The futures that make a cell's value by a closure.
 
-ghost use Rattle.std.specs.Prelude.{◌≡◌, ⊤, Some, IfSome, IsSomeAnd, false, true, None};
+ghost use Rattle.std.specs.Prelude.{◌≡◌, ⊤, IfSome, IsSomeAnd, true, None};
 ghost use Rattle.futures.specs.Task.{Keeps};
 ghost use Rattle.async_driver.specs.Turns.{IsForMemory, IsTurn, OnPending, OnReady};
 ghost use Rattle.async_once_cell.specs.Closures.{CanMake, CanTry, MakeGives, MakeNeeds, TryGives, TryNeeds, is_new_make, is_new_try};
 ghost use Rattle.async_once_cell.specs.Futures.{FailsSo, GoesOnBy, IsFoundBy, OnMemory, OnValue};
-ghost use Rattle.async_once_cell.specs.Stages.{IsAwaiting};
+ghost use Rattle.async_once_cell.specs.Stages.{IsAwaiting, new_future};
 ghost use Rattle.async_once_cell.specs.declared.makers.Trying.TheVariants as tries;
 ghost use Rattle.async_once_cell.specs.declared.makers.Making.TheVariants as makes;
 
@@ -38,15 +38,14 @@ pub struct GetOrTryInit<'a, T, E, R: Wait, F, Fut> {
 
 impl<'a, T, E, R: Wait, F, Fut> Model for GetOrTryInit<'a, T, E, R, F, Fut> {
     ghost use Rattle.async_once_cell.specs.Closures.{is_new_try};
-    ghost use Rattle.async_once_cell.specs.Futures.{Initialising, initialising};
-    ghost use Rattle.async_once_cell.specs.Stages.{KeepsStage, future};
+    ghost use Rattle.async_once_cell.specs.Stages.{Future, KeepsStage, future};
     ghost use Rattle.async_once_cell.specs.declared.cell.OnceCell.{OnceCell};
     ghost use Rattle.async_once_cell.specs.declared.makers.Trying.{Trying};
     ghost use Rattle.cell_core.specs.declared.maker.Purpose.TheVariants as purposes;
 
-    ghost Value = { Initialising (OnceCell T R) (Trying F Fut) };
+    ghost Value = { Future (OnceCell T R) (Trying F Fut) };
 
-    ghost view = { λ g. initialising (future g.cell.now g.stage) };
+    ghost view = { λ g. future g.cell.now g.stage };
 
     ghost invariant = { λ g. KeepsStage purposes.Makes is_new_try g.cell.now.raw g.stage };
 }
@@ -62,7 +61,7 @@ impl<
     pub(crate) fn new(cell: &'a OnceCell<T, R>, closure: F) -> GetOrTryInit<'a, T, E, R, F, Fut>
         requires call { F.pre closure }
         requires poll { (fut : _) → F.post closure fut → Fut.can_poll fut }
-        ensures { result ≡ record { cell = cell.now; is_over = false; entry = None; seat = None; ended = None; maker = Some (tries.Closure closure) } }
+        ensures { result ≡ new_future cell.now (tries.Closure closure) }
     {
         GetOrTryInit {
             cell,
@@ -173,15 +172,14 @@ pub struct GetOrInit<'a, T, R: Wait, F, Fut> {
 
 impl<'a, T, R: Wait, F, Fut> Model for GetOrInit<'a, T, R, F, Fut> {
     ghost use Rattle.async_once_cell.specs.Closures.{is_new_make};
-    ghost use Rattle.async_once_cell.specs.Futures.{Initialising, initialising};
-    ghost use Rattle.async_once_cell.specs.Stages.{KeepsStage, future};
+    ghost use Rattle.async_once_cell.specs.Stages.{Future, KeepsStage, future};
     ghost use Rattle.async_once_cell.specs.declared.cell.OnceCell.{OnceCell};
     ghost use Rattle.async_once_cell.specs.declared.makers.Making.{Making};
     ghost use Rattle.cell_core.specs.declared.maker.Purpose.TheVariants as purposes;
 
-    ghost Value = { Initialising (OnceCell T R) (Making F Fut) };
+    ghost Value = { Future (OnceCell T R) (Making F Fut) };
 
-    ghost view = { λ g. initialising (future g.cell.now g.stage) };
+    ghost view = { λ g. future g.cell.now g.stage };
 
     ghost invariant = { λ g. KeepsStage purposes.Makes is_new_make g.cell.now.raw g.stage };
 }
@@ -196,7 +194,7 @@ impl<'a, T: Drop, R: Wait, F: FnOnce() -> Fut, Fut: Future<Output = T>> GetOrIni
     pub(crate) fn new(cell: &'a OnceCell<T, R>, closure: F) -> GetOrInit<'a, T, R, F, Fut>
         requires call { F.pre closure }
         requires poll { (fut : _) → F.post closure fut → Fut.can_poll fut }
-        ensures { result ≡ record { cell = cell.now; is_over = false; entry = None; seat = None; ended = None; maker = Some (makes.Closure closure) } }
+        ensures { result ≡ new_future cell.now (makes.Closure closure) }
     {
         GetOrInit {
             cell,

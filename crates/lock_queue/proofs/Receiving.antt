@@ -4,7 +4,7 @@ use Rattle.futures.specs.Task.{Keeps, Wakes}
 use Rattle.futures.specs.declared.task.context.Context.{Context}
 use Rattle.futures.specs.declared.task.waker.Origin.{Origin}
 use Rattle.futures.specs.declared.task.waker.Waker.{Waker}
-use Rattle.async_driver.specs.Tasks.{woken_by}
+use Rattle.lock_queue.specs.Tasks.{woken_by}
 use Rattle.lock_queue.proofs.Keeping.{same_task}
 use Rattle.lock_queue.specs.Receipts.{IsWakerFor}
 use Rattle.lock_queue.specs.declared.whose.Whose.{Whose}

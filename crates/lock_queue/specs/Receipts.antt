@@ -7,8 +7,8 @@ use Rattle.lock_event.specs.Slots.{waker_at}
 use Rattle.lock_event.specs.declared.event.Entry.{Entry}
 use Rattle.lock_event.specs.declared.event.EntryId.{EntryId}
 use Rattle.lock_event.specs.declared.event.Slot.{Slot}
-use Rattle.async_driver.specs.Tasks.{IsPolledBy}
-use Rattle.async_driver.specs.Tasks.{woken_by}
+use Rattle.lock_queue.specs.Tasks.{IsPolledBy}
+use Rattle.lock_queue.specs.Tasks.{woken_by}
 use Rattle.lock_queue.specs.declared.whose.Whose.{Whose}
 
 -- the entry of this id keeps a waker of that task, or none

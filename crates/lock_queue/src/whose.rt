@@ -1,7 +1,7 @@
 //! Whose waker an entry keeps.
 
 ghost use Rattle.std.specs.Prelude.{◌≡◌, Option};
-ghost use Rattle.async_driver.specs.Tasks.{Woken, woken_coded};
+ghost use Rattle.lock_queue.specs.Tasks.{Woken, woken_coded};
 ghost use base.Fml.{ftrue};
 
 use futures::task::Waker;
@@ -18,7 +18,7 @@ impl Model for Whose {
 }
 
 impl Whose {
-    ghost use Rattle.async_driver.specs.Tasks.{woken_by};
+    ghost use Rattle.lock_queue.specs.Tasks.{woken_by};
 
     /// The task that this waker wakes, if there is one.
     pub fn of(waker: &Option<Waker>) -> Whose

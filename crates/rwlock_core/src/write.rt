@@ -336,19 +336,7 @@ impl RawRwLock {
         course.end(End::GivenBack, Place::Out);
     }
 
-    /// Gives the turn of an upgradable reader back, which goes on as a reader by the same seat.
-    #[inline]
-    pub fn downgrade_upgradable<R: Wait>(&self, rt: &R, upgradable: Upgradable) -> Reader
-        requires { IsUpgradableOf self.now upgradable }
-        ensures of { IsReaderOf self.now result }
-        ensures same { result.seat ≡ upgradable.seat }
-    {
-        let Upgradable { seat, turn } = upgradable;
-        self.downgrade_turn(rt, turn);
-        Reader { seat }
-    }
-
-    /// Does as [`RawRwLock::downgrade_upgradable`] does, by the turn alone: the seat takes no step, so it may be in pledge meanwhile.
+    /// Gives the turn of an upgradable reader back, which reads on by its seat: that takes no step, so it may be in pledge meanwhile.
     #[inline]
     pub fn downgrade_turn<R: Wait>(&self, rt: &R, turn: Turn)
         requires { IsHeldOf self.now.turn turn }

@@ -6,7 +6,7 @@ use Rattle.lock_event.specs.declared.event.Entry.{Entry}
 use Rattle.lock_event.specs.declared.event.EntryId.{EntryId}
 use Rattle.lock_event.specs.declared.event.Slot.{Slot}
 use Rattle.weighted_event.specs.declared.weighted.Load.{Load}
-use Rattle.async_driver.specs.Tasks.{woken_by}
+use Rattle.lock_queue.specs.Tasks.{woken_by}
 use Rattle.lock_queue.specs.declared.whose.Whose.{Whose}
 
 -- the entry of this id keeps a waker of that task, or none

@@ -1,7 +1,7 @@
 -- The entry that waits keeps the waker that was registered into.
 use Rattle.std.proofs.Common.{subst, sym, ap, ◌∙◌}
 use Rattle.futures.specs.Task.{Hears}
-use Rattle.async_driver.specs.Tasks.{woken_by}
+use Rattle.lock_queue.specs.Tasks.{woken_by}
 use Rattle.lock_queue.proofs.Keeping.{waker_at-waiting}
 use Rattle.lock_event.specs.Slots.{has_id, slot_of}
 use Rattle.lock_queue.proofs.Changes.{kept_keyed}

@@ -3,7 +3,7 @@ use Rattle.std.proofs.Common.{None, subst, sym, ap, ◌∙◌, true≢false}
 use Rattle.futures.specs.Task.{Hears}
 use Rattle.lock_event.specs.Lists.{is_waiting_at}
 use Rattle.lock_event.specs.Slots.{has_id}
-use Rattle.async_driver.specs.Tasks.{woken_by}
+use Rattle.lock_queue.specs.Tasks.{woken_by}
 use Rattle.lock_queue.proofs.Keeping.{waker_at-waiting, waits_joined}
 use Rattle.lock_queue.proofs.Changes.{joined_keyed}
 use Rattle.lock_queue.proofs.Receiving.{is_kept}

@@ -1,7 +1,7 @@
 -- The entry that waits keeps the waker that was registered into.
 use Rattle.std.proofs.Common.{None, refl, subst, sym, ap, ◌∙◌}
 use Rattle.futures.specs.Task.{Hears}
-use Rattle.async_driver.specs.Tasks.{woken_by}
+use Rattle.lock_queue.specs.Tasks.{woken_by}
 use Rattle.lock_queue.proofs.Keeping.{waits_isnt_marked, waits_listed}
 use Rattle.semaphore_core.proofs.Keeping.{kept_at-with_key}
 use Rattle.semaphore_core.proofs.Listed.{same-keyed}

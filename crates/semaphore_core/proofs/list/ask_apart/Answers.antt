@@ -4,7 +4,7 @@ use Rattle.futures.specs.Task.{Hears}
 use Rattle.lock_event.specs.Lists.{is_listed, is_marked_at}
 use Rattle.weighted_event.specs.Loads.{kept_at, load}
 use Rattle.lock_event.specs.Slots.{has_id}
-use Rattle.async_driver.specs.Tasks.{woken_by}
+use Rattle.lock_queue.specs.Tasks.{woken_by}
 use Rattle.lock_queue.proofs.Keeping.{unmarked-with_key, listed-with_key}
 use Rattle.semaphore_core.proofs.Keeping.{kept_at-with_key}
 use Rattle.semaphore_core.proofs.Listed.{gone-without, gone-unlisted, same-keyed, same-twice}

@@ -2,7 +2,7 @@
 use Rattle.std.proofs.Common.{◌≡◌, None, subst, sym, ap, ◌∙◌, true≢false}
 use Rattle.futures.specs.Task.{Hears}
 use Rattle.weighted_event.specs.Loads.{kept_at}
-use Rattle.async_driver.specs.Tasks.{woken_by}
+use Rattle.lock_queue.specs.Tasks.{woken_by}
 use Rattle.lock_queue.proofs.Keeping.{waits_isnt_marked, waits_listed}
 use Rattle.semaphore_core.proofs.Keeping.{kept_at-with_key}
 use Rattle.semaphore_core.proofs.Listed.{same-keyed}

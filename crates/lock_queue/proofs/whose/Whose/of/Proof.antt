@@ -3,7 +3,7 @@ use Rattle.atomic_table.proofs.Names.{◌≡◌, ℕ, [], ◌∷◌, refl, named
 use denote.Shadow.{pure_i}
 use Rattle.atomic_table.proofs.Walks.{proved, leaves}
 use Rattle.std.specs.contracts.option.Option as option
-use Rattle.async_driver.specs.Tasks.{woken_by}
+use Rattle.lock_queue.specs.Tasks.{woken_by}
 use Rattle.futures.specs.contracts.task.waker.Waker as source
 use Rattle.lock_queue.specs.contracts.whose.Whose as made
 use Rattle.lock_queue.specs.contracts.whose.Whose.of.{ended, clauses}
