@@ -27,7 +27,7 @@ CALLS = {
 }
 MADE = ("seat", "course", "standing")
 MOVES = re.compile(r"\.go\(")
-PAST = re.compile(r"giving_back|::steps\b|\.table\b|self\.access\.(?!sit\b|sit_and_look\b|split_duty\b)|self\.turn\.(?!cancel\b|first_look\b|poll_first\b|poll_later\b)")
+PAST = re.compile(r"giving_back|::steps\b|\.table\b|\bget_mut\(|self\.access\.(?!sit\b|sit_and_look\b|split_duty\b)|self\.turn\.(?!cancel\b|first_look\b|poll_first\b|poll_later\b)")
 MAKES = re.compile(r"\b(Course|Standing|Snapshot)(::of\(|\s*\{)")
 
 # Only seat.rt of a core makes what a seat steps with, and puts it into a seat, which the compiler lets no other file take apart.
@@ -83,7 +83,7 @@ for path in paths:
 for crate, names in CALLS.items():
     for name in names:
         path = f"crates/{crate}/src/{name}.rt"
-        for planted in ("seat.go(at, Found::Done);", "Course::of(&next);", "self.access.off(&mut seat);", "self.table.shared.peek(WORD);"):
+        for planted in ("seat.go(at, Found::Done);", "Course::of(&next);", "self.access.off(&mut seat);", "self.table.shared.peek(WORD);", "hold.get_mut(self.inner.room());"):
             if not list(found(path, code(path) + planted)):
                 faults.append(f"{path}: a planted line is not found: {planted}")
 print("\n".join(faults) or f"the calls of {len(CALLS)} locks act by their single actions alone, each a step once, and only their seats step")

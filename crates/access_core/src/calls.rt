@@ -127,48 +127,28 @@ impl Access {
         }
     }
 
-    // The same, of an entry that keeps the waker that it has: whether it waits.
-    #[cold]
-    #[inline(never)]
-    fn ask_again<R: Wait>(&self, rt: &R, side: Side, seat: &mut Seat, id: EntryId) -> bool
+    /// Asks, of an entry that has joined a list with a waker: one load, where nobody was notified since. Else it asks as [`Access::ask`] does.
+    pub fn still_waits<R: Wait>(
+        &self,
+        rt: &R,
+        side: Side,
+        seat: &mut Seat,
+        joined: Joined,
+        cx: &mut Context<'_>,
+    ) -> Option<Whose>
         requires of { IsOf self.now seat.old }
-        requires stands { StandsIn side id.number seat.old }
+        requires stands { StandsIn side joined.id.number seat.old }
         requires looked { seat.old.fresh ≡ false }
-        ensures told { result ≡ false → seat.new ≡ with_told side seat.old }
-        ensures waits { result ≡ true → seat.new ≡ seat.old }
-    {
-        let shared = &self.table.shared;
-        let found = take_out(shared, rt, &mut seat.inner);
-        let lists = seat.inner.slot_mut(shared, LIST_SLOT);
-        let heard = lists.ask_again(side, id);
-        let word = lists.says(found, false);
-        match heard {
-            Heard::Waits(()) => {
-                let found = give_same(shared, &mut seat.inner, word);
-                wake_next(shared, found);
-                true
-            }
-            Heard::Told(waker) => {
-                let found = give_told(shared, &mut seat.inner, side, word);
-                wake_next(shared, found);
-                drop(waker);
-                false
-            }
-        }
-    }
-
-    /// Returns whether an entry still waits that has joined a list with a waker: one load, where nobody was notified since. Else it asks for
-    /// its notification. Notified, it has left the list, and the seat owes.
-    pub fn still_waits<R: Wait>(&self, rt: &R, side: Side, seat: &mut Seat, joined: &Joined) -> bool
-        requires of { IsOf self.now seat.old }
-        requires stands { StandsIn side joined.now.id.number seat.old }
-        requires looked { seat.old.fresh ≡ false }
-        ensures told { result ≡ false → seat.new ≡ with_told side seat.old }
-        ensures waits { result ≡ true → seat.new ≡ seat.old }
+        requires keeps { IsReceipt self.now.source cx.old joined.whose }
+        ensures told { IfNone result ((seat.new ≡ with_told side seat.old) × (cx.new ≡ cx.old)) }
+        ensures waits { IfSome result (λ whose. (seat.new ≡ seat.old) × IsReceipt self.now.source cx.new whose) }
+        ensures kept { Keeps cx.old cx.new }
     {
         let told = joined.word / NOTIFICATION;
-        let is_still = told < MOST && self.table.shared.peek(LIST) / NOTIFICATION == told;
-        is_still || self.ask_again(rt, side, seat, joined.id)
+        if told < MOST && self.table.shared.peek(LIST) / NOTIFICATION == told {
+            return Some(joined.whose);
+        }
+        self.ask(rt, side, seat, joined.id, cx)
     }
 
     /// An entry leaves a list without asking: a notification that it had goes on to the next.

@@ -117,7 +117,7 @@ impl Lists {
         id: EntryId,
         source: &Source,
         cx: &mut Context<'_>,
-    ) -> Heard<Whose>
+    ) -> Heard
         ensures asked { ByHeard result (Changes (Leaves id.number) side self.old self.new) (λ _. Changes Stays side self.old self.new) }
         ensures waits { ByHeard result (cx.new ≡ cx.old) (IsReceipt source.now.id cx.new) }
         ensures kept { Keeps cx.old cx.new }
@@ -125,15 +125,6 @@ impl Lists {
         match side {
             Side::Readers => self.readers.ask(id, source, cx),
             Side::Writer => self.writer.ask(id, source, cx),
-        }
-    }
-
-    pub(crate) fn ask_again(&mut self, side: Side, id: EntryId) -> Heard<()>
-        ensures { ByHeard result (Changes (Leaves id.number) side self.old self.new) (λ _. Changes Stays side self.old self.new) }
-    {
-        match side {
-            Side::Readers => self.readers.ask_again(id),
-            Side::Writer => self.writer.ask_again(id),
         }
     }
 

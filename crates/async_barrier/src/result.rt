@@ -37,7 +37,7 @@ impl BarrierWaitResult {
         (BarrierWaitResult { is_leader, by }, ended)
     }
 
-    /// Returns whether this wait was the arrival that finished its generation. Of each generation exactly one is.
+    /// Returns whether this wait was the arrival that finished its generation. Of each generation exactly one is, which is tested.
     ///
     /// ```
     /// Ok(result.is_leader())

@@ -65,9 +65,9 @@ impl<T, R: Wait + Clock, O: Owns<Value = T, Runtime = R>> LockFuture<T, R, O> {
     ///
     /// Pending, it has an entry in the mutex's list that keeps a waker of the task that polls (`receipt`). The task has registered
     /// with the mutex's source (`registered`), and keeps what it had registered before (`kept`). Until it is ready the future keeps
-    /// its mutex (`share`). It waits by one seat, from the poll that joined the list to the guard (`same`): so it gets the mutex by no
-    /// other way, and keeps its wait. If it waits on, it waits since it first did, if the clock could be read then, until it counts as
-    /// starved (`since`).
+    /// its mutex (`share`). It waits by one seat, from the poll that joined the list to the guard (`same`), which
+    /// begins no other call meanwhile. If it waits on, it keeps the time since which it waits, if it has one, until it counts as starved
+    /// (`since`).
     ///
     /// ```
     /// match future.poll(cx) {

@@ -239,7 +239,7 @@ impl<T: Drop, R: Waits> OnceCell<T, R> {
 impl<T, R: Fills> OnceCell<T, R> {
     /// Puts this value in at once if the cell is empty, and else gives it back: also while another task makes the value. What it
     /// gives back is what was handed in. It waits for nobody but for the lists' short locks. It takes memory for the wakers that are
-    /// due, and does without where that is refused.
+    /// due, and does without where that is refused, which is tested.
     ///
     /// ```
     /// let is_put = cell.try_set(1u64).is_ok();

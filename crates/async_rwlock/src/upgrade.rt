@@ -74,7 +74,7 @@ impl<T, R: Wait, O: Owns<Value = T, Runtime = R>> UpgradeFuture<T, R, O> {
 }
 
 impl<T, R: Wait + Clock, O: Owns<Value = T, Runtime = R>> UpgradeFuture<T, R, O> {
-    /// Polls once: ready with the guard, or pending. It is the same seat throughout, and the value stays (`same`): at no time has it no right.
+    /// Polls once: ready with the guard, or pending. It is the same seat throughout, and the value stays (`same`).
     ///
     /// It is refused as [`Refusal::Memory`](crate::Refusal::Memory) if memory for its entry was refused. Then it keeps the right to be
     /// next, and may be polled again (`refused`). Once it was ready it is refused as

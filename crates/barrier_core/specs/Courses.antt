@@ -26,9 +26,13 @@ Course = Next Place Left
 abbrev pub course_coded : Coded Course
 course_coded = (next.the_row place.the_row left.the_row).coded
 
--- outside every call, with nothing
+-- outside every call, with nothing any more
 abbrev pub outside : Course
 outside = End GivenBack (Outside Out)
+
+-- it has begun no call: none ends so
+abbrev pub unbegun : Course
+unbegun = End Pending (Outside Out)
 
 -- It is outside every call, and has nothing: it hasn't begun, or is dropped; or its wait is ready; or a poll was refused before its arrival was counted.
 abbrev pub IsOutside : Course → Type 0
@@ -43,8 +47,10 @@ IsUndone (Do (EnterLock aim.Arrive)) = ⊤
 IsUndone (Do Join) = ⊤
 IsUndone _ = ⊥
 
--- the call may begin at this place, for a party that is outside every call
+-- The call may begin at this place, for a party that is outside every call. Once it has nothing any more, none begins: another call is another party's.
 abbrev pub IsStart : BarrierCall → Place → Course → Type 0
+IsStart call at (End Pending (Outside from)) = start_of call from ≡ Some at
+IsStart call at (End e (Outside Out)) = ⊥
 IsStart call at (End e (Outside from)) = start_of call from ≡ Some at
 IsStart call at _ = ⊥
 

@@ -356,24 +356,25 @@ impl RawBarrier {
     fn ask_joined<R: Wait>(
         &self,
         rt: &R,
-        cx: &Context<'_>,
+        cx: &mut Context<'_>,
         seat: Seat,
         joined: Joined,
         generation: u64,
     ) -> Checking
         requires seat { IsOf self.now seat × HasEntry generation joined.id.number seat }
         requires course { seat.course ≡ Do places.Ask }
-        requires keeps { IsReceipt self.now.inner.source cx.now joined.whose }
-        ensures outcome { IsCheckingOf self.now cx.now generation result }
+        requires keeps { IsReceipt self.now.inner.source cx.old joined.whose }
+        ensures outcome { IsCheckingOf self.now cx.new generation result }
         ensures same { IsCheckingBy seat result }
+        ensures kept { Keeps cx.old cx.new }
     {
-        let _ = cx;
         let mut seat = seat;
-        if self.still_waits(rt, &mut seat, &joined, Place::Ask) {
+        let id = joined.id;
+        if let Some(whose) = self.still_waits(rt, &mut seat, joined, cx, Place::Ask) {
             return Checking::Over(Outcome::Pending(Resting::Waiting(Waiting {
                 seat,
-                id: joined.id,
-                whose: joined.whose,
+                id,
+                whose,
                 generation,
             })));
         }

@@ -3,8 +3,9 @@
 ghost use Rattle.std.specs.Prelude.{◌≡◌, false, []};
 ghost use Rattle.lock_program.specs.declared.end.Next.TheVariants.{Do};
 ghost use Rattle.sync_program.specs.Barrier.{next_of};
+ghost use Rattle.sync_program.specs.declared.barrier.Place.TheVariants as places;
 ghost use Rattle.barrier_core.specs.Barriers.{IsIdle, entering, goes, with_begun};
-ghost use Rattle.barrier_core.specs.Courses.{IsOutside, IsStart, IsUndone, outside};
+ghost use Rattle.barrier_core.specs.Courses.{IsOutside, IsStart, IsUndone, outside, unbegun};
 
 use crate::list::Entries;
 use crate::raw::RawBarrier;
@@ -36,13 +37,13 @@ impl Model for Course {
 }
 
 impl Course {
-    /// A party outside every call, with nothing.
+    /// A party that has begun no call, with nothing.
     #[inline(always)]
     pub fn new() -> Course
-        ensures { result ≡ outside }
+        ensures { result ≡ unbegun }
     {
         Course {
-            next: Standing::of(&Next::End(End::GivenBack, Left::Outside(Position::Out))),
+            next: Standing::of(&Next::End(End::Pending, Left::Outside(Position::Out))),
         }
     }
 
@@ -112,10 +113,26 @@ impl Model for Seat {
 }
 
 impl RawBarrier {
-    /// Returns a new seat, which has nothing, of a party that is here in its program, and how many generations it has found finished: one
-    /// load.
+    /// Returns a new seat, which has nothing, of a party that looks next, and so has the inner lock, and how many generations it has found
+    /// finished: one load.
     #[inline]
     pub fn sit(&self, course: Course) -> (Seat, u64)
+        requires { course ≡ Do places.Look }
+        ensures { result.0 ≡ entering self.now result.0.id result.1 course }
+    {
+        self.seat(course)
+    }
+
+    // The seat of nobody, which begins no call.
+    pub(crate) fn sit_apart(&self) -> Seat
+        ensures { result ≡ entering self.now result.id result.found outside }
+    {
+        let next = Standing::of(&Next::End(End::GivenBack, Left::Outside(Position::Out)));
+        self.seat(Course { next }).0
+    }
+
+    #[inline(always)]
+    fn seat(&self, course: Course) -> (Seat, u64)
         ensures { result.0 ≡ entering self.now result.0.id result.1 course }
     {
         let (finished, inner) = self.table.shared.load_new_seat::<Looks>(WORD);

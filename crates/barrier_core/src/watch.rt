@@ -3,7 +3,6 @@
 ghost use Rattle.std.specs.Prelude.{◌≡◌};
 
 use crate::raw::RawBarrier;
-use crate::seat::Course;
 use lock_event::{EntryId, Mark};
 use std::sync::Wait;
 use words_barrier::steps::{ENTRIES, LIST, LIST_SLOT, WORD, give_same};
@@ -22,7 +21,7 @@ impl RawBarrier {
 
     /// Returns the entry at this index of the list, counted from the front, with its mark. It is for tests.
     pub fn entry<R: Wait>(&self, rt: &R, index: usize) -> Option<(EntryId, Mark)> {
-        let (mut seat, _) = self.sit(Course::new());
+        let mut seat = self.sit_apart();
         let shared = &self.table.shared;
         let found = take_out(shared, rt, &mut seat.inner);
         let list = seat.inner.slot_mut(shared, LIST_SLOT);

@@ -9,7 +9,7 @@ use Rattle.sync_program.specs.declared.once_cell.Found.{Found}
 use Rattle.sync_program.specs.declared.once_cell.ListName.{ListName}
 use Rattle.words_cell.specs.declared.view.View.{View}
 use Rattle.cell_core.specs.ByName.{is_active, is_passive}
-use Rattle.cell_core.specs.Courses.{Course, PlaceHere, course_coded, outside, IsNotifying}
+use Rattle.cell_core.specs.Courses.{Course, PlaceHere, course_coded, unbegun, IsNotifying}
 use Rattle.cell_core.specs.declared.state.State.{State}
 use Rattle.cell_core.specs.declared.state.State.TheVariants.{Empty, Making, Full}
 
@@ -68,7 +68,7 @@ IsSameSeat s t = t.id ≡ s.id
 
 -- a seat with nothing
 abbrev pub entering : Cell → ℕ → Seated
-entering cell id = record { table = cell.word.table; id = id; makes = false; owes = false; owes_active = false; owes_passive = false; in_active = false; in_passive = false; fresh = false; entry = 0; found = 0; taken = 0; course = outside }
+entering cell id = record { table = cell.word.table; id = id; makes = false; owes = false; owes_active = false; owes_passive = false; in_active = false; in_passive = false; fresh = false; entry = 0; found = 0; taken = 0; course = unbegun }
 
 -- what a look, a claim and each other step makes of a seat
 abbrev pub with_seen : ℕ → Seated → Seated

@@ -5,7 +5,7 @@ use denote.Builtin as builtin
 use Rattle.futures.specs.declared.task.Poll.{Poll}
 use Rattle.futures.specs.declared.task.Poll.TheVariants as polls
 use Rattle.lock_program.specs.contracts.end.Next as next
-use Rattle.lock_program.specs.declared.end.End.TheVariants.{Pending, GivenBack, Refused}
+use Rattle.lock_program.specs.declared.end.End.TheVariants.{Pending, Refused}
 use Rattle.lock_program.specs.declared.end.Next.{Next}
 use Rattle.lock_program.specs.declared.end.Next.TheVariants.{Do, End}
 use Rattle.lock_program.specs.declared.refusal.Refusal.TheVariants.{Memory}
@@ -40,9 +40,9 @@ Course = Next PlaceHere (Left (Unit {0}))
 abbrev pub course_coded : Coded Course
 course_coded = (next.the_row (place.the_row builtin.unit) (left.the_row builtin.unit)).coded
 
--- outside every call, with nothing
-abbrev pub outside : Course
-outside = End GivenBack (Outside Out)
+-- it has begun no call: none ends so
+abbrev pub unbegun : Course
+unbegun = End Pending (Outside Out)
 
 -- It is outside every call, and has nothing: its future is ready or dropped, its try is over, or its poll was refused.
 abbrev pub IsOutside : Course → Type 0
@@ -57,8 +57,10 @@ abbrev pub IsReady : Course → Type 0
 IsReady (End e (Ready got)) = ⊤
 IsReady _ = ⊥
 
--- where a call begins, for a party that is outside every call
+-- Where a call begins, for a party that is outside every call. Once it has nothing any more, none begins: another call is another seat's.
 abbrev pub starts_at : CellCall (Unit {0}) → Course → Option PlaceHere
+starts_at call (End Pending (Outside from)) = start_of call from
+starts_at call (End e (Outside Out)) = None
 starts_at call (End e (Outside from)) = start_of call from
 starts_at call _ = None
 

@@ -69,66 +69,30 @@ impl<T> RawCell<T> {
         }
     }
 
-    /// Whether an entry of this list waits that has joined with a waker: one load, where nobody was notified since. Else it asks for its
-    /// notification, as [`RawCell::ask`] does.
+    /// Asks, of an entry of this list that has joined with a waker: one load, where nobody was notified since. Else it asks as
+    /// [`RawCell::ask`] does.
     pub fn still_waits<R: Wait>(
         &self,
         rt: &R,
         seat: &mut Seat,
         list: ListName,
-        joined: &Joined,
+        joined: Joined,
+        cx: &mut Context<'_>,
         at: Place<()>,
-    ) -> bool
+    ) -> Option<Whose>
         requires of { IsOf self.now seat.old }
         requires course { IsAt at (act.Ask list) seat.old }
-        requires stands { StandsIn list joined.now.id.number seat.old × (seat.old.fresh ≡ false) }
-        ensures told { result ≡ false → seat.new ≡ goes at finds.Yes (with_heard list seat.old) }
-        ensures waits { result ≡ true → seat.new ≡ goes at finds.No seat.old }
+        requires stands { StandsIn list joined.id.number seat.old × (seat.old.fresh ≡ false) }
+        requires keeps { IsReceipt self.now.source cx.old joined.whose }
+        ensures told { IfNone result ((seat.new ≡ goes at finds.Yes (with_heard list seat.old)) × (cx.new ≡ cx.old)) }
+        ensures waits { IfSome result (λ whose. (seat.new ≡ goes at finds.No seat.old) × IsReceipt self.now.source cx.new whose) }
+        ensures kept { Keeps cx.old cx.new }
     {
         let told = joined.word / NOTIFICATION;
         if told < MOST && self.words.table.shared.peek(LIST) / NOTIFICATION == told {
             seat.go(at, Found::No);
-            return true;
+            return Some(joined.whose);
         }
-        self.ask_again(rt, seat, list, joined.id, at)
-    }
-
-    // Asks, of an entry that keeps the waker that it has: whether it waits.
-    #[cold]
-    #[inline(never)]
-    fn ask_again<R: Wait>(
-        &self,
-        rt: &R,
-        seat: &mut Seat,
-        list: ListName,
-        id: EntryId,
-        at: Place<()>,
-    ) -> bool
-        requires of { IsOf self.now seat.old }
-        requires course { IsAt at (act.Ask list) seat.old }
-        requires stands { StandsIn list id.number seat.old × (seat.old.fresh ≡ false) }
-        ensures told { result ≡ false → seat.new ≡ goes at finds.Yes (with_heard list seat.old) }
-        ensures waits { result ≡ true → seat.new ≡ goes at finds.No seat.old }
-    {
-        let shared = &self.words.table.shared;
-        let found = take_out(shared, rt, &mut seat.inner);
-        let lists = seat.inner.slot_mut(shared, LIST_SLOT);
-        let heard = lists.ask_again(list, id);
-        let word = lists.says(found, false);
-        match heard {
-            Heard::Waits(()) => {
-                let found = give_same(shared, &mut seat.inner, word);
-                wake_next(shared, found);
-                seat.go(at, Found::No);
-                true
-            }
-            Heard::Told(waker) => {
-                let found = give_heard(shared, &mut seat.inner, list, id, word);
-                wake_next(shared, found);
-                seat.go(at, Found::Yes);
-                drop(waker);
-                false
-            }
-        }
+        self.ask(rt, seat, list, joined.id, cx, at)
     }
 }

@@ -100,7 +100,7 @@ impl Lists {
         id: EntryId,
         source: &Source,
         cx: &mut Context<'_>,
-    ) -> Heard<Whose>
+    ) -> Heard
         ensures asked { ByHeard result (Changes (Leaves id.number) list self.old self.new) (λ _. AreKept self.old self.new) }
         ensures waits { ByHeard result (cx.new ≡ cx.old) (IsReceipt source.now.id cx.new) }
         ensures kept { Keeps cx.old cx.new }
@@ -108,16 +108,6 @@ impl Lists {
         match list {
             ListName::Active => self.active.ask(id, source, cx),
             ListName::Passive => self.passive.ask(id, source, cx),
-        }
-    }
-
-    // The same, of an entry that keeps the waker that it has.
-    pub(crate) fn ask_again(&mut self, list: ListName, id: EntryId) -> Heard<()>
-        ensures { ByHeard result (Changes (Leaves id.number) list self.old self.new) (λ _. AreKept self.old self.new) }
-    {
-        match list {
-            ListName::Active => self.active.ask_again(id),
-            ListName::Passive => self.passive.ask_again(id),
         }
     }
 

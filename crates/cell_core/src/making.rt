@@ -140,30 +140,26 @@ impl<T> RawCell<T> {
                 self.refuse(rt, seat, kind, told);
                 return Outcome::Refused(maker);
             };
+            let id = joined.id;
             // Whoever ended before it joined told nobody.
             match self.claim(&mut seat, Place::ClaimListed(kind)) {
                 State::Empty => {
-                    self.leave(rt, &mut seat, list, joined.id, Place::LeaveToMake(kind));
+                    self.leave(rt, &mut seat, list, id, Place::LeaveToMake(kind));
                     return self.make(rt, cx, seat, maker);
                 }
                 State::Making => {}
                 State::Full => {
                     let value = ();
                     let at = Place::LeaveFull { maker: kind, value };
-                    self.leave(rt, &mut seat, list, joined.id, at);
+                    self.leave(rt, &mut seat, list, id, at);
                     let (value, ended) = self.found(rt, seat);
                     return Outcome::Kept(maker, value, ended);
                 }
             }
-            if self.still_waits(rt, &mut seat, list, &joined, Place::AskActive(kind)) {
-                return Outcome::Pending(
-                    maker,
-                    Resting::Waits(WaitingToMake {
-                        seat,
-                        id: joined.id,
-                        whose: joined.whose,
-                    }),
-                );
+            let at = Place::AskActive(kind);
+            if let Some(whose) = self.still_waits(rt, &mut seat, list, joined, cx, at) {
+                let waiting = WaitingToMake { seat, id, whose };
+                return Outcome::Pending(maker, Resting::Waits(waiting));
             }
             told = true;
         }

@@ -52,7 +52,7 @@ impl<T> RawCell<T> {
     {
         Seat {
             inner: self.words.table.shared.load_new_seat::<Keep>(WORD).1,
-            course: Course::of(&Next::End(End::GivenBack, Left::Outside(Position::Out))),
+            course: Course::of(&Next::End(End::Pending, Left::Outside(Position::Out))),
         }
     }
 }

@@ -86,18 +86,16 @@ impl<T> RawCell<T> {
                     return Waited::Refused;
                 }
             };
+            let id = joined.id;
             // Whoever filled the cell before it joined told nobody.
             if self.look(&mut seat, Place::LookListed) == State::Full {
-                self.leave(rt, &mut seat, list, joined.id, Place::LeavePassive(()));
+                self.leave(rt, &mut seat, list, id, Place::LeavePassive(()));
                 let (value, ended) = self.found(rt, seat);
                 return Waited::Value(value, ended);
             }
-            if self.still_waits(rt, &mut seat, list, &joined, Place::AskPassive) {
-                return Waited::Waits(Waiting {
-                    seat,
-                    id: joined.id,
-                    whose: joined.whose,
-                });
+            let at = Place::AskPassive;
+            if let Some(whose) = self.still_waits(rt, &mut seat, list, joined, cx, at) {
+                return Waited::Waits(Waiting { seat, id, whose });
             }
             told = true;
         }

@@ -113,7 +113,7 @@ pub(crate) fn ask(
     id: EntryId,
     source: &Source,
     cx: &mut Context<'_>,
-) -> Heard<Whose>
+) -> Heard
     ensures answer { ByHeard result (is_waiting_at (has_id id) event.old.entries ≡ false) (λ _. is_waiting_at (has_id id) event.old.entries ≡ true) }
     ensures asked { ByHeard result (Becomes (Leaves id.number) event.old.entries event.new.entries) (λ _. Becomes Stays event.old.entries event.new.entries × IsSameSize event.old.entries event.new.entries) }
     ensures waits { ByHeard result (cx.new ≡ cx.old) (λ whose. KeepsAt id whose event.new.entries × IsReceipt source.now.id cx.new whose) }
@@ -122,17 +122,6 @@ pub(crate) fn ask(
     if let Some(slot) = event.waker_mut(id) {
         let _: Poll<()> = cx.register(source, slot);
         return Heard::Waits(Whose::of(slot));
-    }
-    Heard::Told(told(event, id))
-}
-
-// The same, of an entry that keeps the waker that it has.
-pub(crate) fn ask_again(event: &mut Event<Waker>, id: EntryId) -> Heard<()>
-    ensures answer { ByHeard result (is_waiting_at (has_id id) event.old.entries ≡ false) (λ _. is_waiting_at (has_id id) event.old.entries ≡ true) }
-    ensures asked { ByHeard result (Becomes (Leaves id.number) event.old.entries event.new.entries) (λ _. Becomes Stays event.old.entries event.new.entries × IsSameSize event.old.entries event.new.entries) }
-{
-    if event.is_waiting(id) {
-        return Heard::Waits(());
     }
     Heard::Told(told(event, id))
 }

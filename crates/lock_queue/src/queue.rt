@@ -1,7 +1,9 @@
 //! A list that is made when somebody first joins.
 
-ghost use Rattle.std.specs.Prelude.{◌≡◌, [], IfOk, IsSome, OnOk, OnErr, true};
+ghost use Rattle.std.specs.Prelude.{◌≡◌, [], IfOk, IsSome, OnOk, OnErr, true, false};
 ghost use Rattle.futures.specs.Task.{Keeps};
+ghost use Rattle.lock_event.specs.Lists.{is_waiting_at};
+ghost use Rattle.lock_event.specs.Slots.{has_id};
 ghost use Rattle.lock_queue.specs.Asking.{ByHeard};
 ghost use Rattle.lock_queue.specs.Queues.{entries_of, listed_in};
 ghost use Rattle.lock_queue.specs.Receipts.{KeepsAt, IsReceipt};
@@ -161,23 +163,14 @@ impl Queue {
     }
 
     /// An entry asks for its notification. One that waits keeps a waker of the task of `cx`, which registers with `source`.
-    pub fn ask(&mut self, id: EntryId, source: &Source, cx: &mut Context<'_>) -> Heard<Whose>
+    pub fn ask(&mut self, id: EntryId, source: &Source, cx: &mut Context<'_>) -> Heard
+        ensures answer { ByHeard result (is_waiting_at (has_id id) (entries_of self.old) ≡ false) (λ _. is_waiting_at (has_id id) (entries_of self.old) ≡ true) }
         ensures asked { ByHeard result (Leaves id.number (listed_in self.old) (listed_in self.new)) (λ _. Stays (listed_in self.old) (listed_in self.new) × IsSameSize (entries_of self.old) (entries_of self.new)) }
         ensures waits { ByHeard result (cx.new ≡ cx.old) (λ whose. KeepsAt id whose (entries_of self.new) × IsReceipt source.now.id cx.new whose) }
         ensures kept { Keeps cx.old cx.new }
     {
         match &mut self.entries {
             Some(event) => list::ask(event, id, source, cx),
-            None => Heard::Told(None),
-        }
-    }
-
-    /// The same, of an entry that keeps the waker that it has.
-    pub fn ask_again(&mut self, id: EntryId) -> Heard<()>
-        ensures asked { ByHeard result (Leaves id.number (listed_in self.old) (listed_in self.new)) (λ _. Stays (listed_in self.old) (listed_in self.new) × IsSameSize (entries_of self.old) (entries_of self.new)) }
-    {
-        match &mut self.entries {
-            Some(event) => list::ask_again(event, id),
             None => Heard::Told(None),
         }
     }

@@ -5,7 +5,7 @@ use Rattle.lock_program.specs.Mutex.{start_of}
 use Rattle.lock_program.specs.contracts.end.Next as next
 use Rattle.lock_program.specs.contracts.mutex.Place as place
 use Rattle.lock_program.specs.contracts.refusal.Refusal as refusal
-use Rattle.lock_program.specs.declared.end.End.TheVariants.{Got, Pending, GivenBack, Refused}
+use Rattle.lock_program.specs.declared.end.End.TheVariants.{Got, Pending, Refused}
 use Rattle.lock_program.specs.declared.end.Next.{Next}
 use Rattle.lock_program.specs.declared.end.Next.TheVariants.{Do, End}
 use Rattle.lock_program.specs.declared.mutex.LockCall.{LockCall}
@@ -25,9 +25,9 @@ course_coded = (next.the_row place.the_row place.the_row).coded
 abbrev pub refusal_coded : Coded Refusal
 refusal_coded = refusal.the_row.coded
 
--- outside every call, with nothing
-abbrev pub outside : Course
-outside = End GivenBack Out
+-- it has begun no call: none ends so
+abbrev pub unbegun : Course
+unbegun = End Pending Out
 
 -- it is outside every call, and has nothing
 abbrev pub IsOutside : Course → Type 0
@@ -43,8 +43,10 @@ abbrev pub pending : Bool → Course
 pending true = End Pending AskStarved
 pending false = End Pending Ask
 
--- the call may begin at this place, for a party that is outside every call
+-- The call may begin at this place, for a party that is outside every call. Once it has nothing any more, none begins: another call is another seat's.
 abbrev pub IsStart : LockCall → Place → Course → Type 0
+IsStart call at (End Pending from) = start_of call from ≡ Some at
+IsStart call at (End e Out) = ⊥
 IsStart call at (End e from) = start_of call from ≡ Some at
 IsStart call at (Do p) = ⊥
 

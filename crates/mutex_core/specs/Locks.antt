@@ -8,7 +8,7 @@ use Rattle.lock_program.specs.declared.end.Next.TheVariants.{Do}
 use Rattle.lock_program.specs.declared.mutex.Action.{Action}
 use Rattle.lock_program.specs.declared.mutex.Found.{Found}
 use Rattle.lock_program.specs.declared.mutex.Place.{Place}
-use Rattle.mutex_core.specs.Courses.{Course, course_coded, outside, holding}
+use Rattle.mutex_core.specs.Courses.{Course, course_coded, unbegun, holding}
 use Rattle.words_mutex.specs.declared.view.View.{View}
 
 -- Which right to a value it is: where the value lay when the lock was made, and the spare that the right may wait in.
@@ -68,7 +68,7 @@ HasSlots false slots = slots ≡ []
 
 -- a seat with nothing
 abbrev pub entering : Lock → ℕ → Seated
-entering lock id = record { table = lock.table; id = id; right = lock.right; holds = false; starved = false; owes = false; listed = false; fresh = false; entry = 0; passed = 0; course = outside }
+entering lock id = record { table = lock.table; id = id; right = lock.right; holds = false; starved = false; owes = false; listed = false; fresh = false; entry = 0; passed = 0; course = unbegun }
 
 -- it has got the lock while n were starved
 abbrev pub with_got : Seated → ℕ → Seated
@@ -107,7 +107,7 @@ with_count_owing s = record s { starved = true; owes = true }
 abbrev pub with_uncounted : Seated → Seated
 with_uncounted s = record s { starved = false }
 
--- it holds the lock, has and owes nothing else, and is outside every call
+-- it holds the lock, has and owes nothing else, and is unbegun every call
 abbrev pub IsHolding : Seated → Type 0
 IsHolding s = (s.holds ≡ true) × (s.starved ≡ false) × (s.owes ≡ false) × (s.listed ≡ false) × (s.fresh ≡ false) × (s.course ≡ holding)
 

@@ -177,60 +177,29 @@ impl<T> Words<T> {
         }
     }
 
-    // The same, of an entry that keeps the waker that it has: whether it waits.
-    #[cold]
-    #[inline(never)]
-    fn ask_again<R: Wait>(&self, rt: &R, seat: &mut Seat<T>, id: EntryId, at: Place) -> bool
-        requires of { IsOf self.now seat.old }
-        requires course { IsAt at act.Ask seat.old }
-        requires stands { (seat.old.listed ≡ true) × (seat.old.fresh ≡ false) }
-        requires own { seat.old.entry ≡ id.number }
-        ensures told { result ≡ false → seat.new ≡ goes at finds.Yes (with_told seat.old) }
-        ensures waits { result ≡ true → seat.new ≡ goes at finds.No seat.old }
-    {
-        let shared = &self.table.shared;
-        let found = take_out(shared, rt, &mut seat.inner);
-        let list = seat.inner.slot_mut(shared, LIST_SLOT);
-        let heard = list.queue.ask_again(id);
-        let word = list.says(found, false);
-        match heard {
-            Heard::Waits(()) => {
-                let found = give_same(shared, &mut seat.inner, word);
-                wake_next(shared, found);
-                seat.go(at, Found::No);
-                true
-            }
-            Heard::Told(waker) => {
-                let found = give_told(shared, &mut seat.inner, word);
-                wake_next(shared, found);
-                seat.go(at, Found::Yes);
-                drop(waker);
-                false
-            }
-        }
-    }
-
-    /// Whether an entry waits that has joined with a waker: one load, where the list was not notified since. Else it asks for its
-    /// notification, as [`Words::ask`] does.
+    /// Asks, of an entry that has joined with a waker: one load, where the list was not notified since. Else it asks as [`Words::ask`] does.
     pub fn still_waits<R: Wait>(
         &self,
         rt: &R,
         seat: &mut Seat<T>,
-        joined: &Joined,
+        joined: Joined,
+        cx: &mut Context<'_>,
         at: Place,
-    ) -> bool
+    ) -> Option<Whose>
         requires of { IsOf self.now seat.old }
         requires course { IsAt at act.Ask seat.old }
         requires stands { (seat.old.listed ≡ true) × (seat.old.fresh ≡ false) }
-        requires own { seat.old.entry ≡ joined.now.id.number }
-        ensures told { result ≡ false → seat.new ≡ goes at finds.Yes (with_told seat.old) }
-        ensures waits { result ≡ true → seat.new ≡ goes at finds.No seat.old }
+        requires own { seat.old.entry ≡ joined.id.number }
+        requires keeps { IsReceipt self.now.source cx.old joined.whose }
+        ensures told { IfNone result ((seat.new ≡ goes at finds.Yes (with_told seat.old)) × (cx.new ≡ cx.old)) }
+        ensures waits { IfSome result (λ whose. (seat.new ≡ goes at finds.No seat.old) × IsReceipt self.now.source cx.new whose) }
+        ensures kept { Keeps cx.old cx.new }
     {
         let told = joined.word / NOTIFICATION;
         if told < MOST && self.table.shared.peek(LIST) / NOTIFICATION == told {
             seat.go(at, Found::No);
-            return true;
+            return Some(joined.whose);
         }
-        self.ask_again(rt, seat, joined.id, at)
+        self.ask(rt, seat, joined.id, cx, at)
     }
 }

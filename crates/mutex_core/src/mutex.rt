@@ -117,16 +117,17 @@ impl<T> Words<T> {
             }
         };
         // Whoever gave the lock back before it joined told nobody.
+        let id = joined.id;
         match self.look(rt, &mut seat, Place::Look { told: false }) {
-            Taking::Got(hold) => return Outcome::Got(self.leave_with(rt, seat, hold, joined.id)),
+            Taking::Got(hold) => return Outcome::Got(self.leave_with(rt, seat, hold, id)),
             Taking::Held => {}
-            Taking::Starved => return self.count_here(rt, cx, seat, joined.id, false),
+            Taking::Starved => return self.count_here(rt, cx, seat, id, false),
         }
-        if self.still_waits(rt, &mut seat, &joined, Place::Ask) {
+        if let Some(whose) = self.still_waits(rt, &mut seat, joined, cx, Place::Ask) {
             return Outcome::Waits(Waiting {
                 seat,
-                id: joined.id,
-                whose: joined.whose,
+                id,
+                whose,
                 since: now(rt),
                 is_starved: false,
             });
@@ -134,7 +135,7 @@ impl<T> Words<T> {
         self.wait(rt, cx, seat, None)
     }
 
-    /// Polls a lock that waits. It goes on with the same seat (`same`), and waits since it first did, over all its polls (`since`).
+    /// Polls a lock that waits. It goes on with the same seat (`same`), and keeps the time since which it waits, once it has one (`since`).
     #[inline]
     pub fn poll_later<R: Wait + Clock>(
         &self,

@@ -1,7 +1,7 @@
 //! What a party steps with.
 
 ghost use Rattle.std.specs.Prelude.{◌≡◌, [], true, false};
-ghost use Rattle.mutex_core.specs.Courses.{IsOutside, IsStart, outside, refusing};
+ghost use Rattle.mutex_core.specs.Courses.{IsOutside, IsStart, refusing, unbegun};
 ghost use Rattle.mutex_core.specs.Locks.{HasSlots, goes, seated, with_begun};
 ghost use Rattle.words_mutex.specs.Rule.{first_view};
 
@@ -41,15 +41,15 @@ impl<T> Model for Seat<T> {
 }
 
 impl<T> Seat<T> {
-    // A new seat of this table, outside every call, with nothing: one load.
+    // A new seat of this table, which has begun no call, with nothing: one load.
     #[inline(always)]
     pub(crate) fn sit(shared: &Listing<T>) -> Seat<T>
         requires { shared.now.table_id.words ≡ 2 }
-        ensures { result ≡ seated shared.now.table_id result.id (first_view shared.now.key.room_id shared.now.key.deed) outside }
+        ensures { result ≡ seated shared.now.table_id result.id (first_view shared.now.key.room_id shared.now.key.deed) unbegun }
     {
         Seat {
             inner: shared.load_new_seat::<Keep>(WORD).1,
-            course: Course::of(&Next::End(End::GivenBack, Place::Out)),
+            course: Course::of(&Next::End(End::Pending, Place::Out)),
         }
     }
 

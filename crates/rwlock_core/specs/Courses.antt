@@ -39,10 +39,9 @@ abbrev pub leaves : Side → Action
 leaves sides.Readers = act.LeaveNoWriter
 leaves sides.Writer = act.LeaveNoReaders
 
--- where a call goes on once it has the turn
+-- where a poll goes on once it has the turn
 abbrev pub HasTurn : Place → Type 0
-HasTurn (at.Add trying) = ⊤
-HasTurn at.TryWrite = ⊤
+HasTurn (at.Add false) = ⊤
 HasTurn at.Mark = ⊤
 HasTurn _ = ⊥
 

@@ -47,22 +47,19 @@ impl RawRwLock {
             Ok(joined) => joined,
             Err(Memory) => return Awaited::NoMemory(seat),
         };
+        let id = joined.id;
         // The last reader may have gone before it joined, and told nobody.
         match self.look(&mut seat, course, Place::LookNoReaders { upgrade }) {
             Readers::NoneLeft => {
                 let at = Place::LeaveNoReaders;
-                self.leave(rt, Side::Writer, &mut seat, joined.id, course, at);
+                self.leave(rt, Side::Writer, &mut seat, id, course, at);
                 return Awaited::Writes(seat);
             }
             Readers::SomeLeft => {}
         }
         let at = Place::AskNoReaders { upgrade };
-        if self.still_waits(rt, Side::Writer, &mut seat, &joined, course, at) {
-            return Awaited::Waits(WaitsToWrite {
-                seat,
-                id: joined.id,
-                whose: joined.whose,
-            });
+        if let Some(whose) = self.still_waits(rt, Side::Writer, &mut seat, joined, cx, course, at) {
+            return Awaited::Waits(WaitsToWrite { seat, id, whose });
         }
         self.await_on(rt, cx, seat, course, upgrade)
     }

@@ -110,17 +110,18 @@ impl RawRwLock {
                 Refusal::Memory,
             )),
         };
+        let id = joined.id;
         // Whoever cleared the bit before it joined told nobody.
         let at = Place::LookNoWriter { told: false };
         match self.enter(rt, &mut seat, &mut course, at) {
             Entering::Reads => {
                 let at = Place::LeaveNoWriter;
-                self.leave(rt, Side::Readers, &mut seat, joined.id, &mut course, at);
+                self.leave(rt, Side::Readers, &mut seat, id, &mut course, at);
                 return reads(seat, course);
             }
             Entering::Full => {
                 let at = Place::RefuseLeave { told: false };
-                self.leave(rt, Side::Readers, &mut seat, joined.id, &mut course, at);
+                self.leave(rt, Side::Readers, &mut seat, id, &mut course, at);
                 return Outcome::Refused(self.refuse_read(
                     rt,
                     seat,
@@ -132,13 +133,10 @@ impl RawRwLock {
             Entering::Writer => {}
         }
         let at = Place::AskNoWriter;
-        if self.still_waits(rt, Side::Readers, &mut seat, &joined, &mut course, at) {
+        let side = Side::Readers;
+        if let Some(whose) = self.still_waits(rt, side, &mut seat, joined, cx, &mut course, at) {
             course.end(End::Pending, at);
-            return Outcome::Waits(WaitsToRead {
-                seat,
-                id: joined.id,
-                whose: joined.whose,
-            });
+            return Outcome::Waits(WaitsToRead { seat, id, whose });
         }
         self.notify_readers(rt, &mut seat, &mut course, Place::PassOn);
         self.read_on(rt, cx, seat, course)

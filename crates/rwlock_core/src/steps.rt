@@ -348,22 +348,28 @@ impl RawRwLock {
         rt: &R,
         side: Side,
         seat: &mut Seat,
-        joined: &Joined,
+        joined: Joined,
+        cx: &mut Context<'_>,
         course: &mut Course,
         at: Place,
-    ) -> bool
+    ) -> Option<Whose>
         requires of { IsOf self.now.access seat.old }
         requires course { IsAt at (asks side) course.old }
-        requires stands { StandsIn side joined.now.id.number seat.old }
+        requires stands { StandsIn side joined.id.number seat.old }
         requires looked { seat.old.fresh ≡ false }
-        ensures { MatchBool result ((seat.new ≡ seat.old) × Goes at finds.No course.new) ((seat.new ≡ with_told side seat.old) × Goes at finds.Yes course.new) }
+        requires keeps { IsReceipt self.now.access.source cx.old joined.whose }
+        ensures told { IfNone result ((seat.new ≡ with_told side seat.old) × (cx.new ≡ cx.old) × Goes at finds.Yes course.new) }
+        ensures waits { IfSome result (λ whose. (seat.new ≡ seat.old) × IsReceipt self.now.access.source cx.new whose × Goes at finds.No course.new) }
+        ensures kept { Keeps cx.old cx.new }
     {
-        if self.access.still_waits(rt, side, seat, joined) {
-            course.go(at, Found::No);
-            return true;
-        }
-        course.go(at, Found::Yes);
-        false
+        let kept = self.access.still_waits(rt, side, seat, joined, cx);
+        let found = if kept.is_some() {
+            Found::No
+        } else {
+            Found::Yes
+        };
+        course.go(at, found);
+        kept
     }
 
     // It leaves without asking.

@@ -75,7 +75,7 @@ module _ {S : Type 0} (waiters_of : S → List Waiter) (marked_of : S → ℕ) (
   removed entry now left n true e says f = hears entry now left n e says f
   removed entry now left n false e says f = (left, has left n says, goes entry now left e f.0, f.1 ∙ marked-now now e)
 
-  pub asks : {K : Type 0} (entry : ℕ) (now left : S) (n : ℕ) (h : Heard K) → m.1 ≡ (0, now) ∷ rest m.1 → Says (waiters_of left) n
+  pub asks : (entry : ℕ) (now left : S) (n : ℕ) (h : Heard) → m.1 ≡ (0, now) ∷ rest m.1 → Says (waiters_of left) n
       → ByHeard h (Goes now left entry) (λ _. (waiters_of left ≡ waiters_of now) × (marked_of left ≡ marked_of now))
       → ByHeard h (CanHear waiters_of marked_of (After left) n entry) (λ _. CanStay waiters_of marked_of (After left) n)
   asks entry now left n (Told kept) e says f = hears entry now left n e says f

@@ -19,7 +19,11 @@ Course = Next Place Position
 abbrev pub course_coded : Coded Course
 course_coded = (next.the_row place.the_row position.the_row).coded
 
--- outside every call, with nothing
+-- it has begun no call: none ends so
+abbrev pub unbegun : Course
+unbegun = End Pending Out
+
+-- outside every call, with nothing any more
 abbrev pub outside : Course
 outside = End GivenBack Out
 
@@ -35,8 +39,10 @@ granted = End Granted Out
 abbrev pub pending : ℕ → Course
 pending k = End Pending (Waiting k)
 
--- where it stands, if it is outside every call
+-- Where it stands, if it is outside every call. Once it has nothing any more it stands nowhere: another call is another seat's.
 abbrev pub stands : Course → Option Position
+stands (End Pending at) = Some at
+stands (End e Out) = None
 stands (End e at) = Some at
 stands (Do at) = None
 

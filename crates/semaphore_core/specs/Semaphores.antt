@@ -3,7 +3,7 @@ use Rattle.std.specs.Prelude.{◌≡◌, ℕ, ◌+◌, ◌-◌, ◌<◌, ◌&&�
 use Rattle.std.specs.Coded.{Coded, code_by, coded×, coded_ℕ, coded_bool}
 use Rattle.atomic_table.specs.Seated.{TableId, table_id_coded}
 use Rattle.lock_program.specs.declared.end.Next.TheVariants.{Do}
-use Rattle.semaphore_core.specs.Courses.{Course, course_coded, outside, IsHolding}
+use Rattle.semaphore_core.specs.Courses.{Course, course_coded, outside, unbegun, IsHolding}
 use Rattle.sync_program.specs.Permits.{action_of, next_of}
 use Rattle.sync_program.specs.declared.permits.Action.{Action}
 use Rattle.sync_program.specs.declared.permits.Found.{Found}
@@ -63,7 +63,7 @@ IsSameSeat s t = t.id ≡ s.id
 
 -- a seat that has nothing, and has done nothing
 abbrev pub entering : Semaphore → ℕ → Seated
-entering s id = record { table = s.word.table; id = id; permits = 0; under_way = 0; found = 0; limit = 0; added = 0; forgotten = 0; owes = false; seen = false; listed = false; fresh = false; entry = 0; weight = 0; course = outside }
+entering s id = record { table = s.word.table; id = id; permits = 0; under_way = 0; found = 0; limit = 0; added = 0; forgotten = 0; owes = false; seen = false; listed = false; fresh = false; entry = 0; weight = 0; course = unbegun }
 
 -- It has looked, and found a: fewer than it waits for, it is fresh no more; of nothing nobody has to be notified.
 abbrev pub with_look : ℕ → Seated → Seated

@@ -4,7 +4,7 @@
 
 ghost use Rattle.std.specs.Prelude.{◌≡◌, ℕ, true, IfErr, IfOk, IfSome, MatchBool, MatchResult};
 ghost use Rattle.lock_program.specs.declared.refusal.Refusal.TheVariants as refusals;
-ghost use Rattle.semaphore_core.specs.Courses.{IsStart, outside};
+ghost use Rattle.semaphore_core.specs.Courses.{IsStart, unbegun};
 ghost use Rattle.semaphore_core.specs.Outcomes.{IsJoining, IsLooking, IsTrying, IsVain, OnFirst, OnLooked, OnTried, Owes};
 ghost use Rattle.semaphore_core.specs.Semaphores.{Has, HasAdded, HasUnderWay, Holds, IsAt, IsNew, IsPastLimit, IsSameSeat, IsShort, with_forgotten};
 ghost use Rattle.lock_program.specs.declared.end.Next.TheVariants.{Do};
@@ -58,7 +58,7 @@ impl RawSemaphore {
     // The first action of a call, which takes this many permits at this place: one look, and one exchange.
     #[inline(always)]
     fn take_first(&self, call: SemaphoreCall, permits: u64, at: Place) -> Tried
-        requires course { IsStart call at outside }
+        requires course { IsStart call at unbegun }
         requires action { action_of at ≡ act.Take permits }
         ensures { OnFirst self.now permits at result }
     {

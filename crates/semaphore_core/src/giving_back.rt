@@ -12,7 +12,7 @@ ghost use Rattle.words_permits.specs.Waiters.{waiter};
 use crate::queue::Queue;
 use atomic_table::Seat as TableSeat;
 use lock_event::EntryId;
-use lock_queue::Heard;
+use lock_queue::{Heard, Whose};
 use words_permits::steps::{Ruled, give_gone, give_joined, give_same, give_told};
 use words_permits::{View, wake_next};
 
@@ -63,13 +63,13 @@ pub(crate) fn give_left(
 }
 
 // Gives the list back that the entry of this id has asked, with this word: what it keeps, if it waits. What one kept that was told is dropped then.
-pub(crate) fn give_asked<K>(
+pub(crate) fn give_asked(
     shared: &Listing,
     inner: &mut Lister,
     id: EntryId,
-    heard: Heard<K>,
+    heard: Heard,
     word: u64,
-) -> Option<K>
+) -> Option<Whose>
     requires table { (inner.old.table_id ≡ shared.now.table_id) × (shared.now.table_id.words ≡ 3) × (shared.now.table_id.slots ≡ 1) }
     requires list { ByHeard heard (CanHear queue_waiters queue_marked inner.old.me word id.number) (λ _. CanStay queue_waiters queue_marked inner.old.me word) }
     requires own { (inner.old.me.0.listed ≡ true) × (inner.old.me.0.entry ≡ id.number) }

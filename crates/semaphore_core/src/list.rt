@@ -90,7 +90,7 @@ pub(crate) fn ask(
     id: EntryId,
     source: &Source,
     cx: &mut Context<'_>,
-) -> Heard<Whose>
+) -> Heard
     ensures answer { ByHeard result ⊤ (λ _. is_marked_at (has_id id) event.old.entries ≡ false) }
     ensures asked { ByHeard result (IsGone event.old.entries event.new.entries id.number) (λ _. IsUnchanged event.old.entries event.new.entries) }
     ensures waits { ByHeard result (cx.new ≡ cx.old) (λ whose. KeepsAt id whose event.new.entries × IsReceipt source.now.id cx.new whose) }
@@ -110,7 +110,7 @@ fn ask_apart(
     id: EntryId,
     source: &Source,
     cx: &mut Context<'_>,
-) -> Heard<Whose>
+) -> Heard
     ensures answer { ByHeard result ⊤ (λ _. is_marked_at (has_id id) event.old.entries ≡ false) }
     ensures asked { ByHeard result (IsGone event.old.entries event.new.entries id.number) (λ _. IsUnchanged event.old.entries event.new.entries) }
     ensures waits { ByHeard result (cx.new ≡ cx.old) (λ whose. KeepsAt id whose event.new.entries × IsReceipt source.now.id cx.new whose) }
@@ -128,16 +128,4 @@ fn ask_apart(
         Asked::Notified { .. } => unreachable!(),
         Asked::Unlisted { .. } => unreachable!(),
     }
-}
-
-// The same, of an entry that keeps the waker that it has.
-pub(crate) fn ask_again(event: &mut WeightedEvent<Waker>, id: EntryId) -> Heard<()>
-    ensures answer { ByHeard result ⊤ (λ _. is_marked_at (has_id id) event.old.entries ≡ false) }
-    ensures asked { ByHeard result (IsGone event.old.entries event.new.entries id.number) (λ _. IsUnchanged event.old.entries event.new.entries) }
-{
-    if event.contains(id) && !event.is_notified(id) {
-        return Heard::Waits(());
-    }
-    let (_was_notified, kept) = event.withdraw(id);
-    Heard::Told(kept)
 }

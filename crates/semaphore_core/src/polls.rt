@@ -65,8 +65,7 @@ impl RawSemaphore {
             permits,
             told: None,
         };
-        if self.still_waits(rt, &mut seat, &joined, ask) {
-            let whose = joined.whose;
+        if let Some(whose) = self.still_waits(rt, &mut seat, joined, cx, ask) {
             return Outcome::Waits(Waiting { seat, id, whose });
         }
         self.go_on_told(rt, cx, permits, seat)

@@ -159,7 +159,7 @@ impl Queue {
     }
 
     // An entry asks for its notification. One that waits keeps a waker of the task of `cx`, which registers with `source`.
-    pub(crate) fn ask(&mut self, id: EntryId, source: &Source, cx: &mut Context<'_>) -> Heard<Whose>
+    pub(crate) fn ask(&mut self, id: EntryId, source: &Source, cx: &mut Context<'_>) -> Heard
         ensures answer { ByHeard result ⊤ (λ _. is_marked_at (has_id id) (entries_of self.old) ≡ false) }
         ensures asked { ByHeard result (IsGone (entries_of self.old) (entries_of self.new) id.number) (λ _. IsUnchanged (entries_of self.old) (entries_of self.new)) }
         ensures waits { ByHeard result (cx.new ≡ cx.old) (λ whose. KeepsAt id whose (entries_of self.new) × IsReceipt source.now.id cx.new whose) }
@@ -167,17 +167,6 @@ impl Queue {
     {
         match &mut self.entries {
             Some(event) => list::ask(event, id, source, cx),
-            None => Heard::Told(None),
-        }
-    }
-
-    // The same, of an entry that keeps what it has.
-    pub(crate) fn ask_again(&mut self, id: EntryId) -> Heard<()>
-        ensures answer { ByHeard result ⊤ (λ _. is_marked_at (has_id id) (entries_of self.old) ≡ false) }
-        ensures asked { ByHeard result (IsGone (entries_of self.old) (entries_of self.new) id.number) (λ _. IsUnchanged (entries_of self.old) (entries_of self.new)) }
-    {
-        match &mut self.entries {
-            Some(event) => list::ask_again(event, id),
             None => Heard::Told(None),
         }
     }

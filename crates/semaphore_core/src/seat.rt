@@ -1,7 +1,7 @@
 //! What a party steps with.
 
 ghost use Rattle.std.specs.Prelude.{◌≡◌, false, []};
-ghost use Rattle.semaphore_core.specs.Courses.{IsOutside, IsStart, outside};
+ghost use Rattle.semaphore_core.specs.Courses.{IsOutside, IsStart, unbegun};
 ghost use Rattle.semaphore_core.specs.Semaphores.{entering, goes, seated, with_begun, with_look};
 
 use crate::course::Course;
@@ -64,15 +64,15 @@ impl RawSemaphore {
 }
 
 impl Seat {
-    // A seat outside every call, with nothing.
+    // A seat that has begun no call, with nothing.
     #[inline(always)]
     fn new(inner: TableSeat<Queue, View>) -> Seat
         requires { (inner.me.1 ≡ []) × (inner.me.0.has_list ≡ false) × (inner.me.0.waiters ≡ []) × (inner.me.0.marked ≡ 0) }
-        ensures { result ≡ seated inner.table_id inner.id inner.me.0 outside }
+        ensures { result ≡ seated inner.table_id inner.id inner.me.0 unbegun }
     {
         Seat {
             inner,
-            course: Course::of(&Next::End(End::GivenBack, Position::Out)),
+            course: Course::of(&Next::End(End::Pending, Position::Out)),
         }
     }
 
