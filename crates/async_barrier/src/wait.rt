@@ -118,13 +118,16 @@ impl<R: Wait + Clock> BarrierWait<'_, R> {
 impl<R: Wait + Clock> Polled for BarrierWait<'_, R> {
     type Got = BarrierWaitResult;
 
+    ghost use Rattle.std.specs.Prelude.{IfSome};
     ghost use Rattle.async_driver.specs.Turns.{CanRefuse};
-    ghost use Rattle.async_barrier.specs.Futures.{IsResultAt};
+    ghost use Rattle.async_barrier.specs.Futures.{GoesOnBy, IsResultAt};
     ghost use Rattle.barrier_core.specs.Outcomes.{IsGivenUp};
 
     ghost gives = { λ wait got. IsResultAt wait.barrier.raw got };
 
     ghost refuses = { λ wait. CanRefuse IsGivenUp wait.is_over };
+
+    ghost goes_on = { λ old turn new. IfSome old.waiting (λ r. GoesOnBy r turn new.waiting new.ended) };
 
     fn poll_turn(&mut self, cx: &mut Context<'_>) -> Turn<BarrierWaitResult> {
         self.poll(cx)

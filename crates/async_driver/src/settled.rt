@@ -3,6 +3,7 @@
 ghost use Rattle.std.specs.Prelude.{◌≡◌, ℕ, ⊤, IfOk, IfErr};
 ghost use Rattle.futures.specs.Task.{Covers, Keeps};
 ghost use Rattle.async_driver.specs.Turns.{OnPending, OnReady, OnRefused};
+ghost use Rattle.async_driver.specs.declared.turn.Turn.{Turn as Answer};
 ghost use Rattle.lock_program.specs.declared.refusal.Refusal.{Refusal as Refused};
 
 use crate::turn::Turn;
@@ -24,6 +25,9 @@ pub trait Polled: Drop {
     /// With which names the future may refuse.
     ghost refuses: { Self → Refused → Type 0 } = { λ _ _. ⊤ };
 
+    /// How a poll goes on with what the future has: by which seat, say.
+    ghost goes_on: { Self → Answer Self.Got → Self → Type 0 } = { λ _ _ _. ⊤ };
+
     /// One poll. Pending, it has registered with a source that covers the task. What it gives, and how it refuses, is what it gave
     /// promise of before.
     fn poll_turn(&mut self, cx: &mut Context<'_>) -> Turn<Self::Got>
@@ -31,6 +35,7 @@ pub trait Polled: Drop {
         ensures again { can_poll self.new }
         ensures got { OnReady result (gives self.old) }
         ensures refused { OnRefused result (refuses self.old) }
+        ensures on { goes_on self.old result self.new }
         ensures same { OnPending result ((got : Self.Got) → gives self.new got → gives self.old got) }
         ensures same_refusals { OnPending result ((refusal : Refused) → refuses self.new refusal → refuses self.old refusal) }
         ensures registered { OnPending result (Covers cx.new (λ _. ⊥)) }

@@ -105,13 +105,17 @@ impl<T, R: Wait + Clock, O: Owns<Value = T, Runtime = R>> LockFuture<T, R, O> {
 impl<T, R: Wait + Clock, O: Owns<Value = T, Runtime = R>> Polled for LockFuture<T, R, O> {
     type Got = Guard<T, R, O>;
 
+    ghost use Rattle.std.specs.Prelude.{IfSome};
     ghost use Rattle.async_driver.specs.Stages.{IsOf, is_finished};
     ghost use Rattle.async_driver.specs.Turns.{CanRefuse};
+    ghost use Rattle.async_mutex.specs.Futures.{GoesOnBy, WaitsSinceThen};
     ghost use Rattle.mutex_core.specs.Outcomes.{IsGivenUp};
 
     ghost gives = { λ future guard. IsOf O.lock_of future.stage guard.mutex };
 
     ghost refuses = { λ future. CanRefuse IsGivenUp (is_finished future.stage) };
+
+    ghost goes_on = { λ old turn new. IfSome old.entry (λ e. GoesOnBy (λ guard. guard.seat) e.seat turn new.entry × WaitsSinceThen e.since turn new.entry) };
 
     fn poll_turn(&mut self, cx: &mut Context<'_>) -> Turn<Guard<T, R, O>> {
         self.poll(cx)

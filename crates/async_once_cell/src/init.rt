@@ -133,7 +133,7 @@ impl<
 
     ghost use Rattle.async_once_cell.specs.Closures.{CanTry, TryGives};
     ghost use Rattle.async_driver.specs.Turns.{CanRefuse, IsForMemory};
-    ghost use Rattle.async_once_cell.specs.Futures.{FailsSo};
+    ghost use Rattle.async_once_cell.specs.Futures.{FailsSo, GoesOnBy};
     ghost use Rattle.std.specs.Prelude.{IfSome};
 
     ghost can_poll = { λ g. IfSome g.maker (CanTry F.pre F.post Fut.can_poll) };
@@ -141,6 +141,8 @@ impl<
     ghost gives = { λ g got. FailsSo (TryGives F.post Fut.gives) g.maker got };
 
     ghost refuses = { λ g. CanRefuse IsForMemory g.is_over };
+
+    ghost goes_on = { λ old turn new. GoesOnBy old.seat turn new.seat new.ended };
 
     fn poll_turn(&mut self, cx: &mut Context<'_>) -> Turn<Result<&'a T, E>> {
         self.poll(cx)
@@ -246,12 +248,15 @@ impl<'a, T: Drop, R: Wait + Clock, F: FnOnce() -> Fut, Fut: Future<Output = T>> 
     type Got = &'a T;
 
     ghost use Rattle.async_once_cell.specs.Closures.{CanMake};
+    ghost use Rattle.async_once_cell.specs.Futures.{GoesOnBy};
     ghost use Rattle.std.specs.Prelude.{IfSome};
     ghost use Rattle.async_driver.specs.Turns.{CanRefuse, IsForMemory};
 
     ghost can_poll = { λ g. IfSome g.maker (CanMake F.pre F.post Fut.can_poll) };
 
     ghost refuses = { λ g. CanRefuse IsForMemory g.is_over };
+
+    ghost goes_on = { λ old turn new. GoesOnBy old.seat turn new.seat new.ended };
 
     fn poll_turn(&mut self, cx: &mut Context<'_>) -> Turn<&'a T> {
         self.poll(cx)

@@ -120,10 +120,13 @@ impl<'a, T: Drop, R: Wait + Clock> Polled for Set<'a, T, R> {
     type Got = Result<&'a T, T>;
 
     ghost use Rattle.async_driver.specs.Turns.{CanRefuse, IsForMemory};
+    ghost use Rattle.async_once_cell.specs.Futures.{GoesOnBy};
 
     ghost gives = { λ set got. IsSet set.value got };
 
     ghost refuses = { λ set. CanRefuse IsForMemory set.is_over };
+
+    ghost goes_on = { λ old turn new. GoesOnBy old.seat turn new.seat new.ended };
 
     fn poll_turn(&mut self, cx: &mut Context<'_>) -> Turn<Result<&'a T, T>> {
         self.poll(cx)

@@ -129,8 +129,11 @@ impl<'a, T: Drop, R: Waits + Clock> Polled for Wait<'a, T, R> {
     type Got = &'a T;
 
     ghost use Rattle.async_driver.specs.Turns.{CanRefuse, IsForMemory};
+    ghost use Rattle.async_once_cell.specs.Futures.{GoesOnBy, seat_in};
 
     ghost refuses = { λ wait. CanRefuse IsForMemory wait.is_over };
+
+    ghost goes_on = { λ old turn new. GoesOnBy (seat_in old.entry) turn (seat_in new.entry) new.ended };
 
     fn poll_turn(&mut self, cx: &mut Context<'_>) -> Turn<&'a T> {
         self.poll(cx)

@@ -116,12 +116,16 @@ impl<T, R: Wait + Clock, O: Owns<Value = T, Runtime = R>, G: Acquired<Owner = O>
     for GuardFuture<T, R, O, G> {
     type Got = G;
 
+    ghost use Rattle.std.specs.Prelude.{IfSome};
     ghost use Rattle.async_driver.specs.Stages.{IsOf, is_finished};
     ghost use Rattle.async_driver.specs.Turns.{CanRefuse};
+    ghost use Rattle.async_rwlock.specs.Stages.{GoesOnBy};
 
     ghost gives = { λ future guard. IsOf O.lock_of future.stage (G.held guard).lock × G.has_room guard };
 
     ghost refuses = { λ future. CanRefuse G.refuses (is_finished future.stage) };
+
+    ghost goes_on = { λ old turn new. IfSome old.waiting (λ e. GoesOnBy (λ guard. (G.held guard).seat) (λ guard. (G.held guard).turn_seat) e turn new.waiting) };
 
     fn poll_turn(&mut self, cx: &mut Context<'_>) -> Turn<G> {
         self.poll(cx)

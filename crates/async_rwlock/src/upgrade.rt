@@ -135,11 +135,14 @@ impl<T, R: Wait + Clock, O: Owns<Value = T, Runtime = R>> Polled for UpgradeFutu
 
     ghost use Rattle.async_driver.specs.Stages.{IsOf, is_finished};
     ghost use Rattle.async_driver.specs.Turns.{CanRefuse};
+    ghost use Rattle.async_rwlock.specs.Upgrades.{IsSameRight};
     ghost use Rattle.rwlock_core.specs.Outcomes.{IsUpgradeRefusal};
 
     ghost gives = { λ future guard. IsOf O.lock_of future.stage guard.lock × (future.seat ≡ Some guard.seat.id) × (future.value ≡ Some guard.value) };
 
     ghost refuses = { λ future. CanRefuse IsUpgradeRefusal (is_finished future.stage) };
+
+    ghost goes_on = { λ old turn new. IsSameRight turn old new };
 
     fn poll_turn(&mut self, cx: &mut Context<'_>) -> Turn<WriteGuard<T, R, O>> {
         self.poll(cx)

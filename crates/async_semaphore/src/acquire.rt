@@ -158,12 +158,15 @@ impl<R: Wait + Clock, O: Owns<Runtime = R>> Polled for AcquireFuture<R, O> {
     type Got = PermitGuard<R, O>;
 
     ghost use Rattle.async_driver.specs.Stages.{is_finished};
+    ghost use Rattle.std.specs.Prelude.{IfSome};
     ghost use Rattle.async_driver.specs.Turns.{CanRefuse, IsForMemory};
-    ghost use Rattle.async_semaphore.specs.Stages.{Gives};
+    ghost use Rattle.async_semaphore.specs.Stages.{Gives, GoesOnBy};
 
     ghost gives = { λ future guard. Gives O.semaphore_of future.stage future.permits guard };
 
     ghost refuses = { λ future. CanRefuse IsForMemory (is_finished future.stage) };
+
+    ghost goes_on = { λ old turn new. IfSome old.waiting (λ w. GoesOnBy w.seat turn new.waiting) };
 
     fn poll_turn(&mut self, cx: &mut Context<'_>) -> Turn<PermitGuard<R, O>> {
         self.poll(cx)
