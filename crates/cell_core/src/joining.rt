@@ -1,6 +1,6 @@
 //! Joins with a waker, after which an ask is one load.
 
-ghost use Rattle.std.specs.Prelude.{◌≡◌, true, false, IfOk, OnErr};
+ghost use Rattle.std.specs.Prelude.{◌≡◌, true, false, IfNone, IfOk, IfSome, OnErr};
 ghost use Rattle.futures.specs.Task.{Keeps};
 ghost use Rattle.sync_program.specs.declared.once_cell.Action.TheVariants as act;
 ghost use Rattle.sync_program.specs.declared.once_cell.Found.TheVariants as finds;
@@ -13,7 +13,7 @@ use crate::lists::MOST;
 use crate::seat::Seat;
 use futures::task::Context;
 use lock_event::{EntryId, Memory};
-use lock_queue::{Heard, Whose};
+use lock_queue::Whose;
 use std::sync::Wait;
 use sync_program::once_cell::{Found, ListName, Place};
 use words_cell::steps::{LIST, LIST_SLOT, NOTIFICATION, give_same};
