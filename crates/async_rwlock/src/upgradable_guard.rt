@@ -200,8 +200,7 @@ impl<T, R: Releases, O: Owns<Value = T, Runtime = R>> UpgradableGuard<T, R, O> {
     /// Writes, if nobody else reads. Otherwise the guard comes back: by the contract its seat has found another reader, or the writer's bit
     /// (`beside`).
     ///
-    /// It is the same seat, which has a right before and after (`writes`, `reads`); it is one step, so nobody writes in between. The value stays
-    /// (`value`).
+    /// It is the same seat, which has a right before and after (`writes`, `reads`), and the value stays (`value`).
     ///
     /// ```
     /// let Ok(mut writer) = RwLockUpgradableReadGuard::try_upgrade(upgradable) else {

@@ -107,7 +107,7 @@ with_count_owing s = record s { starved = true; owes = true }
 abbrev pub with_uncounted : Seated → Seated
 with_uncounted s = record s { starved = false }
 
--- it holds the lock, has and owes nothing else, and is unbegun every call
+-- it holds the lock, has and owes nothing else, and is outside every call
 abbrev pub IsHolding : Seated → Type 0
 IsHolding s = (s.holds ≡ true) × (s.starved ≡ false) × (s.owes ≡ false) × (s.listed ≡ false) × (s.fresh ≡ false) × (s.course ≡ holding)
 
