@@ -1,5 +1,5 @@
 -- What contracts see of a lock, and of a seat.
-use Rattle.std.specs.Prelude.{◌≡◌, ℕ, Bool, true, false, List, [], ◌∷◌, refl}
+use Rattle.std.specs.Prelude.{◌≡◌, ℕ, ◌%◌, ◌≤◌, ◌⊎◌, Bool, true, false, List, [], ◌∷◌, refl}
 use Rattle.std.specs.Coded.{Coded, code_by, coded×, coded_ℕ, coded_bool}
 use Rattle.atomic_table.specs.Seated.{TableId, table_id_coded}
 use Rattle.lock_place.specs.Held.{RoomId, room_id_coded}
@@ -7,6 +7,7 @@ use Rattle.lock_program.specs.Mutex.{action_of, next_of}
 use Rattle.lock_program.specs.declared.end.Next.TheVariants.{Do}
 use Rattle.lock_program.specs.declared.mutex.Action.{Action}
 use Rattle.lock_program.specs.declared.mutex.Found.{Found}
+use Rattle.lock_program.specs.declared.mutex.Found.TheVariants as finds
 use Rattle.lock_program.specs.declared.mutex.Place.{Place}
 use Rattle.mutex_core.specs.Courses.{Course, course_coded, unbegun, holding}
 use Rattle.words_mutex.specs.declared.view.View.{View}
@@ -33,7 +34,7 @@ abbrev pub lock_coded : Coded Lock
 lock_coded = code_by (TableId × (RightId × (RoomId × (ℕ × (ℕ × Bool))))) (coded× table_id_coded (coded× right_id_coded (coded× room_id_coded (coded× coded_ℕ (coded× coded_ℕ coded_bool))))) (λ l. (l.table, (l.right, (l.room, (l.source, (l.limit, l.is_left)))))) (λ p. record { table = p.0; right = p.1.0; room = p.1.1.0; source = p.1.1.1.0; limit = p.1.1.1.1.0; is_left = p.1.1.1.1.1 }) (λ _. refl)
 
 -- A seat: of which table it is, which number it has there, and of which right, whether it holds the lock, is counted as starved, owes, has an entry, and has not looked since it joined; the
--- number of its entry; how many were starved when it last got the lock; and where it is in its program.
+-- number of its entry; what its last look at the lock's word, or its last step to get the lock, found; and where it is in its program.
 pub record Seated : Type 0 where
   pub table : TableId
   pub id : ℕ
@@ -44,14 +45,14 @@ pub record Seated : Type 0 where
   pub listed : Bool
   pub fresh : Bool
   pub entry : ℕ
-  pub passed : ℕ
+  pub found : ℕ
   pub course : Course
 
 abbrev pub seated_coded : Coded Seated
-seated_coded = code_by (TableId × (ℕ × (RightId × (Bool × (Bool × (Bool × (Bool × (Bool × (ℕ × (ℕ × Course)))))))))) (coded× table_id_coded (coded× coded_ℕ (coded× right_id_coded (coded× coded_bool (coded× coded_bool (coded× coded_bool (coded× coded_bool (coded× coded_bool (coded× coded_ℕ (coded× coded_ℕ course_coded)))))))))) (λ s. (s.table, (s.id, (s.right, (s.holds, (s.starved, (s.owes, (s.listed, (s.fresh, (s.entry, (s.passed, s.course))))))))))) (λ p. record { table = p.0; id = p.1.0; right = p.1.1.0; holds = p.1.1.1.0; starved = p.1.1.1.1.0; owes = p.1.1.1.1.1.0; listed = p.1.1.1.1.1.1.0; fresh = p.1.1.1.1.1.1.1.0; entry = p.1.1.1.1.1.1.1.1.0; passed = p.1.1.1.1.1.1.1.1.1.0; course = p.1.1.1.1.1.1.1.1.1.1 }) (λ _. refl)
+seated_coded = code_by (TableId × (ℕ × (RightId × (Bool × (Bool × (Bool × (Bool × (Bool × (ℕ × (ℕ × Course)))))))))) (coded× table_id_coded (coded× coded_ℕ (coded× right_id_coded (coded× coded_bool (coded× coded_bool (coded× coded_bool (coded× coded_bool (coded× coded_bool (coded× coded_ℕ (coded× coded_ℕ course_coded)))))))))) (λ s. (s.table, (s.id, (s.right, (s.holds, (s.starved, (s.owes, (s.listed, (s.fresh, (s.entry, (s.found, s.course))))))))))) (λ p. record { table = p.0; id = p.1.0; right = p.1.1.0; holds = p.1.1.1.0; starved = p.1.1.1.1.0; owes = p.1.1.1.1.1.0; listed = p.1.1.1.1.1.1.0; fresh = p.1.1.1.1.1.1.1.0; entry = p.1.1.1.1.1.1.1.1.0; found = p.1.1.1.1.1.1.1.1.1.0; course = p.1.1.1.1.1.1.1.1.1.1 }) (λ _. refl)
 
 abbrev pub seated : TableId → ℕ → View → Course → Seated
-seated table id v course = record { table = table; id = id; right = record { room = v.room; deed = v.deed }; holds = v.holds; starved = v.starved; owes = v.owes; listed = v.listed; fresh = v.fresh; entry = v.entry; passed = v.passed; course = course }
+seated table id v course = record { table = table; id = id; right = record { room = v.room; deed = v.deed }; holds = v.holds; starved = v.starved; owes = v.owes; listed = v.listed; fresh = v.fresh; entry = v.entry; found = v.found; course = course }
 
 -- The seat is one of the lock.
 abbrev pub IsOf : Lock → Seated → Type 0
@@ -68,18 +69,20 @@ HasSlots false slots = slots ≡ []
 
 -- a seat with nothing
 abbrev pub entering : Lock → ℕ → Seated
-entering lock id = record { table = lock.table; id = id; right = lock.right; holds = false; starved = false; owes = false; listed = false; fresh = false; entry = 0; passed = 0; course = unbegun }
+entering lock id = record { table = lock.table; id = id; right = lock.right; holds = false; starved = false; owes = false; listed = false; fresh = false; entry = 0; found = 0; course = unbegun }
 
--- it has got the lock while n were starved
-abbrev pub with_got : Seated → ℕ → Seated
-with_got s n = record s { holds = true; owes = false; fresh = false; passed = n }
+-- what its step makes of it that found the word n: it has got the lock, found it held, has looked, or has only seen the word
+abbrev pub with_got : ℕ → Seated → Seated
+with_got n s = record s { holds = true; owes = false; fresh = false; found = n }
 
-abbrev pub with_held : Seated → Seated
-with_held s = record s { owes = false; fresh = false }
+abbrev pub with_held : ℕ → Seated → Seated
+with_held n s = record s { owes = false; fresh = false; found = n }
 
--- it has looked
-abbrev pub with_look : Seated → Seated
-with_look s = record s { fresh = false }
+abbrev pub with_look : ℕ → Seated → Seated
+with_look n s = record s { fresh = false; found = n }
+
+abbrev pub with_found : ℕ → Seated → Seated
+with_found n s = record s { found = n }
 
 abbrev pub with_cleared : Seated → Seated
 with_cleared s = record s { holds = false; owes = true }
@@ -131,6 +134,18 @@ module _ (at : Place) where
   -- the action of this place found this
   abbrev pub goes : Found → Seated → Seated
   goes found s = record s { course = next_of at found }
+
+-- What a try made of a seat that is at this place: it found the lock free, from the word n; held, and nobody starved, unless the lock was left held; or
+-- others starved, whether it was held or not.
+module _ (lock : Lock) (at : Place) (old new : Seated) where
+  abbrev pub TakesFrom : ℕ → Type 0
+  TakesFrom n = new ≡ goes at finds.Free (with_got n old)
+
+  abbrev pub FindsHeld : Bool → Type 0
+  FindsHeld starving = (new ≡ goes at (finds.Held starving) (with_held new.found old)) × (new.found % 2 ≡ 1) × (lock.is_left ≡ false → new.found ≡ 1)
+
+  abbrev pub FindsStarved : Type 0
+  FindsStarved = ((new ≡ goes at finds.SomeStarved (with_look new.found old)) ⊎ (new ≡ goes at finds.SomeStarved (with_held new.found old))) × (2 ≤ new.found)
 
 -- it begins a call, at this place
 abbrev pub with_begun : Place → Seated → Seated

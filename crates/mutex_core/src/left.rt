@@ -1,12 +1,12 @@
 //! A lock that a forgotten seat left held: what it lends, and what a party finds there.
 
-ghost use Rattle.std.specs.Prelude.{◌≡◌, ◌%◌, ◌∷◌, ◌⊎◌, [], true, false, IfOk, IsSome};
+ghost use Rattle.std.specs.Prelude.{◌≡◌, ◌%◌, ◌∷◌, [], true, false, IfOk, IsSome};
 ghost use Rattle.atomic_table.specs.Table.{rest};
 ghost use Rattle.mutex_core.specs.Cells.{cell_entries, cell_marked, HasRightOf};
 ghost use Rattle.lock_program.specs.declared.mutex.Action.TheVariants as act;
 ghost use Rattle.lock_program.specs.declared.mutex.Found.TheVariants as finds;
 ghost use Rattle.mutex_core.specs.Courses.{IsOutside};
-ghost use Rattle.mutex_core.specs.Locks.{IsAt, IsOf, goes, with_got, with_held, with_look};
+ghost use Rattle.mutex_core.specs.Locks.{FindsHeld, FindsStarved, IsAt, IsOf, TakesFrom, goes, with_held, with_look};
 ghost use Rattle.mutex_core.specs.Outcomes.{IsRightOf};
 ghost use Rattle.mutex_core.specs.declared.cell.Cell.{Cell};
 ghost use Rattle.words_mutex.specs.Seats.{cleared_of, paid_of, saw_held_of};
@@ -79,7 +79,7 @@ impl<T> Words<T> {
         requires course { IsAt at act.Take seat.old }
         requires idle { seat.old.holds ≡ false }
         requires stands { seat.old.starved ≡ true → seat.old.listed ≡ true }
-        ensures { OnTaking result (λ hold. (seat.new ≡ goes at finds.Free (with_got seat.old 0)) × IsRightOf self.now hold) (seat.new ≡ goes at (finds.Held false) (with_held seat.old)) ((seat.new ≡ goes at finds.SomeStarved (with_look seat.old)) ⊎ (seat.new ≡ goes at finds.SomeStarved (with_held seat.old))) }
+        ensures { OnTaking result (λ hold. TakesFrom self.now at seat.old seat.new 0 × IsRightOf self.now hold) (FindsHeld self.now at seat.old seat.new false) (FindsStarved self.now at seat.old seat.new) }
     {
         if self.left.is_some() {
             find_held(&self.table.shared, rt, &mut seat.inner);
@@ -95,7 +95,7 @@ impl<T> Words<T> {
         requires course { IsAt at act.TakeAlone seat.old }
         requires idle { seat.old.holds ≡ false }
         requires stands { (seat.old.starved ≡ true) × (seat.old.listed ≡ true) }
-        ensures { OnAlone result (λ hold. (seat.new ≡ goes at finds.Free (with_got seat.old 1)) × IsRightOf self.now hold) (seat.new ≡ goes at (finds.Held false) (with_held seat.old)) (seat.new ≡ goes at finds.SomeStarved (with_look seat.old)) }
+        ensures { OnAlone result (λ hold. TakesFrom self.now at seat.old seat.new 2 × IsRightOf self.now hold) ((seat.new ≡ goes at (finds.Held false) (with_held seat.new.found seat.old)) × (seat.new.found % 2 ≡ 1)) ((seat.new ≡ goes at finds.SomeStarved (with_look seat.new.found seat.old)) × (seat.new.found % 2 ≡ 0)) }
     {
         if self.left.is_some() {
             find_held(&self.table.shared, rt, &mut seat.inner);
@@ -113,7 +113,8 @@ fn find_held<T, R: Wait>(shared: &Listing<T>, rt: &R, inner: &mut Lister<T>)
     requires table { (inner.old.table_id ≡ shared.now.table_id) × (shared.now.table_id.words ≡ 2) }
     requires seen { inner.old.me.0.starved ≡ true → inner.old.me.0.listed ≡ true }
     ensures seat { (inner.new.table_id ≡ inner.old.table_id) × (inner.new.id ≡ inner.old.id) }
-    ensures step { inner.new.me ≡ (saw_held_of inner.old.me.0, inner.old.me.1) }
+    ensures step { inner.new.me ≡ (saw_held_of inner.new.me.0.found inner.old.me.0, inner.old.me.1) }
+    ensures found { inner.new.me.0.found % 2 ≡ 1 }
 {
     for _ in rt.forever() {
         if look(shared, inner) % COUNT == HELD {

@@ -2,7 +2,7 @@
 //!
 //! Each action names its place in the table of `lock_program`, and asks that the call has come to it.
 
-ghost use Rattle.std.specs.Prelude.{◌≡◌, true, false, IfOk, IfSome, MatchResult, Option};
+ghost use Rattle.std.specs.Prelude.{◌≡◌, ◌≢◌, true, false, IfOk, IfSome, MatchResult, Option};
 ghost use Rattle.futures.specs.Task.{Keeps};
 ghost use Rattle.lock_program.specs.Mutex.{next_of};
 ghost use Rattle.lock_program.specs.declared.end.Next.TheVariants.{Do};
@@ -29,11 +29,11 @@ use words_base::{Setting, Taking, TakingAlone};
 
 impl<T> Words<T> {
     /// Takes the lock, if it is free and nobody is starved: the only action of a try, or the first of a poll, which goes on by
-    /// [`Words::poll_first`] where it was in vain.
+    /// [`Words::poll_first`] where it was in vain: its last look found the lock held or others starved, unless the lock was left held.
     #[inline]
     pub fn first_look(&self, call: LockCall, at: Place) -> Result<Held<T>, Vain<T>>
         requires { IsFirst call at }
-        ensures { MatchResult result (IsHeldOf self.now) (λ vain. IsOf self.now vain.seat × (vain.seat.course ≡ next_of at (finds.Held false))) }
+        ensures { MatchResult result (IsHeldOf self.now) (λ vain. IsOf self.now vain.seat × (vain.seat.course ≡ next_of at (finds.Held false)) × (self.now.is_left ≡ false → vain.seat.found ≢ 0)) }
     {
         let mut seat = self.sit();
         seat.begin(call, at);

@@ -1,9 +1,8 @@
 //! Since when a party waits, and whether that is too long.
 
-ghost use Rattle.std.specs.Prelude.{◌≡◌, ◌⊎◌, true, false};
-ghost use Rattle.lock_program.specs.declared.mutex.Found.TheVariants as finds;
+ghost use Rattle.std.specs.Prelude.{◌≡◌, true, false};
 ghost use Rattle.lock_program.specs.declared.mutex.Place.TheVariants as at;
-ghost use Rattle.mutex_core.specs.Locks.{IsOf, goes, with_got, with_held, with_look};
+ghost use Rattle.mutex_core.specs.Locks.{FindsHeld, FindsStarved, IsOf, TakesFrom};
 ghost use Rattle.mutex_core.specs.Outcomes.{IsStillKnown, IsRightOf};
 ghost use Rattle.lock_program.specs.declared.end.Next.TheVariants.{Do};
 ghost use Rattle.words_base.specs.Tries.{OnTaking};
@@ -32,7 +31,7 @@ impl<T> Words<T> {
         requires course { seat.old.course ≡ Do at.Retry }
         requires idle { seat.old.holds ≡ false }
         requires stands { seat.old.starved ≡ true → seat.old.listed ≡ true }
-        ensures { OnTaking result.0 (λ hold. (seat.new ≡ goes at.Retry finds.Free (with_got seat.old 0)) × IsRightOf self.now hold) (seat.new ≡ goes at.Retry (finds.Held result.1) (with_held seat.old)) ((seat.new ≡ goes at.Retry finds.SomeStarved (with_look seat.old)) ⊎ (seat.new ≡ goes at.Retry finds.SomeStarved (with_held seat.old))) }
+        ensures { OnTaking result.0 (λ hold. TakesFrom self.now at.Retry seat.old seat.new 0 × IsRightOf self.now hold) (FindsHeld self.now at.Retry seat.old seat.new result.1) (FindsStarved self.now at.Retry seat.old seat.new) }
     {
         let taking = self.look(rt, seat, Place::Retry);
         match taking {

@@ -1,11 +1,11 @@
 //! The words of a mutex, its list and the right to its value, and the tries on the words.
 
-ghost use Rattle.std.specs.Prelude.{◌≡◌, ◌≤◌, ◌⊎◌, true, false, [], ◌∷◌, IfErr, IfOk, IsSome, OnOk, OnErr};
+ghost use Rattle.std.specs.Prelude.{◌≡◌, ◌≤◌, ◌%◌, true, false, [], ◌∷◌, IfErr, IfOk, IsSome, OnOk, OnErr};
 ghost use Rattle.atomic_table.specs.Table.{rest};
 ghost use Rattle.lock_place.specs.Rested.{IsRight};
 ghost use Rattle.lock_program.specs.declared.mutex.Action.TheVariants as act;
 ghost use Rattle.lock_program.specs.declared.mutex.Found.TheVariants as finds;
-ghost use Rattle.mutex_core.specs.Locks.{HasSlots, IsAt, IsOf, entering, goes, with_got, with_held, with_look, with_cleared, with_paid, with_count, with_count_owing, with_uncounted};
+ghost use Rattle.mutex_core.specs.Locks.{FindsHeld, FindsStarved, HasSlots, IsAt, IsOf, TakesFrom, entering, goes, with_found, with_held, with_look, with_cleared, with_paid, with_count, with_count_owing, with_uncounted};
 ghost use Rattle.mutex_core.specs.Outcomes.{IsRightOf};
 ghost use Rattle.words_base.specs.Tries.{OnTaking, OnAlone, OnSetting};
 
@@ -175,7 +175,7 @@ impl<T> Words<T> {
     }
 
     /// Takes the lock if it is free and nobody is starved: a look, and one exchange where it found so. A seat that finds the lock held
-    /// owes nothing any more. Whatever it finds, it has looked.
+    /// owes nothing any more. Whatever it finds, it has looked, and its answer is what it found (`found`).
     #[inline]
     pub fn take(&self, seat: &mut Seat<T>, at: Place) -> Taking<Hold<T>>
         requires of { IsOf self.now seat.old }
@@ -183,7 +183,7 @@ impl<T> Words<T> {
         requires left { self.now.is_left ≡ false }
         requires idle { seat.old.holds ≡ false }
         requires stands { seat.old.starved ≡ true → seat.old.listed ≡ true }
-        ensures { OnTaking result (λ hold. (seat.new ≡ goes at finds.Free (with_got seat.old 0)) × IsRightOf self.now hold) (seat.new ≡ goes at (finds.Held false) (with_held seat.old)) ((seat.new ≡ goes at finds.SomeStarved (with_look seat.old)) ⊎ (seat.new ≡ goes at finds.SomeStarved (with_held seat.old))) }
+        ensures { OnTaking result (λ hold. TakesFrom self.now at seat.old seat.new 0 × IsRightOf self.now hold) (FindsHeld self.now at seat.old seat.new false) (FindsStarved self.now at seat.old seat.new) }
     {
         let shared = &self.table.shared;
         let seen = look(shared, &mut seat.inner);
@@ -214,7 +214,7 @@ impl<T> Words<T> {
         requires idle { seat.old.holds ≡ false }
         requires left { self.now.is_left ≡ false }
         requires stands { (seat.old.starved ≡ true) × (seat.old.listed ≡ true) }
-        ensures { OnAlone result (λ hold. (seat.new ≡ goes at finds.Free (with_got seat.old 1)) × IsRightOf self.now hold) (seat.new ≡ goes at (finds.Held false) (with_held seat.old)) (seat.new ≡ goes at finds.SomeStarved (with_look seat.old)) }
+        ensures { OnAlone result (λ hold. TakesFrom self.now at seat.old seat.new 2 × IsRightOf self.now hold) ((seat.new ≡ goes at (finds.Held false) (with_held seat.new.found seat.old)) × (seat.new.found % 2 ≡ 1)) ((seat.new ≡ goes at finds.SomeStarved (with_look seat.new.found seat.old)) × (seat.new.found % 2 ≡ 0)) }
     {
         let shared = &self.table.shared;
         let found = exchange_alone(shared, &mut seat.inner);
@@ -237,7 +237,7 @@ impl<T> Words<T> {
         requires of { IsOf self.now seat.old }
         requires course { IsAt at act.Set seat.old }
         requires idle { seat.old.holds ≡ false }
-        ensures { OnSetting result (λ hold. (seat.new ≡ goes at finds.Free (with_got seat.old seat.new.passed)) × IsRightOf self.now hold) (seat.new ≡ goes at (finds.Held false) seat.old) }
+        ensures { OnSetting result (λ hold. TakesFrom self.now at seat.old seat.new seat.new.found × IsRightOf self.now hold) ((seat.new ≡ goes at (finds.Held false) (with_found seat.new.found seat.old)) × (self.now.is_left ≡ false → seat.new.found % 2 ≡ 1)) }
     {
         if self.left.is_some() {
             seat.go(at, Found::Held { starving: false });

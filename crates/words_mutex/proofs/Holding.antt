@@ -21,7 +21,7 @@ held_of {S} entries_of marked_of m m' list e = (
     ap (λ (n : Me S View). n.0.entry) e,
     ap (λ (n : Me S View). n.0.room) e,
     ap (λ (n : Me S View). n.0.deed) e,
-    ap (λ (n : Me S View). n.0.passed) e,
+    ap (λ (n : Me S View). n.0.found) e,
   ),
   ap (λ (n : Me S View). rest n.1) e,
 )

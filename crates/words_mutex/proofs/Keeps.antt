@@ -17,7 +17,7 @@ use Rattle.words_base.proofs.MutexWord as word
 use Rattle.words_base.proofs.MutexWord.{or_one}
 use Rattle.words_base.proofs.Sums.{number-set, number-at, number-none}
 use Rattle.words_mutex.specs.Rule.{first_view, is_holder, is_starved, is_owing, is_listed, is_fresh, has_list_out, KeepsPlace, IsListWord, LosesNone, SaysEmpty, IsKeyed, IsEntryOf, Ruled}
-use Rattle.words_mutex.specs.Seats.{saw_held_of, saw_starved_of, got_of, cleared_of, counted_listed_of, counted_unlisted_of, uncounted_of, listing_of, back, joined_of, told_of, paid_of, gone_of, looking, peeking}
+use Rattle.words_mutex.specs.Seats.{saw_held_of, saw_starved_of, saw_of, got_of, cleared_of, counted_listed_of, counted_unlisted_of, uncounted_of, listing_of, back, joined_of, told_of, paid_of, gone_of, looking, peeking}
 use Rattle.words_mutex.specs.Steps.{Looked, Got, Grabbed, Kept}
 use Rattle.words_mutex.specs.declared.view.View.{View}
 use Rattle.words_mutex.proofs.Flags.{never, by_flag, number-some, number-zero, number-below, and_true, and_false, many-owes, SetsLow}
@@ -29,14 +29,14 @@ most = 1073741823
 owes_fresh : (v : View) (b c b' c' : Bool) → b ≡ b' → c ≡ c' → (record v { owes = b; fresh = c }) ≡ (record v { owes = b'; fresh = c' })
 owes_fresh v b c b' c' e f = ap (λ (a : Bool). record v { owes = a; fresh = c }) e ∙ ap (λ (a : Bool). record v { owes = b'; fresh = a }) f
 
-pub looking-held : (n : ℕ) (v : View) → n % 2 ≢ 0 → looking n v ≡ saw_held_of v
-looking-held n v odd = owes_fresh v _ _ _ _ (and_false v.owes (n % 2 == 0) (ne_eqb (n % 2) 0 odd)) (and_false v.fresh (n == 0) (ne_eqb n 0 (λ z. odd (ap (λ k. k % 2) z))))
+pub looking-held : (n : ℕ) (v : View) → n % 2 ≢ 0 → looking n v ≡ saw_held_of n v
+looking-held n v odd = owes_fresh (saw_of n v) _ _ _ _ (and_false v.owes (n % 2 == 0) (ne_eqb (n % 2) 0 odd)) (and_false v.fresh (n == 0) (ne_eqb n 0 (λ z. odd (ap (λ k. k % 2) z))))
 
-pub looking-starved : (n : ℕ) (v : View) → n % 2 ≡ 0 → n ≢ 0 → looking n v ≡ saw_starved_of v
-looking-starved n v even ne = owes_fresh v _ _ _ _ (and_true v.owes (n % 2 == 0) (eq-eqb (n % 2) 0 even)) (and_false v.fresh (n == 0) (ne_eqb n 0 ne))
+pub looking-starved : (n : ℕ) (v : View) → n % 2 ≡ 0 → n ≢ 0 → looking n v ≡ saw_starved_of n v
+looking-starved n v even ne = owes_fresh (saw_of n v) _ _ _ _ (and_true v.owes (n % 2 == 0) (eq-eqb (n % 2) 0 even)) (and_false v.fresh (n == 0) (ne_eqb n 0 ne))
 
-pub looking-free : (n : ℕ) (v : View) → n ≡ 0 → looking n v ≡ v
-looking-free n v z = owes_fresh v _ _ _ _ (and_true v.owes (n % 2 == 0) (eq-eqb (n % 2) 0 (ap (λ k. k % 2) z))) (and_true v.fresh (n == 0) (eq-eqb n 0 z))
+pub looking-free : (n : ℕ) (v : View) → n ≡ 0 → looking n v ≡ saw_of n v
+looking-free n v z = owes_fresh (saw_of n v) _ _ _ _ (and_true v.owes (n % 2 == 0) (eq-eqb (n % 2) 0 (ap (λ k. k % 2) z))) (and_true v.fresh (n == 0) (eq-eqb n 0 z))
 
 pub looked-is : {S : Type 0} (n : ℕ) (m : Me S View) → Looked m n (looking n m.0, m.1)
 looked-is n m = (
@@ -180,7 +180,7 @@ module _ (S : Type 0) (entries_of : S → List ℕ) (marked_of : S → ℕ) (is_
 
     -- A look finds the lock held: the seat owes nothing any more, and has looked. Who is counted as starved has an entry.
     abbrev pub saw_held : View
-    saw_held = saw_held_of me.0
+    saw_held = saw_held_of x me.0
 
     pub sees_held : x % 2 ≢ 0 → (me.0.starved ≡ true → me.0.listed ≡ true) → R (stepped s 0 x id me.1 saw_held keeps)
     sees_held odd has = let w : View = saw_held in
@@ -189,7 +189,7 @@ module _ (S : Type 0) (entries_of : S → List ℕ) (marked_of : S → ℕ) (is_
 
     -- A look finds the lock free and others starved: the seat has looked, and owes as it did.
     abbrev pub saw_starved : View
-    saw_starved = saw_starved_of me.0
+    saw_starved = saw_starved_of x me.0
 
     starving : x % 2 ≡ 0 → x ≢ 0 → (number is_owing s.views ≡ 0) → number is_fresh s.views + 1 ≤ number is_listed s.views
     starving even ne idle =
@@ -213,11 +213,15 @@ module _ (S : Type 0) (entries_of : S → List ℕ) (marked_of : S → ℕ) (is_
     pub still : R (stepped s 0 x id me.1 me.0 keeps)
     still = unmoved x me.0 (word.stays is_holder is_starved most 0 s.words s.views id me.0 me.0 r.word at refl refl) (refl, refl, refl, refl, (refl, refl), refl) refl mine (wakes-same me.0 refl refl refl)
 
+    -- nothing changes but what the seat found
+    pub saw : R (stepped s 0 x id me.1 (saw_of x me.0) keeps)
+    saw = let w : View = saw_of x me.0 in unmoved x w (word.stays is_holder is_starved most 0 s.words s.views id me.0 w r.word at refl refl) (refl, refl, refl, refl, (refl, refl), refl) refl mine (wakes-same w refl refl refl)
+
     -- a look, whatever it finds
     pub looks : (me.0.starved ≡ true → me.0.listed ≡ true) → R (stepped s 0 x id me.1 (looking x me.0) keeps)
     looks has = dite (ℕ_discrete (x % 2) 0)
         (λ even. dite (ℕ_discrete x 0)
-        (λ zero. subst (λ (v : View). R (stepped s 0 x id me.1 v keeps)) (sym (looking-free x me.0 zero)) still)
+        (λ zero. subst (λ (v : View). R (stepped s 0 x id me.1 v keeps)) (sym (looking-free x me.0 zero)) saw)
         (λ ne. subst (λ (v : View). R (stepped s 0 x id me.1 v keeps)) (sym (looking-starved x me.0 even ne)) (sees_starved even ne)))
         (λ odd. subst (λ (v : View). R (stepped s 0 x id me.1 v keeps)) (sym (looking-held x me.0 odd)) (sees_held odd has))
 
@@ -446,16 +450,16 @@ module _ (S : Type 0) (entries_of : S → List ℕ) (marked_of : S → ℕ) (is_
 
   module _ (slots id : ℕ) (me : M) where
     -- the only one who is starved gets the lock; else it has looked, and found its own count
-    pub taken_alone : me.0.starved ≡ true → me.0.listed ≡ true → Allows R slots id me 0 (λ n. either (eqb n 2) 3 n) (λ n m'. (n ≡ 2 → Got is_right 1 me m') × (n ≢ 2 → Looked me n m') × (n ≢ 0))
+    pub taken_alone : me.0.starved ≡ true → me.0.listed ≡ true → Allows R slots id me 0 (λ n. either (eqb n 2) 3 n) (λ n m'. (n ≡ 2 → Got is_right 2 me m') × (n ≢ 2 → Looked me n m') × (n ≢ 0))
     taken_alone starved listed s r _ at _ = let n : ℕ = get_or s.words 0 0 in
         let mine = number-at is_starved s.views id me.0 at in let one : weight (is_starved me.0) ≡ 1 = ap weight starved in let is = r.word.3 in
         let some : 2 ≤ n = omega arith in dite (ℕ_discrete n 2)
         (λ hit. let even : n % 2 ≡ 0 = ap (λ j. j % 2) hit in let right = (lent s id me r at even).0 in (
-          got_of 1 me.0,
+          got_of 2 me.0,
           takes 1 right,
           (lent s id me r at even).1,
-          subst (λ b. R (stepped s 0 (either b 3 n) id me.1 (got_of 1 me.0) (takes 1 right))) (sym (eq-eqb n 2 hit)) (subst (λ j. R (stepped s 0 (j + 1) id me.1 (got_of 1 me.0) (takes 1 right))) hit (gets s id me r at 1 even)),
-          ((λ _. gets-right s id me r at 1 even), (λ miss. absurd (miss hit)), λ z. omega (arith, z, some)),
+          subst (λ b. R (stepped s 0 (either b 3 n) id me.1 (got_of 2 me.0) (takes 1 right))) (sym (eq-eqb n 2 hit)) (subst (λ j. R (stepped s 0 (j + 1) id me.1 (got_of 2 me.0) (takes 1 right))) hit (gets s id me r at 2 even)),
+          ((λ _. gets-right s id me r at 2 even), (λ miss. absurd (miss hit)), λ z. omega (arith, z, some)),
         ))
         (λ miss. (
           looking n me.0,
@@ -466,11 +470,11 @@ module _ (S : Type 0) (entries_of : S → List ℕ) (marked_of : S → ℕ) (is_
         ))
 
     -- the seat sets the lowest bit: it has the lock, if that was free
-    pub lifted : Allows R slots id me 0 (λ n. bit_or n 1) (λ n m'. (n % 2 ≡ 0 → Got is_right (n / 2) me m') × (n % 2 ≢ 0 → m' ≡ me))
+    pub lifted : Allows R slots id me 0 (λ n. bit_or n 1) (λ n m'. (n % 2 ≡ 0 → Got is_right n me m') × (n % 2 ≢ 0 → m' ≡ (saw_of n me.0, me.1)))
     lifted s r _ at _ = let n : ℕ = get_or s.words 0 0 in let low = or_one n in dite (ℕ_discrete (n % 2) 0)
         (λ even. let up : n + 1 ≡ bit_or n 1 = omega arith in let right = (lent s id me r at even).0 in
-        (got_of (n / 2) me.0, takes 1 right, (lent s id me r at even).1, subst (λ k. R (stepped s 0 k id me.1 (got_of (n / 2) me.0) (takes 1 right))) up (gets s id me r at (n / 2) even), ((λ _. gets-right s id me r at (n / 2) even), λ not. absurd (not even))))
-        (λ odd. let same : n ≡ bit_or n 1 = omega arith in (me.0, keeps, tt, subst (λ k. R (stepped s 0 k id me.1 me.0 keeps)) same (still s id me r at), ((λ even. absurd (odd even)), λ _. refl)))
+        (got_of n me.0, takes 1 right, (lent s id me r at even).1, subst (λ k. R (stepped s 0 k id me.1 (got_of n me.0) (takes 1 right))) up (gets s id me r at n even), ((λ _. gets-right s id me r at n even), λ not. absurd (not even))))
+        (λ odd. let same : n ≡ bit_or n 1 = omega arith in (saw_of n me.0, keeps, tt, subst (λ k. R (stepped s 0 k id me.1 (saw_of n me.0) keeps)) same (saw s id me r at), ((λ even. absurd (odd even)), λ _. refl)))
 
     -- a look that changes nothing for the seat
     pub reads : Allows R slots id me 0 (λ n. n) (λ _ m'. Kept me m')
@@ -480,14 +484,14 @@ module _ (S : Type 0) (entries_of : S → List ℕ) (marked_of : S → ℕ) (is_
     looked has s r _ at _ = (looking (get_or s.words 0 0) me.0, keeps, tt, looks s id me r at has, looked-is (get_or s.words 0 0) me)
 
     -- from the word k, which is even, the seat gets the lock; else it has looked
-    pub taken_from : (k : ℕ) → k % 2 ≡ 0 → (me.0.starved ≡ true → me.0.listed ≡ true) → Allows R slots id me 0 (λ n. either (eqb n k) (k + 1) n) (λ n m'. (n ≡ k → Got is_right (k / 2) me m') × (n ≢ k → Looked me n m'))
+    pub taken_from : (k : ℕ) → k % 2 ≡ 0 → (me.0.starved ≡ true → me.0.listed ≡ true) → Allows R slots id me 0 (λ n. either (eqb n k) (k + 1) n) (λ n m'. (n ≡ k → Got is_right k me m') × (n ≢ k → Looked me n m'))
     taken_from k even has s r _ at _ = let n : ℕ = get_or s.words 0 0 in dite (ℕ_discrete n k)
         (λ hit. let even' : n % 2 ≡ 0 = ap (λ j. j % 2) hit ∙ even in let right = (lent s id me r at even').0 in (
-          got_of (k / 2) me.0,
+          got_of k me.0,
           takes 1 right,
           (lent s id me r at even').1,
-          subst (λ b. R (stepped s 0 (either b (k + 1) n) id me.1 (got_of (k / 2) me.0) (takes 1 right))) (sym (eq-eqb n k hit)) (subst (λ j. R (stepped s 0 (j + 1) id me.1 (got_of (k / 2) me.0) (takes 1 right))) hit (gets s id me r at (k / 2) even')),
-          ((λ _. gets-right s id me r at (k / 2) even'), λ miss. absurd (miss hit)),
+          subst (λ b. R (stepped s 0 (either b (k + 1) n) id me.1 (got_of k me.0) (takes 1 right))) (sym (eq-eqb n k hit)) (subst (λ j. R (stepped s 0 (j + 1) id me.1 (got_of k me.0) (takes 1 right))) hit (gets s id me r at k even')),
+          ((λ _. gets-right s id me r at k even'), λ miss. absurd (miss hit)),
         ))
         (λ miss. (
           looking n me.0,

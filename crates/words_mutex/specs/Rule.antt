@@ -10,7 +10,7 @@ use Rattle.words_base.specs.Waiting.{Matched}
 use Rattle.words_mutex.specs.declared.view.View.{View}
 
 abbrev pub first_view : RoomId → ℕ → View
-first_view room deed = record { holds = false; starved = false; owes = false; listed = false; fresh = false; has_list = false; entry = 0; entries = []; marked = 0; room = room; deed = deed; passed = 0 }
+first_view room deed = record { holds = false; starved = false; owes = false; listed = false; fresh = false; has_list = false; entry = 0; entries = []; marked = 0; room = room; deed = deed; found = 0 }
 
 -- Which seats have a flag.
 abbrev pub is_holder : View → Bool

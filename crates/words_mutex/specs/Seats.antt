@@ -3,15 +3,19 @@ use Rattle.std.specs.Prelude.{ℕ, ◌+◌, ◌%◌, ◌==◌, ◌&&◌, leb, tr
 use Rattle.lock_place.specs.Held.{RoomId}
 use Rattle.words_mutex.specs.declared.view.View.{View}
 
-abbrev pub saw_held_of : View → View
-saw_held_of v = record v { owes = false; fresh = false }
+-- what steps make of it that found the word n: held, so that it owes nothing any more; free, and others starved, so that it has looked; or whatever it was
+abbrev pub saw_held_of : ℕ → View → View
+saw_held_of n v = record v { owes = false; fresh = false; found = n }
 
-abbrev pub saw_starved_of : View → View
-saw_starved_of v = record v { fresh = false }
+abbrev pub saw_starved_of : ℕ → View → View
+saw_starved_of n v = record v { fresh = false; found = n }
 
--- it has got the lock while n were starved
+abbrev pub saw_of : ℕ → View → View
+saw_of n v = record v { found = n }
+
+-- it has got the lock from the word n
 abbrev pub got_of : ℕ → View → View
-got_of n v = record v { holds = true; owes = false; fresh = false; passed = n }
+got_of n v = record v { holds = true; owes = false; fresh = false; found = n }
 
 abbrev pub cleared_of : View → View
 cleared_of v = record v { holds = false; owes = true }
@@ -46,7 +50,7 @@ gone_of v = record v { listed = false; has_list = false; entries = []; marked = 
 
 -- A look that found n: held, it owes nothing any more; free and others starved, it has looked.
 abbrev pub looking : ℕ → View → View
-looking n v = record v { owes = v.owes && (n % 2 == 0); fresh = v.fresh && (n == 0) }
+looking n v = record v { owes = v.owes && (n % 2 == 0); fresh = v.fresh && (n == 0); found = n }
 
 -- Who finds the list empty owes nothing any more.
 abbrev pub peeking : ℕ → View → View
@@ -61,4 +65,4 @@ nowhere = record { block = 0; offset = 0; atom = 0; name = 0 }
 
 -- what is left of the one that was taken in
 abbrev pub spent : View
-spent = record { holds = false; starved = false; owes = false; listed = false; fresh = false; has_list = false; entry = 0; entries = []; marked = 0; room = nowhere; deed = 0; passed = 0 }
+spent = record { holds = false; starved = false; owes = false; listed = false; fresh = false; has_list = false; entry = 0; entries = []; marked = 0; room = nowhere; deed = 0; found = 0 }

@@ -26,10 +26,10 @@ impl<S> Play<S, View> for Looks {
 pub(crate) struct Takes;
 
 impl<S: Content> Play<S, View> for Takes {
-    ghost use Rattle.std.specs.Prelude.{◌≡◌, ◌≢◌, ◌/◌};
+    ghost use Rattle.std.specs.Prelude.{◌≡◌, ◌≢◌};
     ghost use Rattle.words_mutex.specs.Steps.{Got, Looked};
 
-    ghost then = { λ st m r m'. (r ≡ st.first → Got S.is_right (st.first / 2) m m') × (r ≢ st.first → Looked m r m') };
+    ghost then = { λ st m r m'. (r ≡ st.first → Got S.is_right st.first m m') × (r ≢ st.first → Looked m r m') };
 }
 
 // A seat is counted as starved, with an entry in the list.
@@ -152,20 +152,21 @@ impl<S> Play<S, View> for Same {
 pub(crate) struct TakesAlone;
 
 impl<S: Content> Play<S, View> for TakesAlone {
-    ghost use Rattle.std.specs.Prelude.{◌≡◌, ◌≢◌, ◌/◌};
+    ghost use Rattle.std.specs.Prelude.{◌≡◌, ◌≢◌};
     ghost use Rattle.words_mutex.specs.Steps.{Got, Looked};
 
-    ghost then = { λ st m r m'. (r ≡ st.first → Got S.is_right (st.first / 2) m m') × (r ≢ st.first → Looked m r m') × (r ≢ 0) };
+    ghost then = { λ st m r m'. (r ≡ st.first → Got S.is_right st.first m m') × (r ≢ st.first → Looked m r m') × (r ≢ 0) };
 }
 
 // The step by which a seat gets the lock, whoever is starved.
 pub(crate) struct Lifts;
 
 impl<S: Content> Play<S, View> for Lifts {
-    ghost use Rattle.std.specs.Prelude.{◌≡◌, ◌≢◌, ◌%◌, ◌/◌};
+    ghost use Rattle.std.specs.Prelude.{◌≡◌, ◌≢◌, ◌%◌};
+    ghost use Rattle.words_mutex.specs.Seats.{saw_of};
     ghost use Rattle.words_mutex.specs.Steps.{Got};
 
-    ghost then = { λ _ m r m'. (r % 2 ≡ 0 → Got S.is_right (r / 2) m m') × (r % 2 ≢ 0 → m' ≡ m) };
+    ghost then = { λ _ m r m'. (r % 2 ≡ 0 → Got S.is_right r m m') × (r % 2 ≢ 0 → m' ≡ (saw_of r m.0, m.1)) };
 }
 
 // The right is laid down in its slot while the seat holds the lock.

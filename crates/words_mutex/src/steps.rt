@@ -2,7 +2,7 @@
 
 ghost use Rattle.std.specs.Prelude.{◌≡◌, ◌≢◌, ◌<◌, ◌%◌, ◌/◌, true, false};
 ghost use Rattle.atomic_table.specs.Table.{rest};
-ghost use Rattle.words_mutex.specs.Seats.{cleared_of, counted_listed_of, counted_unlisted_of, uncounted_of, joined_of, told_of, paid_of, gone_of, back, peeking};
+ghost use Rattle.words_mutex.specs.Seats.{cleared_of, counted_listed_of, counted_unlisted_of, uncounted_of, joined_of, told_of, paid_of, gone_of, back, peeking, saw_of};
 ghost use Rattle.words_mutex.specs.Steps.{Looked, Got, HasRight, IsHeld, IsSame, CanJoin, CanHear, CanPay, CanLeave, CanStay};
 
 use crate::plays::{
@@ -99,7 +99,7 @@ pub fn exchange_alone<T, S: Content>(shared: &Ruled<T, S>, inner: &mut TableSeat
     requires table { (inner.old.table_id ≡ shared.now.table_id) × (shared.now.table_id.words ≡ 2) }
     requires stands { (inner.old.me.0.starved ≡ true) × (inner.old.me.0.listed ≡ true) }
     ensures seat { (inner.new.table_id ≡ inner.old.table_id) × (inner.new.id ≡ inner.old.id) }
-    ensures took { result ≡ 2 → Got S.is_right 1 inner.old.me inner.new.me }
+    ensures took { result ≡ 2 → Got S.is_right 2 inner.old.me inner.new.me }
     ensures not { result ≢ 2 → Looked inner.old.me result inner.new.me }
     ensures some { result ≢ 0 }
 {
@@ -111,8 +111,8 @@ pub fn exchange_alone<T, S: Content>(shared: &Ruled<T, S>, inner: &mut TableSeat
 pub fn lift<T, S: Content>(shared: &Ruled<T, S>, inner: &mut TableSeat<S, View>) -> u64
     requires table { (inner.old.table_id ≡ shared.now.table_id) × (shared.now.table_id.words ≡ 2) }
     ensures seat { (inner.new.table_id ≡ inner.old.table_id) × (inner.new.id ≡ inner.old.id) }
-    ensures took { result % 2 ≡ 0 → Got S.is_right (result / 2) inner.old.me inner.new.me }
-    ensures not { result % 2 ≢ 0 → inner.new.me ≡ inner.old.me }
+    ensures took { result % 2 ≡ 0 → Got S.is_right result inner.old.me inner.new.me }
+    ensures not { result % 2 ≢ 0 → inner.new.me ≡ (saw_of result inner.old.me.0, inner.old.me.1) }
 {
     shared.fetch_or::<Lifts>(inner, WORD, HELD)
 }

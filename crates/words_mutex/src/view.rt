@@ -30,8 +30,8 @@ pub struct View {
     pub ghost room: { RoomId } by { room_id_coded },
     /// The deed of its lock's spare.
     pub ghost deed: { ℕ },
-    /// How many were starved when it last got the lock.
-    pub ghost passed: { ℕ },
+    /// What its last look at the mutex's word, or its last step to get the lock, found there.
+    pub ghost found: { ℕ },
 }
 
 impl Model for View {
