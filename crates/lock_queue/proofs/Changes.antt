@@ -18,7 +18,7 @@ use Rattle.lock_event.proofs.Marks.{length-mark_waiting, marked_count-joined, ma
 use Rattle.lock_queue.specs.Entries.{waiting_in}
 use Rattle.lock_queue.specs.Queues.{Becomes}
 use Rattle.lock_queue.specs.Sizes.{IsOneMore}
-use Rattle.lock_queue.proofs.Sizing.{keyed_size, joined_size, stays_notified, waker_size}
+use Rattle.lock_queue.proofs.Sizing.{keyed_size, joined_size, notified_size, stays_notified, waker_size}
 use Rattle.words_base.proofs.Waiting.{joined_by, last-pushed}
 use Rattle.lock_queue.proofs.Numbers.{numbers-mark, numbers-without_waker, numbers-with_key, numbers-joined, is_new, left_by_id, asked_by_id}
 
@@ -103,7 +103,7 @@ module _ {W : Type 0} where
   told-from es new same some = dite (ℕ_discrete (length new) 0) (λ z. inr (empty_waits new z)) (λ ne. inl (some (omega arith)))
 
   pub one_told : (es : List (Entry (Slot W))) → Becomes Pays es (notified es 1)
-  one_told es = record { fewer = fewer-mark Notified (1 - marked_count es) es refl; settled = told-from es (notified es 1) (length-mark_waiting Notified (1 - marked_count es) es) (marked_count-notified es); entries = numbers-mark Notified (1 - marked_count es) es }
+  one_told es = record { few = (notified_size es).2; fewer = fewer-mark Notified (1 - marked_count es) es refl; settled = told-from es (notified es 1) (length-mark_waiting Notified (1 - marked_count es) es) (marked_count-notified es); entries = numbers-mark Notified (1 - marked_count es) es }
 
   -- ---- taking a waker
   waker_head : (b : Bool) (e : Entry (Slot W)) (es fs : List (Entry (Slot W))) → waiting_in fs ≡ waiting_in es → waiting_in (if b then emptied e ∷ es else e ∷ fs) ≡ unless (is_marked e.mark) (number e) (waiting_in es)
@@ -133,7 +133,7 @@ module _ {W : Type 0} where
   -- what was so of the list before a waker was taken out
   pub told_without_waker : (old es : List (Entry (Slot W))) → Becomes Pays old es → Becomes Pays old (without_waker es)
   told_without_waker old es t = let w = waits-without_waker es in let m = (waker_size es).1 in
-      record { fewer = λ n h. t.fewer n (subst (Has n) w h); settled = ⊎_elim (λ some. inl (omega arith)) (λ none. inr (λ n h. none n (subst (Has n) w h))) t.settled; entries = numbers-without_waker es ∙ t.entries }
+      record { few = ⊎_elim (λ a. inl (omega arith)) (λ b. inr (omega arith)) t.few; fewer = λ n h. t.fewer n (subst (Has n) w h); settled = ⊎_elim (λ some. inl (omega arith)) (λ none. inr (λ n h. none n (subst (Has n) w h))) t.settled; entries = numbers-without_waker es ∙ t.entries }
 
   pub left_without_waker : (old es : List (Entry (Slot W))) (k : ℕ) → Becomes (HandsOn k) old es → Becomes (HandsOn k) old (without_waker es)
   left_without_waker old es k t = let w = waits-without_waker es in let m = (waker_size es).1 in record {

@@ -25,11 +25,12 @@ pub record Stays (old new : Listed) : Type 0 where
   pub fewer : Fewer old.waiting new.waiting
   pub told : StaysTold old.notified new.waiting new.notified
 
--- The same entries stand in it, nobody waits that didn't before, and it is settled.
+-- The same entries stand in it, nobody waits that didn't before, and it is settled; no more are notified than before, or than one.
 pub record Pays (old new : Listed) : Type 0 where
   pub entries : new.entries ≡ old.entries
   pub fewer : Fewer old.waiting new.waiting
   pub settled : IsSettled new
+  pub few : (new.notified ≤ old.notified) ⊎ (new.notified ≤ 1)
 
 -- The same entries stand in it, and all are notified.
 pub record PaysAll (old new : Listed) : Type 0 where
