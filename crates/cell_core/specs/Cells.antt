@@ -9,7 +9,7 @@ use Rattle.sync_program.specs.declared.once_cell.Found.{Found}
 use Rattle.sync_program.specs.declared.once_cell.ListName.{ListName}
 use Rattle.words_cell.specs.declared.view.View.{View}
 use Rattle.cell_core.specs.ByName.{is_active, is_passive}
-use Rattle.cell_core.specs.Courses.{Course, PlaceHere, course_coded, unbegun, IsNotifying}
+use Rattle.cell_core.specs.Courses.{Course, PlaceHere, asking, course_coded, unbegun, IsNotifying}
 use Rattle.cell_core.specs.declared.state.State.{State}
 use Rattle.cell_core.specs.declared.state.State.TheVariants.{Empty, Making, Full}
 
@@ -130,6 +130,10 @@ module _ (at : PlaceHere) where
 -- it begins a call, at this place
 abbrev pub with_begun : PlaceHere → Seated → Seated
 with_begun at s = record s { course = Do at }
+
+-- it has lent its right to its maker, which is being asked
+abbrev pub with_asking : Seated → Seated
+with_asking s = record s { course = asking }
 
 -- it owes nothing
 abbrev pub OwesNothing : Seated → Type 0

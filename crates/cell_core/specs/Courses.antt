@@ -5,7 +5,7 @@ use denote.Builtin as builtin
 use Rattle.futures.specs.declared.task.Poll.{Poll}
 use Rattle.futures.specs.declared.task.Poll.TheVariants as polls
 use Rattle.lock_program.specs.contracts.end.Next as next
-use Rattle.lock_program.specs.declared.end.End.TheVariants.{Pending, Refused}
+use Rattle.lock_program.specs.declared.end.End.TheVariants.{GivenBack, Pending, Refused}
 use Rattle.lock_program.specs.declared.end.Next.{Next}
 use Rattle.lock_program.specs.declared.end.Next.TheVariants.{Do, End}
 use Rattle.lock_program.specs.declared.refusal.Refusal.TheVariants.{Memory}
@@ -123,11 +123,14 @@ IsEmptying empty notify = (action_of empty ≡ act.Empty)
     × (next_of empty finds.Done ≡ Do notify) × (action_of notify ≡ act.Notify Active)
     × IsOutside (next_of notify finds.Done)
 
--- an action that only a party with the right to make does
-abbrev pub NeedsRight : Action (Unit {0}) → Type 0
-NeedsRight (act.Make k) = ⊤
-NeedsRight (act.Fill v) = ⊤
-NeedsRight _ = ⊥
+-- an action that asks a maker
+abbrev pub AsksMaker : Action (Unit {0}) → Type 0
+AsksMaker (act.Make k) = ⊤
+AsksMaker _ = ⊥
+
+-- a maker is being asked: no action and no call may begin
+abbrev pub asking : Course
+asking = End GivenBack (Outside Out)
 
 -- an action that notifies in a list
 abbrev pub IsNotifying : Action (Unit {0}) → Type 0

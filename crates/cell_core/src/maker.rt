@@ -55,7 +55,7 @@ pub trait Maker<T, E>: Drop {
 }
 
 impl Seat {
-    /// Asks a maker once, against the seat's right to make, as [`Maker::make`].
+    /// Asks a maker once, against the seat's right to make, as [`Maker::make`]: the right is lent for one poll (`Seat::lend_right`).
     #[inline]
     pub fn ask_maker<T, E, M: Maker<T, E>>(
         &mut self,
@@ -73,7 +73,7 @@ impl Seat {
         ensures registered { OnPending result (Covers cx.new (M.needs maker.new)) }
         ensures kept { Keeps cx.old cx.new }
     {
-        let polled = maker.make(cx, self.right(at));
+        let polled = maker.make(cx, self.lend_right(at));
         self.go(at, asking(&polled));
         polled
     }

@@ -3,8 +3,9 @@
 ghost use Rattle.std.specs.Prelude.{◌≡◌, [], false, true};
 ghost use Rattle.lock_program.specs.declared.end.Next.TheVariants.{Do};
 ghost use Rattle.sync_program.specs.OnceCell.{action_of};
-ghost use Rattle.cell_core.specs.Cells.{IsIdle, entering, goes, with_begun};
-ghost use Rattle.cell_core.specs.Courses.{IsOutside, IsStart, NeedsRight};
+ghost use Rattle.sync_program.specs.declared.once_cell.Action.TheVariants as act;
+ghost use Rattle.cell_core.specs.Cells.{IsAt, IsIdle, entering, goes, with_asking, with_begun};
+ghost use Rattle.cell_core.specs.Courses.{AsksMaker, IsOutside, IsStart};
 
 use crate::cell::RawCell;
 use crate::course::Course;
@@ -95,13 +96,25 @@ impl Seat {
         Ended { inner, course }
     }
 
-    /// Shows that this seat has the right to make, at a place whose action needs it: a maker is asked only against it.
+    // Shows that this seat has the right to make, at a place where a value enters the cell.
     #[inline(always)]
-    pub fn right(&self, at: Place<()>) -> Right
-        requires course { (self.now.course ≡ Do at) × NeedsRight (action_of at) }
+    pub(crate) fn right(&self, at: Place<()>) -> Right
+        requires course { IsAt at (act.Fill tt) self.now }
         requires makes { self.now.makes ≡ true }
     {
         let _ = at;
+        Right { seal: () }
+    }
+
+    // The right by which a maker is asked, once: until its answer moves the seat on, the seat begins nothing.
+    #[inline(always)]
+    pub(crate) fn lend_right(&mut self, at: Place<()>) -> Right
+        requires course { (self.old.course ≡ Do at) × AsksMaker (action_of at) }
+        requires makes { self.old.makes ≡ true }
+        ensures { self.new ≡ with_asking self.old }
+    {
+        let _ = at;
+        self.course = Course::of(&Next::End(End::GivenBack, Left::Outside(Position::Out)));
         Right { seal: () }
     }
 }
