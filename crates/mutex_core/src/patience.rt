@@ -33,13 +33,14 @@ impl<T> Words<T> {
         requires stands { seat.old.starved ≡ true → seat.old.listed ≡ true }
         ensures { OnTaking result.0 (λ hold. TakesFrom self.now at.Retry seat.old seat.new 0 × IsRightOf self.now hold) (FindsHeld self.now at.Retry seat.old seat.new result.1) (FindsStarved self.now at.Retry seat.old seat.new) }
     {
-        let taking = self.look(rt, seat, Place::Retry);
-        match taking {
-            Taking::Held if has_waited_long(rt, since) => {
-                seat.go(Place::Retry, Found::Held { starving: true });
-                (Taking::Held, true)
+        match self.look(rt, seat, Place::Retry) {
+            Taking::Held => {
+                let starving = has_waited_long(rt, since);
+                seat.go(Place::Retry, Found::Held { starving });
+                (Taking::Held, starving)
             }
-            taking => (taking, false),
+            Taking::Got(hold) => (Taking::Got(hold), false),
+            Taking::Starved => (Taking::Starved, false),
         }
     }
 }
