@@ -1,5 +1,5 @@
 -- What contracts see of a lock's state and lists, and of a seat there.
-use Rattle.std.specs.Prelude.{◌≡◌, ⊤, ℕ, ◌/◌, ◌<◌, Bool, true, false, refl}
+use Rattle.std.specs.Prelude.{◌≡◌, ⊤, ℕ, suc, ◌/◌, ◌<◌, Bool, true, false, refl}
 use Rattle.std.specs.Coded.{Coded, code_by, coded×, coded_ℕ, coded_bool}
 use Rattle.atomic_table.specs.Seated.{TableId, table_id_coded}
 use Rattle.words_access.specs.declared.view.View.{View}
@@ -16,7 +16,8 @@ abbrev pub lock_coded : Coded Lock
 lock_coded = code_by (TableId × (ℕ × ℕ)) (coded× table_id_coded (coded× coded_ℕ coded_ℕ)) (λ l. (l.table, (l.source, l.limit))) (λ p. record { table = p.0; source = p.1.0; limit = p.1.1 }) (λ _. refl)
 
 -- A seat: of which table it is, and which seat there; whether it has set the writer's bit, reads, and writes; what it owes; in which list it has an
--- entry, of which number, and whether it has not looked since it joined, or found its right free; and what its last look, or its step into the readers, found.
+-- entry, of which number, and whether it has not looked since it joined, or found its right free; what its last look, or its step into the readers, found; and
+-- how many calls it has begun.
 pub record Seated : Type 0 where
   pub table : TableId
   pub id : ℕ
@@ -30,16 +31,17 @@ pub record Seated : Type 0 where
   pub fresh : Bool
   pub entry : ℕ
   pub found : ℕ
+  pub calls : ℕ
 
 abbrev pub seated_coded : Coded Seated
-seated_coded = code_by (TableId × (ℕ × (Bool × (Bool × (Bool × (Bool × (Bool × (Bool × (Bool × (Bool × (ℕ × ℕ)))))))))))
-    (coded× table_id_coded (coded× coded_ℕ (coded× coded_bool (coded× coded_bool (coded× coded_bool (coded× coded_bool (coded× coded_bool (coded× coded_bool (coded× coded_bool (coded× coded_bool (coded× coded_ℕ coded_ℕ)))))))))))
-    (λ s. (s.table, (s.id, (s.marks, (s.reads, (s.writes, (s.owes_readers, (s.owes_writer, (s.in_readers, (s.in_writer, (s.fresh, (s.entry, s.found))))))))))))
-    (λ p. record { table = p.0; id = p.1.0; marks = p.1.1.0; reads = p.1.1.1.0; writes = p.1.1.1.1.0; owes_readers = p.1.1.1.1.1.0; owes_writer = p.1.1.1.1.1.1.0; in_readers = p.1.1.1.1.1.1.1.0; in_writer = p.1.1.1.1.1.1.1.1.0; fresh = p.1.1.1.1.1.1.1.1.1.0; entry = p.1.1.1.1.1.1.1.1.1.1.0; found = p.1.1.1.1.1.1.1.1.1.1.1 })
+seated_coded = code_by (TableId × (ℕ × (Bool × (Bool × (Bool × (Bool × (Bool × (Bool × (Bool × (Bool × (ℕ × (ℕ × ℕ))))))))))))
+    (coded× table_id_coded (coded× coded_ℕ (coded× coded_bool (coded× coded_bool (coded× coded_bool (coded× coded_bool (coded× coded_bool (coded× coded_bool (coded× coded_bool (coded× coded_bool (coded× coded_ℕ (coded× coded_ℕ coded_ℕ))))))))))))
+    (λ s. (s.table, (s.id, (s.marks, (s.reads, (s.writes, (s.owes_readers, (s.owes_writer, (s.in_readers, (s.in_writer, (s.fresh, (s.entry, (s.found, s.calls)))))))))))))
+    (λ p. record { table = p.0; id = p.1.0; marks = p.1.1.0; reads = p.1.1.1.0; writes = p.1.1.1.1.0; owes_readers = p.1.1.1.1.1.0; owes_writer = p.1.1.1.1.1.1.0; in_readers = p.1.1.1.1.1.1.1.0; in_writer = p.1.1.1.1.1.1.1.1.0; fresh = p.1.1.1.1.1.1.1.1.1.0; entry = p.1.1.1.1.1.1.1.1.1.1.0; found = p.1.1.1.1.1.1.1.1.1.1.1.0; calls = p.1.1.1.1.1.1.1.1.1.1.1.1 })
     (λ _. refl)
 
-abbrev pub seated : TableId → ℕ → View → Seated
-seated table id v = record { table = table; id = id; marks = v.marks; reads = v.reads; writes = v.writes; owes_readers = v.owes_readers; owes_writer = v.owes_writer; in_readers = v.in_readers; in_writer = v.in_writer; fresh = v.fresh; entry = v.entry; found = v.found }
+abbrev pub seated : TableId → ℕ → View → ℕ → Seated
+seated table id v calls = record { table = table; id = id; marks = v.marks; reads = v.reads; writes = v.writes; owes_readers = v.owes_readers; owes_writer = v.owes_writer; in_readers = v.in_readers; in_writer = v.in_writer; fresh = v.fresh; entry = v.entry; found = v.found; calls = calls }
 
 -- The seat is one of the lock.
 abbrev pub IsOf : Lock → Seated → Type 0
@@ -51,11 +53,22 @@ IsLetIn lock seat = IsOf lock seat × (seat.found / 2 < lock.limit)
 
 -- a seat with nothing
 abbrev pub entering : Lock → ℕ → Seated
-entering lock id = record { table = lock.table; id = id; marks = false; reads = false; writes = false; owes_readers = false; owes_writer = false; in_readers = false; in_writer = false; fresh = false; entry = 0; found = 0 }
+entering lock id = record { table = lock.table; id = id; marks = false; reads = false; writes = false; owes_readers = false; owes_writer = false; in_readers = false; in_writer = false; fresh = false; entry = 0; found = 0; calls = 0 }
 
 -- a seat that owes the readers, and has nothing else
 abbrev pub owing : Lock → ℕ → Seated
 owing lock id = record (entering lock id) { owes_readers = true }
+
+-- it begins a call
+abbrev pub with_call : Seated → Seated
+with_call s = record s { calls = suc s.calls }
+
+-- The seat is the same one, and has begun no call since; or has begun one, and no more.
+abbrev pub IsInCall : Seated → Seated → Type 0
+IsInCall s t = (t.table ≡ s.table) × (t.id ≡ s.id) × (t.calls ≡ s.calls)
+
+abbrev pub IsInNextCall : Seated → Seated → Type 0
+IsInNextCall s t = IsInCall (with_call s) t
 
 -- what a look and each other step makes of a seat
 abbrev pub with_found : ℕ → Seated → Seated

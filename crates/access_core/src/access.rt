@@ -1,7 +1,7 @@
 //! A read-write lock's state and its two lists: each single action on the state.
 
 ghost use Rattle.std.specs.Prelude.{◌≡◌, ◌≢◌, ◌<◌, ◌≤◌, ◌%◌, ◌/◌, true, false, min, IfOk, MatchBool};
-ghost use Rattle.access_core.specs.Accesses.{IsOf, IsIdle, IsReading, IsWriting, IsMarking, with_found, with_saw_writer, with_saw_readers, with_reading, with_left, with_last_left, with_writing, with_mark, with_down, with_unmarked, with_ease};
+ghost use Rattle.access_core.specs.Accesses.{IsOf, IsInCall, IsIdle, IsReading, IsWriting, IsMarking, with_found, with_saw_writer, with_saw_readers, with_reading, with_left, with_last_left, with_writing, with_mark, with_down, with_unmarked, with_ease};
 ghost use Rattle.access_core.specs.Found.{OnReading, OnEntering, OnReaders, OnLeft, OnMarking};
 
 use crate::found::{Entering, Left, Marking, Readers, Reading};
@@ -205,7 +205,7 @@ impl Access {
     pub fn upgrade<R: Wait>(&self, rt: &R, seat: &mut Seat) -> Readers
         requires of { IsOf self.now seat.old }
         requires reads { IsReading seat.old }
-        ensures same { (seat.new.table ≡ seat.old.table) × (seat.new.id ≡ seat.old.id) }
+        ensures same { IsInCall seat.old seat.new }
         ensures step { OnReaders result (IsWriting seat.new) (IsMarking seat.new) }
     {
         let shared = &self.table.shared;
@@ -268,7 +268,7 @@ impl Access {
     pub fn add<R: Wait>(&self, rt: &R, seat: &mut Seat) -> bool
         requires of { IsOf self.now seat.old }
         requires idle { IsIdle seat.old }
-        ensures same { (seat.new.table ≡ seat.old.table) × (seat.new.id ≡ seat.old.id) }
+        ensures same { IsInCall seat.old seat.new }
         ensures step { MatchBool result (IsReading seat.new × (seat.new.found / 2 < self.now.limit)) (IsIdle seat.new × (self.now.limit ≤ seat.new.found / 2)) }
     {
         for _ in rt.forever() {
@@ -287,7 +287,7 @@ impl Access {
     pub fn mark_until<R: Wait>(&self, rt: &R, seat: &mut Seat) -> Readers
         requires of { IsOf self.now seat.old }
         requires idle { IsIdle seat.old }
-        ensures same { (seat.new.table ≡ seat.old.table) × (seat.new.id ≡ seat.old.id) }
+        ensures same { IsInCall seat.old seat.new }
         ensures step { OnReaders result (IsWriting seat.new) (IsMarking seat.new) }
     {
         for _ in rt.forever() {

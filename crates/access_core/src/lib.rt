@@ -7,6 +7,7 @@
 mod access;
 mod alone;
 mod calls;
+mod count;
 mod found;
 mod giving_back;
 mod lists;
@@ -16,6 +17,7 @@ mod watch;
 
 pub use access::Access;
 pub use calls::Joined;
+pub use count::Count;
 pub use found::{Entering, Left, Marking, Readers, Reading};
 pub use lists::{Lists, Side};
 pub use pledge::Pledge;

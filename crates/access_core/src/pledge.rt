@@ -5,6 +5,7 @@ ghost use Rattle.access_core.specs.Accesses.{IsOf, seated};
 ghost use Rattle.words_access.specs.declared.view.View.{View as SeatView};
 
 use crate::access::Access;
+use crate::count::Count;
 use crate::lists::Lists;
 use crate::seat::Seat;
 use atomic_table::{Badge, Shared};
@@ -16,6 +17,8 @@ use words_access::{AccessRule, View};
 pub struct Pledge {
     /// The seat, as a badge. It is blank while the seat's view is lent on.
     pub badge: Badge<View>,
+    /// How many calls the seat has begun.
+    pub calls: Count,
     // Keeps a pledge from being taken apart outside of this crate.
     seal: (),
 }
@@ -32,21 +35,27 @@ impl Access {
     pub fn pledge(&self, seat: Seat) -> Pledge
         requires { IsOf self.now seat }
         ensures table { (result.badge.table_id ≡ seat.table) × (result.badge.id ≡ seat.id) }
-        ensures view { (v : SeatView) × (result.badge.views ≡ v ∷ []) × (v.has_lists ≡ false) × (seated seat.table seat.id v ≡ seat) }
+        ensures view { (v : SeatView) × (result.badge.views ≡ v ∷ []) × (v.has_lists ≡ false) × (seated seat.table seat.id v result.calls.number ≡ seat) }
     {
+        let (badge, calls) = seat.into_badge();
         Pledge {
-            badge: seat.into_badge(),
+            badge,
+            calls,
             seal: (),
         }
     }
 
-    /// Gives the seat back that was in pledge, with the view that it had.
+    /// Gives the seat back that was in pledge, with the view that it had, and the calls that it has begun.
     pub fn redeem(&self, pledge: Pledge) -> Seat
         requires table { pledge.badge.table_id ≡ self.now.table }
         requires whole { (v : SeatView) × (pledge.badge.views ≡ v ∷ []) × (v.has_lists ≡ false) }
-        ensures { (v : SeatView) → pledge.badge.views ≡ v ∷ [] → result ≡ seated pledge.badge.table_id pledge.badge.id v }
+        ensures { (v : SeatView) → pledge.badge.views ≡ v ∷ [] → result ≡ seated pledge.badge.table_id pledge.badge.id v pledge.calls.number }
     {
-        let Pledge { badge, seal: () } = pledge;
-        Seat::of_badge(badge)
+        let Pledge {
+            badge,
+            calls,
+            seal: (),
+        } = pledge;
+        Seat::of_badge(badge, calls)
     }
 }

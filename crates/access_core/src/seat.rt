@@ -1,13 +1,15 @@
 //! What a party steps with.
 
 ghost use Rattle.std.specs.Prelude.{◌≡◌, true, false, [], ◌∷◌};
-ghost use Rattle.access_core.specs.Accesses.{IsIdle, IsOf, entering, owing, seated, with_relief};
+ghost use Rattle.access_core.specs.Accesses.{IsIdle, IsOf, entering, owing, seated, with_call, with_relief};
 ghost use Rattle.words_access.specs.declared.view.View.{View as SeatView};
 
 use crate::access::Access;
+use crate::count::Count;
 use crate::lists::{Listing, Lists};
 use atomic_table::{Badge, Seat as TableSeat};
 use std::marker::Model;
+use std::snapshot::Snapshot;
 use words_access::steps::{STATE, split_duty};
 use words_access::{Keep, View, never_beside};
 
@@ -15,10 +17,11 @@ use words_access::{Keep, View, never_beside};
 ///
 /// Contracts see: the table and which of its seats it is, whether it has set the writer's bit, reads, and writes, whether it owes the readers
 /// or the writer a notification or a look, in which list it has an entry and of which number, whether it has not looked since it
-/// joined, or found its right free, and what its last look found. It has no `Drop`: only [`Seat::rise`] ends it, once it has no right, stands
-/// in no list, and owes nothing. This file alone makes one and takes one apart.
+/// joined, or found its right free, what its last look found, and how many calls it has begun. It has no `Drop`: only [`Seat::rise`] ends it,
+/// once it has no right, stands in no list, and owes nothing. This file alone makes one and takes one apart.
 pub struct Seat {
     pub(crate) inner: TableSeat<Lists, View>,
+    pub(crate) calls: Count,
     // Nobody else can name it, nor so let the seat go.
     seal: (),
 }
@@ -33,7 +36,7 @@ impl Model for Seat {
     ghost use Rattle.std.specs.Prelude.{◌≡◌, false, []};
     ghost use Rattle.access_core.specs.Accesses.{seated};
 
-    ghost view = { λ s. seated s.inner.table_id s.inner.id s.inner.me.0 };
+    ghost view = { λ s. seated s.inner.table_id s.inner.id s.inner.me.0 s.calls.number };
 
     ghost invariant = { λ s. (s.inner.me.1 ≡ []) × (s.inner.me.0.has_lists ≡ false) };
 }
@@ -53,7 +56,12 @@ impl Access {
         ensures { result.0 ≡ entering self.now result.0.id }
     {
         let (seen, inner) = self.table.shared.load_new_seat::<Keep>(STATE);
-        (Seat { inner, seal: () }, seen)
+        let seat = Seat {
+            inner,
+            calls: Count::none(),
+            seal: (),
+        };
+        (seat, seen)
     }
 
     /// Splits a seat's duty to the readers off to a new seat, which has nothing else: one load. All else that the seat has stays with it. So it
@@ -66,16 +74,32 @@ impl Access {
         ensures duty { result ≡ owing self.now result.id }
     {
         let inner = split_duty(&self.table.shared, &mut seat.inner);
-        Seat { inner, seal: () }
+        Seat {
+            inner,
+            calls: Count::none(),
+            seal: (),
+        }
     }
 }
 
 impl Seat {
+    /// Begins a call: nothing is done, but that it is counted.
+    #[inline(always)]
+    pub fn begin(&mut self)
+        ensures { self.new ≡ with_call self.old }
+    {
+        self.calls = self.calls.and_one();
+    }
+
     /// Ends a seat that has no right and no entry in a list, and owes nothing.
     pub fn rise(self)
         requires { IsIdle self }
     {
-        let Self { inner, seal: () } = self;
+        let Self {
+            inner,
+            calls: _,
+            seal: (),
+        } = self;
         drop(inner);
     }
 
@@ -86,33 +110,51 @@ impl Seat {
         requires reads { reader.reads ≡ true }
         ensures { ⊥ }
     {
-        let Self { inner, seal: () } = self;
+        let Self {
+            inner,
+            calls: _,
+            seal: (),
+        } = self;
         let Self {
             inner: other,
+            calls: _,
             seal: (),
         } = reader;
         never_beside(shared, inner, other);
     }
 
-    // What stands for the seat while its view is lent on.
+    // What stands for the seat while its view is lent on, and how many calls it has begun.
     #[inline(always)]
-    pub(crate) fn into_badge(self) -> Badge<View>
-        ensures table { (result.table_id ≡ self.table) × (result.id ≡ self.id) }
-        ensures view { (v : SeatView) × (result.views ≡ v ∷ []) × (v.has_lists ≡ false) × (seated self.table self.id v ≡ self) }
+    pub(crate) fn into_badge(self) -> (Badge<View>, Count)
+        ensures table { (result.0.table_id ≡ self.table) × (result.0.id ≡ self.id) }
+        ensures view { (v : SeatView) × (result.0.views ≡ v ∷ []) × (v.has_lists ≡ false) × (seated self.table self.id v result.1.number ≡ self) }
     {
-        let Self { inner, seal: () } = self;
-        inner.into_badge()
+        let Self {
+            inner,
+            calls,
+            seal: (),
+        } = self;
+        (inner.into_badge(), calls)
     }
 
     // The seat again.
     #[inline(always)]
-    pub(crate) fn of_badge(badge: Badge<View>) -> Seat
+    pub(crate) fn of_badge(badge: Badge<View>, calls: Count) -> Seat
         requires { (v : SeatView) × (badge.views ≡ v ∷ []) × (v.has_lists ≡ false) }
-        ensures { (v : SeatView) → badge.views ≡ v ∷ [] → result ≡ seated badge.table_id badge.id v }
+        ensures { (v : SeatView) → badge.views ≡ v ∷ [] → result ≡ seated badge.table_id badge.id v calls.number }
     {
         Seat {
             inner: badge.into_seat(),
+            calls,
             seal: (),
         }
     }
+}
+
+// How many calls a seat has begun, for a step while it has its lists out.
+#[inline(always)]
+pub(crate) fn so_far(calls: &Count) -> Snapshot<Count>
+    ensures { result.value ≡ calls.now }
+{
+    Snapshot::of(calls)
 }

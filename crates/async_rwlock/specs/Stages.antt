@@ -11,7 +11,7 @@ use Rattle.lock_queue.specs.Receipts.{IsWakerFor}
 use Rattle.lock_queue.specs.declared.whose.Whose.{Whose}
 use Rattle.mutex_core.specs.Locks as turn
 use Rattle.mutex_core.specs.declared.turn.Waiting.{Waiting}
-use Rattle.access_core.specs.Accesses.{IsOf as IsSeatOf, Seated}
+use Rattle.access_core.specs.Accesses.{IsInNextCall, IsOf as IsSeatOf, Seated}
 use Rattle.rwlock_core.specs.declared.party.Outcome.{Outcome}
 use Rattle.rwlock_core.specs.declared.party.Outcome.TheVariants as outcome
 use Rattle.rwlock_core.specs.declared.party.WaitsFor.{WaitsFor}
@@ -92,14 +92,16 @@ abbrev pub HasReceiptAt : {O T R : Type 0} → (O → RwLock T R) → Stage O �
 HasReceiptAt lock_of (Waits owner) cx waiting = IsSomeAnd waiting (λ e. IsListedAt (lock_of owner).raw e.seat × IsWakerFor cx e.keeps)
 HasReceiptAt lock_of _ cx waiting = ⊥
 
--- What was got has the seat of whoever waited, and the writer lock by the same seat; what waited for the writer lock has that by the seat that waited.
+-- What was got has the seat of whoever waited, in its next call, and the writer lock by the same seat; what waited for the writer lock has that by the
+-- seat that waited.
 abbrev pub GotBy : Seated ⊎ turn.Seated → Option ℕ → Seated → Option ℕ → Type 0
-GotBy (inl s) had got has = (got.id ≡ s.id) × (has ≡ had)
+GotBy (inl s) had got has = IsInNextCall s got × (has ≡ had)
 GotBy (inr s) had got has = has ≡ Some s.id
 
--- It waits by the same seat, and has the writer lock by the same; a write that waited for the writer lock may have that now, by the seat that waited.
+-- It waits by the same seat, in its next call, and has the writer lock by the same; a write that waited for the writer lock may have that now, by the
+-- seat that waited.
 abbrev pub StaysBy : Seated ⊎ turn.Seated → Option ℕ → Seated ⊎ turn.Seated → Option ℕ → Type 0
-StaysBy (inl s) had (inl t) has = (t.id ≡ s.id) × (has ≡ had)
+StaysBy (inl s) had (inl t) has = IsInNextCall s t × (has ≡ had)
 StaysBy (inr s) had (inr t) has = t.id ≡ s.id
 StaysBy (inr s) had (inl t) has = has ≡ Some s.id
 StaysBy (inl s) had (inr t) has = ⊥

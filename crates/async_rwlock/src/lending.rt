@@ -13,7 +13,7 @@ impl<T, R> RwLock<T, R> {
         requires of { IsOf self.now.raw.access seat }
         requires reads { seat.reads ≡ true }
         ensures vault { result.0.vault_id ≡ self.now.vault.vault_id }
-        ensures seat { (seated self.now.raw.access.table result.0.id result.0.view ≡ seat) × (result.0.view.has_lists ≡ false) }
+        ensures seat { (seated self.now.raw.access.table result.0.id result.0.view result.1.calls.number ≡ seat) × (result.0.view.has_lists ≡ false) }
         ensures pledged { result.1.badge.views ≡ [] }
     {
         let access = &self.raw.access;
@@ -27,7 +27,7 @@ impl<T, R> RwLock<T, R> {
         requires vault { glance.vault_id ≡ self.now.vault.vault_id }
         requires lists { glance.view.has_lists ≡ false }
         requires pledged { pledge.badge.views ≡ [] }
-        ensures { result ≡ seated self.now.raw.access.table glance.id glance.view }
+        ensures { result ≡ seated self.now.raw.access.table glance.id glance.view pledge.calls.number }
     {
         let mut pledge = pledge;
         glance.give_back(&self.vault, &mut pledge.badge);
@@ -41,7 +41,7 @@ impl<T, R> RwLock<T, R> {
         requires memo { memo.old.vault_id ≡ self.now.vault.vault_id }
         ensures value { (result.0.value ≡ memo.old.value) × (memo.new ≡ memo.old) }
         ensures vault { result.0.vault_id ≡ self.now.vault.vault_id }
-        ensures seat { (seated self.now.raw.access.table result.0.id result.0.view ≡ seat) × (result.0.view.has_lists ≡ false) }
+        ensures seat { (seated self.now.raw.access.table result.0.id result.0.view result.1.calls.number ≡ seat) × (result.0.view.has_lists ≡ false) }
         ensures pledged { result.1.badge.views ≡ [] }
     {
         let access = &self.raw.access;
@@ -55,7 +55,7 @@ impl<T, R> RwLock<T, R> {
         requires vault { (grip.vault_id ≡ self.now.vault.vault_id) × (memo.old.vault_id ≡ self.now.vault.vault_id) }
         requires lists { grip.view.has_lists ≡ false }
         requires pledged { pledge.badge.views ≡ [] }
-        ensures seat { result ≡ seated self.now.raw.access.table grip.id grip.view }
+        ensures seat { result ≡ seated self.now.raw.access.table grip.id grip.view pledge.calls.number }
         ensures value { (memo.new.vault_id ≡ self.now.vault.vault_id) × (memo.new.value ≡ grip.value) }
     {
         let mut pledge = pledge;

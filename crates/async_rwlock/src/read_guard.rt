@@ -34,9 +34,9 @@ impl<T, R: Releases, O: Owns<Value = T, Runtime = R>> Model for ReadGuard<T, R, 
 
     ghost Value = { Held T R };
 
-    ghost view = { λ g. record { lock = O.lock_of g.owner; value = g.glance.value; seat = seated (O.lock_of g.owner).raw.access.table g.glance.id g.glance.view; turn_seat = None } };
+    ghost view = { λ g. record { lock = O.lock_of g.owner; value = g.glance.value; seat = seated (O.lock_of g.owner).raw.access.table g.glance.id g.glance.view g.pledge.calls.number; turn_seat = None } };
 
-    ghost invariant = { λ g. (g.glance.vault_id ≡ (O.lock_of g.owner).vault.vault_id) × (g.glance.view.has_lists ≡ false) × IsReading (seated (O.lock_of g.owner).raw.access.table g.glance.id g.glance.view) × (g.pledge.badge.views ≡ []) };
+    ghost invariant = { λ g. (g.glance.vault_id ≡ (O.lock_of g.owner).vault.vault_id) × (g.glance.view.has_lists ≡ false) × IsReading (seated (O.lock_of g.owner).raw.access.table g.glance.id g.glance.view g.pledge.calls.number) × (g.pledge.badge.views ≡ []) };
 }
 
 impl<T, R: Releases, O: Owns<Value = T, Runtime = R>> Acquired for ReadGuard<T, R, O> {

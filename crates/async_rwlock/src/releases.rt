@@ -1,7 +1,7 @@
 //! What a guard and a try ask of the runtime.
 
 ghost use Rattle.std.specs.Prelude.{◌≡◌, ◌≤◌, ◌%◌, ◌/◌, ◌⊎◌, MatchResult};
-ghost use Rattle.access_core.specs.Accesses.{IsOf, IsIdle, IsLetIn, IsReading, with_downgrade};
+ghost use Rattle.access_core.specs.Accesses.{IsOf, IsIdle, IsLetIn, IsReading, with_call, with_downgrade};
 ghost use Rattle.mutex_core.specs.Outcomes.{IsHeldOf};
 ghost use Rattle.rwlock_core.specs.Parties.{AreSeatsOf, IsDowngradingOf, IsUpgradableLetIn, IsUpgradableOf, IsWriterOf};
 ghost use Rattle.rwlock_core.specs.Vain.{IsVainUpgradable, IsVainWrite};
@@ -51,7 +51,7 @@ pub trait Releases {
     fn downgrade_to_upgradable(&self, lock: &RawRwLock, writer: Writer) -> Upgradable
         requires { AreSeatsOf lock.now writer.seat writer.turn }
         ensures turn { result.turn ≡ writer.turn }
-        ensures same { result.seat ≡ with_downgrade writer.seat };
+        ensures same { result.seat ≡ with_downgrade (with_call writer.seat) };
 }
 
 impl<R: Wait> Releases for R {

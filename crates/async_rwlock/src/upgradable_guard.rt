@@ -2,7 +2,7 @@
 
 ghost use Rattle.std.specs.Prelude.{◌≡◌, ◌<◌, IfOk, IfErr, MatchResult, Some};
 ghost use Rattle.lock_program.specs.declared.refusal.Refusal.{Refusal};
-ghost use Rattle.access_core.specs.Accesses.{IsOf as IsSeatOf, IsReading, with_found, with_writing};
+ghost use Rattle.access_core.specs.Accesses.{IsOf as IsSeatOf, IsReading, with_call, with_found, with_writing};
 ghost use Rattle.rwlock_core.specs.Parties.{IsUpgradableOf};
 ghost use Rattle.async_rwlock.specs.Noted.{IsNotedOf};
 ghost use Rattle.async_driver.specs.Stages.{IsOf};
@@ -200,7 +200,7 @@ impl<T, R: Releases, O: Owns<Value = T, Runtime = R>> UpgradableGuard<T, R, O> {
     /// Writes, if nobody else reads. Otherwise the guard comes back: by the contract its seat has found another reader, or the writer's bit
     /// (`beside`).
     ///
-    /// It is the same seat, which has a right before and after (`writes`, `reads`), and the value stays (`value`).
+    /// It is the same seat, which has a right before and after, in one call (`writes`, `reads`), and the value stays (`value`).
     ///
     /// ```
     /// let Ok(mut writer) = RwLockUpgradableReadGuard::try_upgrade(upgradable) else {
@@ -209,8 +209,8 @@ impl<T, R: Releases, O: Owns<Value = T, Runtime = R>> UpgradableGuard<T, R, O> {
     /// *writer = writer.saturating_add(1);
     /// ```
     pub fn try_upgrade(guard: Self) -> Result<WriteGuard<T, R, O>, Self>
-        ensures writes { IfOk result (λ writer. (writer.lock ≡ guard.lock) × (writer.seat ≡ with_writing guard.seat)) }
-        ensures reads { IfErr result (λ reader. (reader.lock ≡ guard.lock) × (reader.seat ≡ with_found reader.seat.found guard.seat)) }
+        ensures writes { IfOk result (λ writer. (writer.lock ≡ guard.lock) × (writer.seat ≡ with_writing (with_call guard.seat))) }
+        ensures reads { IfErr result (λ reader. (reader.lock ≡ guard.lock) × (reader.seat ≡ with_found reader.seat.found (with_call guard.seat))) }
         ensures beside { IfErr result (λ reader. 2 < reader.seat.found) }
         ensures value { MatchResult result (λ writer. writer.value ≡ guard.value) (λ reader. reader.value ≡ guard.value) }
     {

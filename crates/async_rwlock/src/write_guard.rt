@@ -2,7 +2,7 @@
 
 ghost use Rattle.std.specs.Prelude.{◌≡◌, Some};
 ghost use Rattle.async_rwlock.specs.Noted.{IsNotedOf};
-ghost use Rattle.access_core.specs.Accesses.{IsOf as IsSeatOf, IsWriting, with_downgrade};
+ghost use Rattle.access_core.specs.Accesses.{IsOf as IsSeatOf, IsWriting, with_call, with_downgrade};
 ghost use Rattle.rwlock_core.specs.Parties.{IsWriterOf};
 
 use crate::acquired::Acquired;
@@ -44,9 +44,9 @@ impl<T, R: Releases, O: Owns<Value = T, Runtime = R>> Model for WriteGuard<T, R,
 
     ghost Value = { Held T R };
 
-    ghost view = { λ g. record { lock = O.lock_of g.owner; value = g.grip.value; seat = seated (O.lock_of g.owner).raw.access.table g.grip.id g.grip.view; turn_seat = Some g.noted.turn.seat.id } };
+    ghost view = { λ g. record { lock = O.lock_of g.owner; value = g.grip.value; seat = seated (O.lock_of g.owner).raw.access.table g.grip.id g.grip.view g.pledge.calls.number; turn_seat = Some g.noted.turn.seat.id } };
 
-    ghost invariant = { λ g. (g.grip.vault_id ≡ (O.lock_of g.owner).vault.vault_id) × (g.grip.view.has_lists ≡ false) × IsWriting (seated (O.lock_of g.owner).raw.access.table g.grip.id g.grip.view) × IsNotedOf (O.lock_of g.owner) g.noted × (g.pledge.badge.views ≡ []) };
+    ghost invariant = { λ g. (g.grip.vault_id ≡ (O.lock_of g.owner).vault.vault_id) × (g.grip.view.has_lists ≡ false) × IsWriting (seated (O.lock_of g.owner).raw.access.table g.grip.id g.grip.view g.pledge.calls.number) × IsNotedOf (O.lock_of g.owner) g.noted × (g.pledge.badge.views ≡ []) };
 }
 
 impl<T, R: Releases, O: Owns<Value = T, Runtime = R>> Acquired for WriteGuard<T, R, O> {
@@ -189,15 +189,15 @@ impl<T, R: Releases, O: Owns<Value = T, Runtime = R>> WriteGuard<T, R, O> {
 
     /// Reads in place of writing, and notifies the readers that wait. Upgradable readers and writers that wait may go on.
     ///
-    /// It is the same seat throughout, by one step (`same`): at no time has it neither right, so nobody writes in between. The value stays
-    /// (`value`).
+    /// It is the same seat throughout, by one step of one call (`same`): at no time has it neither right, so nobody writes in between. The value
+    /// stays (`value`).
     ///
     /// ```
     /// let reader = RwLockWriteGuard::downgrade(writer);
     /// ```
     pub fn downgrade(guard: Self) -> ReadGuard<T, R, O>
         ensures lock { result.lock ≡ guard.lock }
-        ensures same { result.seat ≡ with_downgrade guard.seat }
+        ensures same { result.seat ≡ with_downgrade (with_call guard.seat) }
         ensures value { result.value ≡ guard.value }
     {
         let (owner, seat, mut noted) = guard.into_noted();
@@ -220,7 +220,7 @@ impl<T, R: Releases, O: Owns<Value = T, Runtime = R>> WriteGuard<T, R, O> {
     /// ```
     pub fn downgrade_to_upgradable(guard: Self) -> UpgradableGuard<T, R, O>
         ensures lock { result.lock ≡ guard.lock }
-        ensures same { result.seat ≡ with_downgrade guard.seat }
+        ensures same { result.seat ≡ with_downgrade (with_call guard.seat) }
         ensures value { result.value ≡ guard.value }
     {
         let (owner, seat, noted) = guard.into_noted();

@@ -4,7 +4,7 @@ use Rattle.futures.specs.declared.task.context.Context.{Context}
 use Rattle.lock_queue.specs.Receipts.{IsReceipt}
 use Rattle.mutex_core.specs.Locks as turn
 use Rattle.mutex_core.specs.Outcomes.{IsHeldOf}
-use Rattle.access_core.specs.Accesses.{IsOf, Seated}
+use Rattle.access_core.specs.Accesses.{IsInNextCall, IsOf, Seated}
 use Rattle.rwlock_core.specs.declared.party.Downgrading.{Downgrading}
 use Rattle.rwlock_core.specs.declared.party.Reader.{Reader}
 use Rattle.rwlock_core.specs.declared.party.Upgradable.{Upgradable}
@@ -78,24 +78,21 @@ upgraded_turn (upgraded.Got w) = w.turn
 upgraded_turn (upgraded.Waits w held) = held
 upgraded_turn (upgraded.NoMemory u) = u.turn
 
--- The seat is the same one.
-abbrev pub IsSeatOf : Seated → Seated → Type 0
-IsSeatOf s t = (t.table ≡ s.table) × (t.id ≡ s.id)
-
--- Whoever waited to write goes on by the same seat of the writer lock and, once it has that lock, by the same seat of the state.
+-- Whoever waited to write goes on by the same seat of the writer lock and, once it has that lock, by the same seat of the state, in its next call.
 abbrev pub WritesOn : WaitsFor → Writer → Type 0
 WritesOn (Turn w) writer = turn.IsSameSeat w.seat writer.turn.seat
-WritesOn (Readers w held) writer = IsSeatOf w.seat writer.seat × (writer.turn ≡ held)
+WritesOn (Readers w held) writer = IsInNextCall w.seat writer.seat × (writer.turn ≡ held)
 
 abbrev pub GoesOnFrom : WaitsFor → WaitsFor → Type 0
 GoesOnFrom (Turn w) (Turn v) = turn.IsSameSeat w.seat v.seat
 GoesOnFrom (Turn w) (Readers v held) = turn.IsSameSeat w.seat held.seat
-GoesOnFrom (Readers w held) (Readers v still) = IsSeatOf w.seat v.seat × (still ≡ held)
+GoesOnFrom (Readers w held) (Readers v still) = IsInNextCall w.seat v.seat × (still ≡ held)
 GoesOnFrom (Readers w held) (Turn v) = ⊥
 
-abbrev pub IsSameSeat : Seated → Begun → Type 0
-IsSameSeat s (Writes w) = IsSeatOf s w.seat
-IsSameSeat s (Awaits u) = IsSeatOf s u.seat
+-- An upgrade goes on by the same seat, in its next call: as it begins, and as it is polled.
+abbrev pub IsBegunBy : Seated → Begun → Type 0
+IsBegunBy s (Writes w) = IsInNextCall s w.seat
+IsBegunBy s (Awaits u) = IsInNextCall s u.seat
 
 -- It waits until no reader is inside, with this turn.
 abbrev pub HasTurn : Held Unit → WaitsFor → Type 0
@@ -120,9 +117,9 @@ UpgradesAs (awaited.NoMemory s) turn (upgraded.NoMemory u) = (u.seat ≡ s) × (
 UpgradesAs _ turn upgraded = ⊥
 
 abbrev pub IsUpgradedBy : Seated → Upgraded → Type 0
-IsUpgradedBy s (upgraded.Got w) = IsSeatOf s w.seat
-IsUpgradedBy s (upgraded.Waits w held) = IsSeatOf s w.seat
-IsUpgradedBy s (upgraded.NoMemory u) = IsSeatOf s u.seat
+IsUpgradedBy s (upgraded.Got w) = IsInNextCall s w.seat
+IsUpgradedBy s (upgraded.Waits w held) = IsInNextCall s w.seat
+IsUpgradedBy s (upgraded.NoMemory u) = IsInNextCall s u.seat
 
 -- It has looked at the turn in vain, as the first action of a poll.
 abbrev pub IsTaking : RawRwLock → Vain Unit → Type 0

@@ -3,13 +3,12 @@
 
 ghost use Rattle.std.specs.Prelude.{◌≡◌, true, false};
 ghost use Rattle.futures.specs.Task.{Keeps};
-ghost use Rattle.access_core.specs.Accesses.{IsOf, IsMarking, IsWriting, with_downgrade};
+ghost use Rattle.access_core.specs.Accesses.{IsInCall, IsOf, IsMarking, IsWriting, with_downgrade};
 ghost use Rattle.lock_program.specs.declared.end.End.TheVariants as ends;
 ghost use Rattle.lock_program.specs.declared.end.Next.TheVariants as next;
 ghost use Rattle.sync_program.specs.declared.rwlock.Place.TheVariants as at;
 ghost use Rattle.rwlock_core.specs.Courses.{Clears, cleared, next_in, without_memory};
 ghost use Rattle.rwlock_core.specs.Outcomes.{OnAwaited};
-ghost use Rattle.rwlock_core.specs.Parties.{IsSeatOf};
 ghost use Rattle.lock_queue.specs.Receipts.{IsReceipt};
 
 use crate::course::Course;
@@ -37,7 +36,7 @@ impl RawRwLock {
         requires marks { IsMarking seat }
         requires course { next_in course.old ≡ next.Do (at.JoinNoReaders upgrade) }
         ensures outcome { OnAwaited result (λ seat. IsOf self.now.access seat × IsWriting seat) (λ waiting. IsOf self.now.access waiting.seat × IsReceipt self.now.access.source cx.new waiting.whose) (λ seat. IsOf self.now.access seat × IsMarking seat) }
-        ensures same { OnAwaited result (IsSeatOf seat) (λ w. IsSeatOf seat w.seat) (IsSeatOf seat) }
+        ensures same { OnAwaited result (IsInCall seat) (λ w. IsInCall seat w.seat) (IsInCall seat) }
         ensures goes { OnAwaited result (λ _. next_in course.new ≡ next.End ends.Got at.Writing) (λ _. next_in course.new ≡ next.End ends.Pending (at.AwaitNoReaders upgrade)) (λ _. next_in course.new ≡ without_memory upgrade) }
         ensures kept { Keeps cx.old cx.new }
     {
@@ -77,7 +76,7 @@ impl RawRwLock {
         requires marks { IsMarking seat }
         requires course { next_in course.old ≡ next.Do (at.LookUnlisted true) }
         ensures outcome { OnAwaited result (λ seat. IsOf self.now.access seat × IsWriting seat) (λ waiting. IsOf self.now.access waiting.seat × IsReceipt self.now.access.source cx.new waiting.whose) (λ seat. IsOf self.now.access seat × IsMarking seat) }
-        ensures same { OnAwaited result (IsSeatOf seat) (λ w. IsSeatOf seat w.seat) (IsSeatOf seat) }
+        ensures same { OnAwaited result (IsInCall seat) (λ w. IsInCall seat w.seat) (IsInCall seat) }
         ensures goes { OnAwaited result (λ _. next_in course.new ≡ next.End ends.Got at.Writing) (λ _. next_in course.new ≡ next.End ends.Pending (at.AwaitNoReaders true)) (λ _. next_in course.new ≡ without_memory true) }
         ensures kept { Keeps cx.old cx.new }
     {
@@ -101,7 +100,7 @@ impl RawRwLock {
         requires of { IsOf self.now.access waiting.seat }
         requires course { next_in course.old ≡ next.Do (at.AwaitNoReaders upgrade) }
         ensures outcome { OnAwaited result (λ seat. IsOf self.now.access seat × IsWriting seat) (λ waiting. IsOf self.now.access waiting.seat × IsReceipt self.now.access.source cx.new waiting.whose) (λ seat. IsOf self.now.access seat × IsMarking seat) }
-        ensures same { OnAwaited result (IsSeatOf waiting.seat) (λ w. IsSeatOf waiting.seat w.seat) (IsSeatOf waiting.seat) }
+        ensures same { OnAwaited result (IsInCall waiting.seat) (λ w. IsInCall waiting.seat w.seat) (IsInCall waiting.seat) }
         ensures goes { OnAwaited result (λ _. next_in course.new ≡ next.End ends.Got at.Writing) (λ _. next_in course.new ≡ next.End ends.Pending (at.AwaitNoReaders upgrade)) (λ _. next_in course.new ≡ without_memory upgrade) }
         ensures kept { Keeps cx.old cx.new }
     {
@@ -139,7 +138,7 @@ impl RawRwLock {
         requires of { IsOf self.now.access seat }
         requires told { (seat.marks ≡ true) × (seat.reads ≡ false) × (seat.writes ≡ false) × (seat.owes_readers ≡ false) × (seat.in_readers ≡ false) × (seat.in_writer ≡ false) × (seat.fresh ≡ false) }
         ensures outcome { OnAwaited result (λ seat. IsOf self.now.access seat × IsWriting seat) (λ waiting. IsOf self.now.access waiting.seat × IsReceipt self.now.access.source cx.new waiting.whose) (λ seat. IsOf self.now.access seat × IsMarking seat) }
-        ensures same { OnAwaited result (IsSeatOf seat) (λ w. IsSeatOf seat w.seat) (IsSeatOf seat) }
+        ensures same { OnAwaited result (IsInCall seat) (λ w. IsInCall seat w.seat) (IsInCall seat) }
         ensures goes { OnAwaited result (λ _. next_in course.new ≡ next.End ends.Got at.Writing) (λ _. next_in course.new ≡ next.End ends.Pending (at.AwaitNoReaders upgrade)) (λ _. next_in course.new ≡ without_memory upgrade) }
         ensures kept { Keeps cx.old cx.new }
     {

@@ -4,7 +4,7 @@
 
 ghost use Rattle.std.specs.Prelude.{true, ⊤, ◌≡◌, ◌≤◌, ◌%◌, ◌/◌, ◌⊎◌, MatchResult};
 ghost use Rattle.futures.specs.Task.{Keeps};
-ghost use Rattle.access_core.specs.Accesses.{IsOf, IsIdle, IsLetIn, IsReading};
+ghost use Rattle.access_core.specs.Accesses.{IsInCall, IsInNextCall, IsOf, IsIdle, IsLetIn, IsReading};
 ghost use Rattle.lock_program.specs.declared.end.End.TheVariants as ends;
 ghost use Rattle.lock_program.specs.declared.end.Next.TheVariants as next;
 ghost use Rattle.sync_program.specs.ReadWrite.{refuse_read};
@@ -12,7 +12,6 @@ ghost use Rattle.sync_program.specs.declared.rwlock.Place.TheVariants as at;
 ghost use Rattle.rwlock_core.specs.Courses.{next_in};
 ghost use Rattle.rwlock_core.specs.Outcomes.{OnOutcome, IsReadRefusal};
 ghost use Rattle.lock_queue.specs.Receipts.{IsReceipt};
-ghost use Rattle.rwlock_core.specs.Parties.{IsSeatOf};
 
 use crate::course::Course;
 use crate::party::{Outcome, Reader, WaitsToRead};
@@ -33,8 +32,8 @@ impl RawRwLock {
         ensures { MatchResult result (λ reader. IsLetIn self.now.access reader.seat) (λ seat. IsOf self.now.access seat × IsIdle seat) }
     {
         let at = Place::EnterRead { told: false };
-        let mut course = Course::begin(RwLockCall::Read, Place::Out, at);
         let (mut seat, seen) = self.access.sit_and_look();
+        let mut course = Course::begin(&mut seat, RwLockCall::Read, Place::Out, at);
         if self.enter_from(&mut seat, seen, &mut course, at) {
             course.end(End::Got, Place::Reading);
             return Ok(Reader { seat });
@@ -48,13 +47,14 @@ impl RawRwLock {
     pub fn try_read<R: Wait>(&self, rt: &R) -> Result<Reader, Seat>
         ensures { MatchResult result (λ reader. IsLetIn self.now.access reader.seat) (λ seat. IsOf self.now.access seat × IsIdle seat × ((seat.found % 2 ≡ 1) ⊎ (self.now.access.limit ≤ seat.found / 2))) }
     {
-        let mut course = Course::begin(RwLockCall::TryRead, Place::Out, Place::TryRead);
         let (mut seat, seen) = self.access.sit_and_look();
-        if self.enter_from(&mut seat, seen, &mut course, Place::TryRead) {
+        let at = Place::TryRead;
+        let mut course = Course::begin(&mut seat, RwLockCall::TryRead, Place::Out, at);
+        if self.enter_from(&mut seat, seen, &mut course, at) {
             course.end(End::Granted, Place::Reading);
             return Ok(Reader { seat });
         }
-        match self.enter(rt, &mut seat, &mut course, Place::TryRead) {
+        match self.enter(rt, &mut seat, &mut course, at) {
             Entering::Reads => {
                 course.end(End::Granted, Place::Reading);
                 Ok(Reader { seat })
@@ -82,12 +82,12 @@ impl RawRwLock {
         requires of { IsOf self.now.access seat }
         requires idle { IsIdle seat }
         ensures outcome { OnOutcome result (λ reader. IsLetIn self.now.access reader.seat) (λ waiting. IsOf self.now.access waiting.seat × IsReceipt self.now.access.source cx.new waiting.whose) IsReadRefusal }
-        ensures same { OnOutcome result (λ reader. IsSeatOf seat reader.seat) (λ waiting. IsSeatOf seat waiting.seat) (λ _. ⊤) }
+        ensures same { OnOutcome result (λ reader. IsInNextCall seat reader.seat) (λ waiting. IsInNextCall seat waiting.seat) (λ _. ⊤) }
         ensures kept { Keeps cx.old cx.new }
     {
         let mut seat = seat;
         let at = Place::EnterRead { told: false };
-        let mut course = Course::begin(RwLockCall::Read, Place::Out, at);
+        let mut course = Course::begin(&mut seat, RwLockCall::Read, Place::Out, at);
         match self.enter(rt, &mut seat, &mut course, at) {
             Entering::Reads => return reads(seat, course),
             Entering::Full => return Outcome::Refused(self.refuse_read(
@@ -142,7 +142,7 @@ impl RawRwLock {
         self.read_on(rt, cx, seat, course)
     }
 
-    /// Polls a read that waits. It goes on with the same seat (`same`).
+    /// Polls a read that waits. It goes on with the same seat, by one call (`same`): so it isn't cancelled and begun anew.
     #[inline]
     pub fn poll_reader<R: Wait>(
         &self,
@@ -152,7 +152,7 @@ impl RawRwLock {
     ) -> Outcome<Reader, WaitsToRead>
         requires of { IsOf self.now.access waiting.seat }
         ensures outcome { OnOutcome result (λ reader. IsLetIn self.now.access reader.seat) (λ waiting. IsOf self.now.access waiting.seat × IsReceipt self.now.access.source cx.new waiting.whose) IsReadRefusal }
-        ensures same { OnOutcome result (λ reader. IsSeatOf waiting.seat reader.seat) (λ still. IsSeatOf waiting.seat still.seat) (λ _. ⊤) }
+        ensures same { OnOutcome result (λ reader. IsInNextCall waiting.seat reader.seat) (λ still. IsInNextCall waiting.seat still.seat) (λ _. ⊤) }
         ensures kept { Keeps cx.old cx.new }
     {
         let WaitsToRead {
@@ -161,7 +161,7 @@ impl RawRwLock {
             whose: _,
         } = waiting;
         let at = Place::AskNoWriter;
-        let mut course = Course::begin(RwLockCall::Poll, at, at);
+        let mut course = Course::begin(&mut seat, RwLockCall::Poll, at, at);
         if let Some(whose) = self.ask(rt, Side::Readers, &mut seat, id, cx, &mut course, at) {
             course.end(End::Pending, at);
             return Outcome::Waits(WaitsToRead { seat, id, whose });
@@ -184,7 +184,7 @@ impl RawRwLock {
         requires idle { IsIdle seat }
         requires course { next_in course ≡ next.Do (at.EnterRead true) }
         ensures outcome { OnOutcome result (λ reader. IsLetIn self.now.access reader.seat) (λ waiting. IsOf self.now.access waiting.seat × IsReceipt self.now.access.source cx.new waiting.whose) IsReadRefusal }
-        ensures same { OnOutcome result (λ reader. IsSeatOf seat reader.seat) (λ waiting. IsSeatOf seat waiting.seat) (λ _. ⊤) }
+        ensures same { OnOutcome result (λ reader. IsInCall seat reader.seat) (λ waiting. IsInCall seat waiting.seat) (λ _. ⊤) }
         ensures kept { Keeps cx.old cx.new }
     {
         let mut seat = seat;
@@ -284,7 +284,7 @@ impl RawRwLock {
             whose: _,
         } = waiting;
         let at = Place::CancelRead;
-        let mut course = Course::begin(RwLockCall::Drop, Place::AskNoWriter, at);
+        let mut course = Course::begin(&mut seat, RwLockCall::Drop, Place::AskNoWriter, at);
         self.leave(rt, Side::Readers, &mut seat, id, &mut course, at);
         course.end(End::GivenBack, Place::Out);
         seat.rise();
@@ -298,7 +298,7 @@ impl RawRwLock {
     {
         let mut seat = seat;
         let at = Place::DropRead;
-        let mut course = Course::begin(RwLockCall::Drop, Place::Reading, at);
+        let mut course = Course::begin(&mut seat, RwLockCall::Drop, Place::Reading, at);
         match self.off(&mut seat, &mut course, at) {
             Left::Readers => {}
             Left::Nobody => {

@@ -14,11 +14,11 @@ ghost use Rattle.sync_program.specs.declared.rwlock.Place.TheVariants as at;
 ghost use Rattle.mutex_core.specs.Courses.{IsOutside};
 ghost use Rattle.mutex_core.specs.Locks.{IsOf as IsTurnOf};
 ghost use Rattle.mutex_core.specs.Outcomes.{IsHeldOf};
-ghost use Rattle.access_core.specs.Accesses.{IsOf, IsIdle, IsReading, IsMarking, IsWriting, MayJoin, StandsIn, with_found, with_saw_writer, with_saw_readers, with_reading, with_writing, with_down, with_unmarked, with_joined, with_told, with_gone, with_paid};
+ghost use Rattle.access_core.specs.Accesses.{IsInCall, IsOf, IsIdle, IsReading, IsMarking, IsWriting, MayJoin, StandsIn, with_found, with_saw_writer, with_saw_readers, with_reading, with_writing, with_down, with_unmarked, with_joined, with_told, with_gone, with_paid};
 ghost use Rattle.access_core.specs.Found.{OnEntering, OnLeft, OnReaders};
 ghost use Rattle.rwlock_core.specs.Courses.{IsAt, Goes, HasLeftLast, asks, joins, leaves, next_in};
 
-use crate::course::Course;
+use crate::course::{Course, Unseated};
 use crate::party::Turn;
 use crate::rwlock::RawRwLock;
 use access_core::{Entering, Joined, Left, Readers, Seat, Side};
@@ -114,6 +114,7 @@ impl RawRwLock {
         requires course { IsAt at act.Off course.old }
         requires reads { IsReading seat.old }
         ensures of { IsOf self.now.access seat.new }
+        ensures same { IsInCall seat.old seat.new }
         ensures step { OnLeft result (IsIdle seat.new) (IsIdle seat.new) (HasLeftLast seat.new) }
         ensures goes { OnLeft result (Goes at finds.SomeLeft course.new) (Goes at finds.NoneLeft course.new) (Goes at finds.NoneLeft course.new) }
     {
@@ -156,7 +157,7 @@ impl RawRwLock {
         requires of { IsOf self.now.access seat.old }
         requires course { IsAt at act.Upgrade course.old }
         requires reads { IsReading seat.old }
-        ensures same { (seat.new.table ≡ seat.old.table) × (seat.new.id ≡ seat.old.id) }
+        ensures same { IsInCall seat.old seat.new }
         ensures step { OnReaders result (IsWriting seat.new) (IsMarking seat.new) }
         ensures goes { Goes at finds.Done course.new }
     {
@@ -177,7 +178,7 @@ impl RawRwLock {
         requires of { IsOf self.now.access seat.old }
         requires course { IsAt at act.Mark course.old }
         requires idle { IsIdle seat.old }
-        ensures same { (seat.new.table ≡ seat.old.table) × (seat.new.id ≡ seat.old.id) }
+        ensures same { IsInCall seat.old seat.new }
         ensures step { OnReaders result (IsWriting seat.new) (IsMarking seat.new) }
         ensures goes { OnReaders result (Goes at finds.NoneLeft course.new) (Goes at finds.SomeLeft course.new) }
     {
@@ -446,6 +447,7 @@ impl RawRwLock {
         requires course { IsAt at act.NotifyNoReaders course.old }
         requires left { OnLeft left ⊥ (IsIdle seat.old) (HasLeftLast seat.old) }
         ensures of { IsOf self.now.access seat.new }
+        ensures same { IsInCall seat.old seat.new }
         ensures idle { IsIdle seat.new }
         ensures goes { Goes at finds.Done course.new }
     {
@@ -459,10 +461,10 @@ impl RawRwLock {
 
     // Takes the turn at once, or not at all.
     #[inline]
-    pub(crate) fn try_turn(&self, course: &mut Course, purpose: Purpose) -> Result<Turn, Vain<()>>
-        requires course { next_in course.old ≡ next.Do (at.TryTurn purpose) }
-        ensures got { IfOk result (λ turn. IsHeldOf self.now.turn turn × Goes (at.TryTurn purpose) (finds.Turn (step.End ends.Got)) course.new) }
-        ensures vain { IfErr result (λ vain. IsTurnOf self.now.turn vain.seat × IsOutside vain.seat.course × Goes (at.TryTurn purpose) (finds.Turn (step.End ends.NotFree)) course.new) }
+    pub(crate) fn try_turn(&self, course: &mut Unseated, purpose: Purpose) -> Result<Turn, Vain<()>>
+        requires course { next_in course.old.course ≡ next.Do (at.TryTurn purpose) }
+        ensures got { IfOk result (λ turn. IsHeldOf self.now.turn turn × Goes (at.TryTurn purpose) (finds.Turn (step.End ends.Got)) course.new.course) }
+        ensures vain { IfErr result (λ vain. IsTurnOf self.now.turn vain.seat × IsOutside vain.seat.course × Goes (at.TryTurn purpose) (finds.Turn (step.End ends.NotFree)) course.new.course) }
     {
         let at = Place::TryTurn { purpose };
         match self.turn.first_look(LockCall::Try, TurnPlace::Try) {

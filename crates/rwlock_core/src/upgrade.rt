@@ -3,13 +3,13 @@
 ghost use Rattle.std.specs.Prelude.{true, ◌≡◌, ◌<◌, ⊤, IfErr, IfOk, MatchResult};
 ghost use Rattle.futures.specs.Task.{Keeps};
 ghost use Rattle.mutex_core.specs.Outcomes.{IsHeldOf};
-ghost use Rattle.access_core.specs.Accesses.{IsOf, IsMarking, IsWriting, with_found, with_writing};
+ghost use Rattle.access_core.specs.Accesses.{IsOf, IsMarking, IsWriting, with_call, with_found, with_writing};
 ghost use Rattle.lock_program.specs.declared.end.End.TheVariants as ends;
 ghost use Rattle.lock_program.specs.declared.end.Next.TheVariants as next;
 ghost use Rattle.sync_program.specs.declared.rwlock.Place.TheVariants as at;
 ghost use Rattle.rwlock_core.specs.Courses.{next_in, without_memory};
 ghost use Rattle.rwlock_core.specs.Outcomes.{OnAwaited};
-ghost use Rattle.rwlock_core.specs.Parties.{AreSeatsOf, IsUpgradedBy, UpgradesAs, IsUpgradingOf, IsBegunOf, OnUpgraded, IsSameSeat, begun_turn, upgraded_turn};
+ghost use Rattle.rwlock_core.specs.Parties.{AreSeatsOf, IsUpgradedBy, UpgradesAs, IsUpgradingOf, IsBegunOf, IsBegunBy, OnUpgraded, begun_turn, upgraded_turn};
 
 use crate::course::Course;
 use crate::party::{Awaited, Begun, Turn, Upgradable, Upgraded, Upgrading, WaitsToWrite, Writer};
@@ -27,12 +27,12 @@ impl RawRwLock {
     pub fn try_upgrade(&self, upgradable: Upgradable) -> Result<Writer, Upgradable>
         requires { AreSeatsOf self.now upgradable.seat upgradable.turn }
         ensures turn { MatchResult result (λ writer. writer.turn ≡ upgradable.turn) (λ reader. reader.turn ≡ upgradable.turn) }
-        ensures writes { IfOk result (λ writer. writer.seat ≡ with_writing upgradable.seat) }
-        ensures reads { IfErr result (λ reader. (reader.seat ≡ with_found reader.seat.found upgradable.seat) × (2 < reader.seat.found)) }
+        ensures writes { IfOk result (λ writer. writer.seat ≡ with_writing (with_call upgradable.seat)) }
+        ensures reads { IfErr result (λ reader. (reader.seat ≡ with_found reader.seat.found (with_call upgradable.seat)) × (2 < reader.seat.found)) }
     {
         let Upgradable { mut seat, turn } = upgradable;
         let at = Place::TryUpgrade;
-        let mut course = Course::begin(RwLockCall::TryUpgrade, Place::Upgradable, at);
+        let mut course = Course::begin(&mut seat, RwLockCall::TryUpgrade, Place::Upgradable, at);
         if self.step_up(&mut seat, &mut course, at) {
             course.end(End::Granted, Place::Writing);
             Ok(Writer { seat, turn })
@@ -43,17 +43,17 @@ impl RawRwLock {
     }
 
     /// Sets the writer's bit in place of reading: one step of the same seat, beside which nobody else can write. It writes at once where nobody else
-    /// reads, else it waits until none does. It keeps the turn (`turn`).
+    /// reads, else it waits until none does. It keeps the turn (`turn`). The seat begins one call (`same`): so it gives no right up and takes it anew.
     #[inline]
     pub fn begin_upgrade<R: Wait>(&self, rt: &R, upgradable: Upgradable) -> Begun
         requires { AreSeatsOf self.now upgradable.seat upgradable.turn }
         ensures of { IsBegunOf self.now result }
         ensures turn { begun_turn result ≡ upgradable.turn }
-        ensures same { IsSameSeat upgradable.seat result }
+        ensures same { IsBegunBy upgradable.seat result }
     {
         let Upgradable { mut seat, turn } = upgradable;
         let at = Place::Upgrade;
-        let mut course = Course::begin(RwLockCall::Upgrade, Place::Upgradable, at);
+        let mut course = Course::begin(&mut seat, RwLockCall::Upgrade, Place::Upgradable, at);
         let readers = self.mark_reading(rt, &mut seat, &mut course, at);
         course.end(End::Waiting, Place::LookUnlisted { upgrade: true });
         match readers {
@@ -76,9 +76,9 @@ impl RawRwLock {
         ensures same { IsUpgradedBy upgrading.seat result }
         ensures kept { Keeps cx.old cx.new }
     {
-        let Upgrading { seat, turn } = upgrading;
+        let Upgrading { mut seat, turn } = upgrading;
         let at = Place::LookUnlisted { upgrade: true };
-        let mut course = Course::begin(RwLockCall::Poll, at, at);
+        let mut course = Course::begin(&mut seat, RwLockCall::Poll, at, at);
         let awaited = self.await_upgrade(rt, cx, seat, &mut course);
         upgraded_so(awaited, turn, course)
     }
@@ -98,8 +98,9 @@ impl RawRwLock {
         ensures same { IsUpgradedBy waiting.seat result }
         ensures kept { Keeps cx.old cx.new }
     {
+        let mut waiting = waiting;
         let at = Place::AwaitNoReaders { upgrade: true };
-        let mut course = Course::begin(RwLockCall::Poll, at, at);
+        let mut course = Course::begin(&mut waiting.seat, RwLockCall::Poll, at, at);
         let awaited = self.poll_awaiting(rt, cx, waiting, &mut course, true);
         upgraded_so(awaited, turn, course)
     }
@@ -109,9 +110,10 @@ impl RawRwLock {
     pub fn cancel_upgrading<R: Wait>(&self, rt: &R, upgrading: Upgrading)
         requires { IsUpgradingOf self.now upgrading }
     {
-        let Upgrading { seat, turn } = upgrading;
+        let Upgrading { mut seat, turn } = upgrading;
+        let from = Place::LookUnlisted { upgrade: true };
         let at = Place::Unmark { refused: false };
-        let mut course = Course::begin(RwLockCall::Drop, Place::LookUnlisted { upgrade: true }, at);
+        let mut course = Course::begin(&mut seat, RwLockCall::Drop, from, at);
         self.clear_mark(rt, seat, &mut course, at, false);
         self.release_turn(rt, turn, &mut course, Ending::GivenBack);
         course.end(End::GivenBack, Place::Out);
@@ -123,8 +125,10 @@ impl RawRwLock {
         requires seat { IsOf self.now.access waiting.seat }
         requires turn { IsHeldOf self.now.turn turn }
     {
+        let mut waiting = waiting;
         let from = Place::AwaitNoReaders { upgrade };
-        let mut course = Course::begin(RwLockCall::Drop, from, Place::CancelAwait);
+        let at = Place::CancelAwait;
+        let mut course = Course::begin(&mut waiting.seat, RwLockCall::Drop, from, at);
         self.cancel_mark(rt, waiting, &mut course);
         self.release_turn(rt, turn, &mut course, Ending::GivenBack);
         course.end(End::GivenBack, Place::Out);

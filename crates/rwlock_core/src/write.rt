@@ -7,7 +7,7 @@ ghost use Rattle.futures.specs.Task.{Keeps};
 ghost use Rattle.lock_queue.specs.Receipts.{IsReceipt};
 ghost use Rattle.mutex_core.specs.Locks.{IsOf as IsTurnOf, IsSameSeat as IsSameTurn};
 ghost use Rattle.mutex_core.specs.Outcomes.{IsHeldOf};
-ghost use Rattle.access_core.specs.Accesses.{IsOf, IsMarking, IsWriting, with_downgrade};
+ghost use Rattle.access_core.specs.Accesses.{IsOf, IsMarking, IsWriting, with_call, with_downgrade};
 ghost use Rattle.lock_program.specs.declared.end.End.TheVariants as ends;
 ghost use Rattle.lock_program.specs.declared.end.Next.TheVariants as next;
 ghost use Rattle.sync_program.specs.declared.rwlock.Place.TheVariants as at;
@@ -16,7 +16,7 @@ ghost use Rattle.rwlock_core.specs.Outcomes.{OnAwaited, OnOutcome, IsUpgradableR
 ghost use Rattle.rwlock_core.specs.Parties.{AreSeatsOf, HasTurn, IsTaking, WaitsAs, GoesOnFrom, WritesAs, WritesOn, IsDowngradingOf, IsReaderOf, IsUpgradableLetIn, IsUpgradableOf, IsWriterOf, WaitsAt, HasReceipt};
 ghost use Rattle.rwlock_core.specs.Vain.{IsVainUpgradable, IsVainWrite};
 
-use crate::course::Course;
+use crate::course::{Course, Unseated};
 use crate::party::{
     Awaited, Downgrading, InVain, Outcome, Reader, Turn, Upgradable, WaitsFor, Writer,
 };
@@ -47,7 +47,7 @@ impl RawRwLock {
     {
         let purpose = Purpose::UpgradableRead;
         let at = Place::TryTurn { purpose };
-        let mut course = Course::begin(RwLockCall::TryUpgradableRead, Place::Out, at);
+        let mut course = Unseated::begin(RwLockCall::TryUpgradableRead, Place::Out, at);
         let turn = match self.try_turn(&mut course, purpose) {
             Ok(turn) => turn,
             Err(vain) => {
@@ -56,6 +56,7 @@ impl RawRwLock {
             }
         };
         let (mut seat, seen) = self.access.sit_and_look();
+        let mut course = course.sit_down(&mut seat);
         if self.add(
             rt,
             &mut seat,
@@ -78,8 +79,8 @@ impl RawRwLock {
         ensures { OnOutcome result (λ upgradable. IsUpgradableLetIn self.now upgradable × (upgradable.turn ≡ turn)) (λ _. ⊥) IsUpgradableRefusal }
     {
         let at = Place::Add { trying: false };
-        let mut course = Course::with_turn(&turn, at);
         let (mut seat, seen) = self.access.sit_and_look();
+        let mut course = Course::with_turn(&mut seat, &turn, at);
         if self.add(rt, &mut seat, seen, &mut course, at) {
             course.end(End::Got, Place::Upgradable);
             return Outcome::Got(Upgradable { seat, turn });
@@ -142,7 +143,7 @@ impl RawRwLock {
     {
         let purpose = Purpose::Write;
         let at = Place::TryTurn { purpose };
-        let mut course = Course::begin(RwLockCall::TryWrite, Place::Out, at);
+        let mut course = Unseated::begin(RwLockCall::TryWrite, Place::Out, at);
         let turn = match self.try_turn(&mut course, purpose) {
             Ok(turn) => turn,
             Err(vain) => {
@@ -151,6 +152,7 @@ impl RawRwLock {
             }
         };
         let mut seat = self.access.sit();
+        let mut course = course.sit_down(&mut seat);
         if self.mark_free(&mut seat, &mut course, Place::TryWrite) {
             course.end(End::Granted, Place::Writing);
             return Ok(Writer { seat, turn });
@@ -173,8 +175,8 @@ impl RawRwLock {
         ensures same { OnOutcome result (λ writer. writer.turn ≡ turn) (HasTurn turn) (λ _. ⊤) }
         ensures kept { Keeps cx.old cx.new }
     {
-        let mut course = Course::with_turn(&turn, Place::Mark);
         let mut seat = self.access.sit();
+        let mut course = Course::with_turn(&mut seat, &turn, Place::Mark);
         match self.mark(rt, &mut seat, &mut course, Place::Mark) {
             Readers::NoneLeft => {
                 course.end(End::Got, Place::Writing);
@@ -260,7 +262,8 @@ impl RawRwLock {
         }
     }
 
-    /// Polls a write that waits. It goes on with the same seats, and gives up no writer lock that it has (`same`).
+    /// Polls a write that waits. It goes on with the same seats, gives up no writer lock that it has, and its seat of the state begins one call
+    /// (`same`): so it isn't cancelled and begun anew.
     #[inline]
     pub fn poll_write_later<R: Wait + Clock>(
         &self,
@@ -280,8 +283,9 @@ impl RawRwLock {
                 TurnOutcome::Refused(gave_up) => Outcome::Refused(gave_up.refusal()),
             },
             WaitsFor::Readers(waiting, turn) => {
+                let mut waiting = waiting;
                 let at = Place::AwaitNoReaders { upgrade: false };
-                let mut course = Course::begin(RwLockCall::Poll, at, at);
+                let mut course = Course::begin(&mut waiting.seat, RwLockCall::Poll, at, at);
                 let awaited = self.poll_awaiting(rt, cx, waiting, &mut course, false);
                 self.awaited_so(rt, awaited, turn, course)
             }
@@ -306,7 +310,7 @@ impl RawRwLock {
     {
         let Upgradable { mut seat, turn } = upgradable;
         let at = Place::DropUpgradable;
-        let mut course = Course::begin(RwLockCall::Drop, Place::Upgradable, at);
+        let mut course = Course::begin(&mut seat, RwLockCall::Drop, Place::Upgradable, at);
         match self.off(&mut seat, &mut course, at) {
             Left::Readers => {}
             Left::Nobody => {
@@ -328,9 +332,9 @@ impl RawRwLock {
     pub fn release_write<R: Wait>(&self, rt: &R, writer: Writer)
         requires { IsWriterOf self.now writer }
     {
-        let Writer { seat, turn } = writer;
+        let Writer { mut seat, turn } = writer;
         let at = Place::DropWrite;
-        let mut course = Course::begin(RwLockCall::Drop, Place::Writing, at);
+        let mut course = Course::begin(&mut seat, RwLockCall::Drop, Place::Writing, at);
         self.clear_mark(rt, seat, &mut course, at, false);
         self.release_turn(rt, turn, &mut course, Ending::GivenBack);
         course.end(End::GivenBack, Place::Out);
@@ -341,11 +345,9 @@ impl RawRwLock {
     pub fn downgrade_turn<R: Wait>(&self, rt: &R, turn: Turn)
         requires { IsHeldOf self.now.turn turn }
     {
-        let at = Place::ReleaseTurn {
-            ending: Ending::Reading,
-        };
-        let mut course = Course::begin(RwLockCall::Downgrade, Place::Upgradable, at);
-        self.release_turn(rt, turn, &mut course, Ending::Reading);
+        let (call, ending) = (RwLockCall::Downgrade, Ending::Reading);
+        let mut course = Course::of_turn(&turn, call, Place::Upgradable, ending);
+        self.release_turn(rt, turn, &mut course, ending);
         course.end(End::GivenBack, Place::Reading);
     }
 
@@ -354,11 +356,12 @@ impl RawRwLock {
     pub fn downgrade_to_upgradable<R: Wait>(&self, rt: &R, writer: Writer) -> Upgradable
         requires { AreSeatsOf self.now writer.seat writer.turn }
         ensures turn { result.turn ≡ writer.turn }
-        ensures same { result.seat ≡ with_downgrade writer.seat }
+        ensures same { result.seat ≡ with_downgrade (with_call writer.seat) }
     {
         let Writer { mut seat, turn } = writer;
         let at = Place::Down { keeps_turn: true };
-        let mut course = Course::begin(RwLockCall::DowngradeToUpgradable, Place::Writing, at);
+        let call = RwLockCall::DowngradeToUpgradable;
+        let mut course = Course::begin(&mut seat, call, Place::Writing, at);
         self.downgrade_seat(rt, &mut seat, &mut course);
         course.end(End::GivenBack, Place::Upgradable);
         Upgradable { seat, turn }
@@ -372,11 +375,11 @@ impl RawRwLock {
         requires of { IsOf self.now.access seat }
         requires writes { IsWriting seat }
         ensures of { IsReaderOf self.now result.0 × IsDowngradingOf self.now result.1 }
-        ensures same { result.0.seat ≡ with_downgrade seat }
+        ensures same { result.0.seat ≡ with_downgrade (with_call seat) }
     {
         let mut seat = seat;
         let at = Place::Down { keeps_turn: false };
-        let mut course = Course::begin(RwLockCall::Downgrade, Place::Writing, at);
+        let mut course = Course::begin(&mut seat, RwLockCall::Downgrade, Place::Writing, at);
         self.step_down(&mut seat, &mut course, at);
         let duty = self.access.split_duty(&mut seat);
         (Reader { seat }, Downgrading { duty, course })

@@ -1,6 +1,5 @@
-use Rattle.std.proofs.Common.{◌≡◌}
-use Rattle.access_core.specs.Accesses.{IsReading}
+use Rattle.access_core.specs.Accesses.{IsInCall, IsReading}
 use Rattle.access_core.proofs.access.Access.upgrade.Given as goal
 
 abbrev pub invariant-loop : goal.invariant-loop
-invariant-loop g l = (l.seat.table ≡ l.initial.seat.table) × (l.seat.id ≡ l.initial.seat.id) × IsReading l.seat
+invariant-loop g l = IsInCall l.initial.seat l.seat × IsReading l.seat
