@@ -8,7 +8,7 @@ ghost use Rattle.access_core.specs.Accesses.{IsOf, MayJoin, StandsIn, with_gone,
 use crate::access::Access;
 use crate::giving_back::{give_joined, give_left, give_paid, give_told};
 use crate::lists::{MOST, Side};
-use crate::seat::{Seat, so_far};
+use crate::seat::Seat;
 use futures::task::Context;
 use lock_event::{EntryId, Memory};
 use lock_queue::{Heard, Whose};
@@ -43,14 +43,7 @@ impl Access {
         let word = lists.says(found, false);
         match joined {
             Ok(id) => {
-                let found = give_joined(
-                    shared,
-                    &mut seat.inner,
-                    side,
-                    word,
-                    id,
-                    so_far(&seat.calls),
-                );
+                let found = give_joined(shared, &mut seat.inner, side, word, id);
                 wake_next(shared, found);
                 Ok(id)
             }
@@ -85,14 +78,7 @@ impl Access {
         let word = lists.says(found, false);
         match joined {
             Ok((id, whose)) => {
-                let found = give_joined(
-                    shared,
-                    &mut seat.inner,
-                    side,
-                    word,
-                    id,
-                    so_far(&seat.calls),
-                );
+                let found = give_joined(shared, &mut seat.inner, side, word, id);
                 wake_next(shared, found);
                 Ok(Joined { id, whose, word })
             }
@@ -133,7 +119,7 @@ impl Access {
                 Some(whose)
             }
             Heard::Told(waker) => {
-                let found = give_told(shared, &mut seat.inner, side, word, so_far(&seat.calls));
+                let found = give_told(shared, &mut seat.inner, side, word);
                 wake_next(shared, found);
                 drop(waker);
                 None
@@ -176,7 +162,7 @@ impl Access {
         let lists = seat.inner.slot_mut(shared, LIST_SLOT);
         let (kept, due) = lists.leave(side, id);
         let word = lists.says(found, true);
-        let found = give_left(shared, &mut seat.inner, side, word, so_far(&seat.calls));
+        let found = give_left(shared, &mut seat.inner, side, word);
         wake_next(shared, found);
         drop(kept);
         drop(due.pay());
@@ -193,7 +179,7 @@ impl Access {
         let lists = seat.inner.slot_mut(shared, LIST_SLOT);
         let due = lists.notify(side);
         let word = lists.says(found, true);
-        let found = give_paid(shared, &mut seat.inner, side, word, so_far(&seat.calls));
+        let found = give_paid(shared, &mut seat.inner, side, word);
         wake_next(shared, found);
         drop(due.pay());
     }

@@ -9,7 +9,6 @@ use crate::count::Count;
 use crate::lists::{Listing, Lists};
 use atomic_table::{Badge, Seat as TableSeat};
 use std::marker::Model;
-use std::snapshot::Snapshot;
 use words_access::steps::{STATE, split_duty};
 use words_access::{Keep, View, never_beside};
 
@@ -149,12 +148,4 @@ impl Seat {
             seal: (),
         }
     }
-}
-
-// How many calls a seat has begun, for a step while it has its lists out.
-#[inline(always)]
-pub(crate) fn so_far(calls: &Count) -> Snapshot<Count>
-    ensures { result.value ≡ calls.now }
-{
-    Snapshot::of(calls)
 }
