@@ -69,7 +69,7 @@ impl<T, R: Wait + Clock, O: Owns<Value = T, Runtime = R>, G: Acquired<Owner = O>
     /// Pending, it has an entry in the list of what it wants next, which keeps a waker of the task that polls (`receipt`). The task
     /// has registered with the source of that (`registered`), and keeps what it had registered before (`kept`). It waits by one seat, from
     /// the poll that joined a list to the guard: a read by one of the state, an upgradable read by one of the writer lock, and a write by
-    /// one of each (`same`). In each poll a seat of the state that waited begins one call, so the future isn't cancelled and begun anew by it.
+    /// one of each (`same`). In each poll a seat of the state that waited begins one call.
     #[inline]
     pub fn poll(&mut self, cx: &mut Context<'_>) -> Turn<G>
         ensures turn { IsTurn G.refuses (λ guard. IsOf O.lock_of self.old.stage (G.held guard).lock) (is_finished self.old.stage) result (is_finished self.new.stage) }

@@ -328,8 +328,7 @@ impl<
     O: Owns<Value = T, Runtime = R>,
 > UpgradableGuard<T, R, O> {
     /// Writes once nobody else reads, blocking the calling thread until then. It takes no memory where nobody else reads now. If it is
-    /// refused, which is for memory alone, the right is given up. It is the same seat (`same`), so nobody writes in between, and the value
-    /// stays (`value`).
+    /// refused, which is for memory alone, the right is given up. It is the same seat (`same`), and the value stays (`value`).
     /// Don't call it in an async context: it blocks the thread that runs the other tasks, and may deadlock.
     ///
     /// ```

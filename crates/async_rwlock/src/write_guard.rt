@@ -189,8 +189,7 @@ impl<T, R: Releases, O: Owns<Value = T, Runtime = R>> WriteGuard<T, R, O> {
 
     /// Reads in place of writing, and notifies the readers that wait. Upgradable readers and writers that wait may go on.
     ///
-    /// It is the same seat throughout, by one step of one call (`same`): at no time has it neither right, so nobody writes in between. The value
-    /// stays (`value`).
+    /// It is the same seat, which has a right before and after, in one call (`same`), and the value stays (`value`).
     ///
     /// ```
     /// let reader = RwLockWriteGuard::downgrade(writer);
@@ -212,8 +211,8 @@ impl<T, R: Releases, O: Owns<Value = T, Runtime = R>> WriteGuard<T, R, O> {
         reader
     }
 
-    /// Reads in place of writing, with the right to upgrade, and notifies the readers that wait. It is the same seat, by one step
-    /// (`same`), and the value stays (`value`).
+    /// Reads in place of writing, with the right to upgrade, and notifies the readers that wait. It is the same seat, which has a right
+    /// before and after, in one call (`same`), and the value stays (`value`).
     ///
     /// ```
     /// let upgradable = RwLockWriteGuard::downgrade_to_upgradable(writer);

@@ -142,7 +142,7 @@ impl RawRwLock {
         self.read_on(rt, cx, seat, course)
     }
 
-    /// Polls a read that waits. It goes on with the same seat, by one call (`same`): so it isn't cancelled and begun anew.
+    /// Polls a read that waits. It goes on with the same seat, which begins one call (`same`).
     #[inline]
     pub fn poll_reader<R: Wait>(
         &self,

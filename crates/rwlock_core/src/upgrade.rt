@@ -43,7 +43,7 @@ impl RawRwLock {
     }
 
     /// Sets the writer's bit in place of reading: one step of the same seat, beside which nobody else can write. It writes at once where nobody else
-    /// reads, else it waits until none does. It keeps the turn (`turn`). The seat begins one call (`same`): so it gives no right up and takes it anew.
+    /// reads, else it waits until none does. It keeps the turn (`turn`). The seat begins one call (`same`).
     #[inline]
     pub fn begin_upgrade<R: Wait>(&self, rt: &R, upgradable: Upgradable) -> Begun
         requires { AreSeatsOf self.now upgradable.seat upgradable.turn }

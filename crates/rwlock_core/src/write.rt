@@ -263,7 +263,7 @@ impl RawRwLock {
     }
 
     /// Polls a write that waits. It goes on with the same seats, gives up no writer lock that it has, and its seat of the state begins one call
-    /// (`same`): so it isn't cancelled and begun anew.
+    /// (`same`).
     #[inline]
     pub fn poll_write_later<R: Wait + Clock>(
         &self,
